@@ -1,0 +1,55 @@
+-- A test of every number below one, and the laws of a loop that makes it.
+use Prim.Native.Nat.{ℕ, zero, suc, _+_, _<_, _≤_}
+use mathlib.Core.Bool.{Bool, true, false, not, _&&_, and-false}
+use borrow.Author.Tests.{not-true, not-false}
+use mathlib.Core.Path.{_≡_, refl, sym, ap, _∙_, subst}
+use mathlib.Core.Logic.{⊎-elim}
+use native.Mathlib.Nat.{eq-or-lt-of-le, le-of-suc-le-suc, not-suc-le-zero, le-antisymm}
+use native.Mathlib.Numerals.{add-one}
+
+-- every number below n passes f
+unfoldable pub allBelow : ℕ → (ℕ → Bool) → Bool
+allBelow zero f = true
+allBelow (suc n) f = allBelow n f && f n
+
+pub below-none : (f : ℕ → Bool) → allBelow 0 f ≡ true
+unfolding allBelow
+below-none f = refl
+
+pub below-next : (i : ℕ) (f : ℕ → Bool) → allBelow i f ≡ true → f i ≡ true → allBelow (i + 1) f ≡ true
+unfolding allBelow
+below-next i f p q = rw (add-one, p) q
+
+pub below-fails : (n i : ℕ) (f : ℕ → Bool) → i < n → f i ≡ false → allBelow n f ≡ false
+unfolding allBelow
+below-fails zero i f l q = absurd (not-suc-le-zero l)
+below-fails (suc n) i f l q =
+    ⊎-elim
+    (λ e. ap (λ (b : Bool). allBelow n f && b) (ap f (sym e) ∙ q) ∙ and-false (allBelow n f))
+    (λ k. rw (below-fails n i f k q) refl)
+    (eq-or-lt-of-le (le-of-suc-le-suc l))
+
+pub below-at : (n i : ℕ) (f : ℕ → Bool) → allBelow n f ≡ true → i < n → f i ≡ true
+below-at n i f p l = go (f i) refl
+  where
+    go : (b : Bool) → f i ≡ b → f i ≡ true
+    go true e = e
+    go false e = e ∙ sym (below-fails n i f l e) ∙ p
+
+-- ---- a loop that tests f at 0, 1, .. below n and stops at the first that fails; b is the test's result at i
+pub below-stops : (n i : ℕ) (f : ℕ → Bool) {b : Bool} → i < n → b ≡ f i → not b ≡ true → false ≡ allBelow n f
+below-stops n i f {b} l e t = sym (below-fails n i f l (sym e ∙ not-true b t))
+
+pub below-goes : (i : ℕ) (f : ℕ → Bool) {b : Bool} → allBelow i f ≡ true → b ≡ f i → not b ≡ false → allBelow (i + 1) f ≡ true
+below-goes i f {b} p e t = below-next i f p (sym e ∙ not-false b t)
+
+pub below-done : (n i : ℕ) (f : ℕ → Bool) → i ≤ n → n ≤ i → allBelow i f ≡ true → true ≡ allBelow n f
+below-done n i f p q r = sym (subst (λ (k : ℕ). allBelow k f ≡ true) (le-antisymm p q) r)
+
+-- ---- a loop that gathers the tests in a flag and stops nowhere
+pub flag-goes : (i : ℕ) (f : ℕ → Bool) {a b : Bool} → allBelow i f ≡ a → b ≡ f i → allBelow (i + 1) f ≡ (a && b)
+unfolding allBelow
+flag-goes i f p q = rw (add-one, p, q) refl
+
+pub flag-done : (n i : ℕ) (f : ℕ → Bool) {a : Bool} → i ≤ n → n ≤ i → allBelow i f ≡ a → a ≡ allBelow n f
+flag-done n i f {a} p q r = sym (subst (λ (k : ℕ). allBelow k f ≡ a) (le-antisymm p q) r)

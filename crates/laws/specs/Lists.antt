@@ -1,0 +1,86 @@
+-- Lists: membership as a test and as a derivation, a test of all or any of the entries, subsequences.
+use mathlib.Core.Path.{_≡_, refl, subst}
+use Prim.Native.Nat.{ℕ}
+use mathlib.Core.Bool.{Bool, true, false, not, _&&_, _||_}
+use mathlib.Core.List.{List, [], _∷_}
+use mathlib.Core.Logic.{⊎-elim}
+use lib.Dec.{T, eqb, eqb→eq, eqb-refl}
+use Rattle.laws.specs.Logic.{and-i, and-l, and-r, and-mono, or-l, or-r, or-e, or-mono}
+
+-- whether x is in the list
+abbrev pub mem : ℕ → List ℕ → Bool
+mem x [] = false
+mem x (y ∷ l) = eqb y x || mem x l
+
+-- the first entry
+abbrev pub hd : List ℕ → ℕ
+hd [] = 0
+hd (x ∷ l) = x
+
+-- every entry passes f
+abbrev pub all {ℓ} : {A : Type ℓ} → (A → Bool) → List A → Bool
+all f [] = true
+all f (x ∷ l) = f x && all f l
+
+-- some entry passes f
+abbrev pub any {ℓ} : {A : Type ℓ} → (A → Bool) → List A → Bool
+any f [] = false
+any f (x ∷ l) = f x || any f l
+
+-- a is in the list, as a derivation
+pub data In {ℓ} {A : Type ℓ} (a : A) : List A → Type ℓ where
+  here : {l : List A} → In a (a ∷ l)
+  there : {b : A} {l : List A} → In a l → In a (b ∷ l)
+
+-- the first list is a subsequence of the second
+pub data Sub : List ℕ → List ℕ → Type 0 where
+  nil : Sub [] []
+  keep : {x : ℕ} {l m : List ℕ} → Sub l m → Sub (x ∷ l) (x ∷ m)
+  skip : {x : ℕ} {l m : List ℕ} → Sub l m → Sub l (x ∷ m)
+
+-- ---- membership
+
+pub mem-in : (x : ℕ) (l : List ℕ) → T (mem x l) → In x l
+mem-in x [] h = absurd h
+mem-in x (y ∷ l) h = ⊎-elim (λ e. subst (λ (v : ℕ). In v (y ∷ l)) (eqb→eq y x e) here) (λ m. there (mem-in x l m)) (or-e (eqb y x) (mem x l) h)
+
+pub in-mem : {x : ℕ} {l : List ℕ} → In x l → T (mem x l)
+in-mem {x} (here {l = l}) = or-l (eqb x x) (mem x l) (eqb-refl x)
+in-mem {x} (there {b = b} {l = l} i) = or-r (eqb b x) (mem x l) (in-mem i)
+
+-- ---- all and any
+
+pub all-in : {A : Type 0} (f : A → Bool) {a : A} {l : List A} → T (all f l) → In a l → T (f a)
+all-in f {a} h (here {l = l}) = and-l (f a) (all f l) h
+all-in f h (there {b = b} {l = l} i) = all-in f (and-r (f b) (all f l) h) i
+
+pub all-i : {A : Type 0} (f : A → Bool) (l : List A) → ((a : A) → In a l → T (f a)) → T (all f l)
+all-i f [] g = tt
+all-i f (x ∷ l) g = and-i (f x) (all f l) (g x here) (all-i f l (λ a i. g a (there i)))
+
+pub all-mono : {A : Type 0} (f g : A → Bool) (l : List A) → ((a : A) → T (f a) → T (g a)) → T (all f l) → T (all g l)
+all-mono f g [] h t = t
+all-mono f g (x ∷ l) h t = and-mono (f x) (all f l) (g x) (all g l) (h x) (all-mono f g l h) t
+
+pub any-i : {A : Type 0} (f : A → Bool) {a : A} {l : List A} → In a l → T (f a) → T (any f l)
+any-i f {a} (here {l = l}) h = or-l (f a) (any f l) h
+any-i f (there {b = b} {l = l} i) h = or-r (f b) (any f l) (any-i f i h)
+
+pub any-none : {A : Type 0} (f : A → Bool) (l : List A) → ((a : A) → T (f a) → ⊥) → T (any f l) → ⊥
+any-none f [] g h = h
+any-none f (x ∷ l) g h = ⊎-elim (g x) (any-none f l g) (or-e (f x) (any f l) h)
+
+pub any-mono : {A : Type 0} (f g : A → Bool) (l : List A) → ((a : A) → T (f a) → T (g a)) → T (any f l) → T (any g l)
+any-mono f g [] h t = t
+any-mono f g (x ∷ l) h t = or-mono (f x) (any f l) (g x) (any g l) (h x) (any-mono f g l h) t
+
+-- ---- subsequences
+
+pub sub-refl : (l : List ℕ) → Sub l l
+sub-refl [] = nil
+sub-refl (x ∷ l) = keep (sub-refl l)
+
+pub mem-sub : (x : ℕ) {l m : List ℕ} → Sub l m → T (mem x l) → T (mem x m)
+mem-sub x nil h = h
+mem-sub x (keep {x = y} {l = l} {m = m} s) h = or-mono (eqb y x) (mem x l) (eqb y x) (mem x m) (λ t. t) (mem-sub x s) h
+mem-sub x (skip {x = y} {m = m} s) h = or-r (eqb y x) (mem x m) (mem-sub x s h)

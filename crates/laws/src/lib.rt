@@ -1,0 +1,1 @@
+// The laws that every proof leans on. They stand in specs/; there is no code here.
