@@ -1,0 +1,28 @@
+-- What a sheet says: the day, which all vans share, and the van.
+use Prim.Native.Nat.{ℕ, zero, suc, _-_}
+use mathlib.Core.List.{List, [], _∷_}
+use Rattle.rules.specs.declared.Job.{Job}
+
+-- sections 2 to 5: n nodes, node 0 the start, node n − 1 the end; the jobs; the tables
+pub record Day : Type 0 where
+  pub n : ℕ
+  pub earliest : ℕ → ℕ
+  pub latest : ℕ → ℕ
+  pub service : ℕ → ℕ
+  pub seconds : ℕ → ℕ → ℕ
+  pub metres : ℕ → ℕ → ℕ
+  pub jobs : List Job
+
+-- section 1: what the van can carry, and how far it may drive
+pub record Van : Type 0 where
+  pub capacity : ℕ
+  pub limit : ℕ
+
+-- m, m − 1, .. 1
+abbrev pub downFrom : ℕ → List ℕ
+downFrom zero = []
+downFrom (suc m) = suc m ∷ downFrom m
+
+-- the nodes 1 to n − 2
+abbrev pub inner : Day → List ℕ
+inner d = downFrom (d .n - 2)

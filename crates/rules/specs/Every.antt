@@ -1,0 +1,47 @@
+-- All rounds of a small day, and belonging as a test, so that rounds can be counted.
+use Prim.Native.Nat.{ℕ, zero, suc, _+_, _-_}
+use mathlib.Core.Bool.{Bool, true, false, cond, not, _&&_, _||_}
+use mathlib.Core.List.{List, [], _∷_, _++_, map}
+use lib.Dec.{eqb}
+use Rattle.laws.specs.Lists.{mem, all}
+use Rattle.rules.specs.Day.{Day, inner}
+use Rattle.rules.specs.Plan.{Plan, Places}
+
+-- the list without its first x
+abbrev pub less : ℕ → List ℕ → List ℕ
+less x [] = []
+less x (y ∷ l) = cond (eqb y x) l (y ∷ less x l)
+
+abbrev pub concatMap : (ℕ → List (List ℕ)) → List ℕ → List (List ℕ)
+concatMap f [] = []
+concatMap f (x ∷ l) = f x ++ concatMap f l
+
+-- what may follow a stop: an order of some of the nodes l, at most f of them, then the end e
+abbrev pub tails : ℕ → ℕ → List ℕ → List (List ℕ)
+tails zero e l = (e ∷ []) ∷ []
+tails (suc f) e l = (e ∷ []) ∷ concatMap (λ x. map (λ t. x ∷ t) (tails f e (less x l))) l
+
+-- every list of distinct nodes from 0 to n − 1
+unfoldable pub everyRound : Day → List (List ℕ)
+everyRound d = map (λ t. 0 ∷ t) (tails (d .n - 2) (d .n - 1) (inner d))
+
+abbrev pub count : (List ℕ → Bool) → List (List ℕ) → ℕ
+count f [] = 0
+count f (x ∷ l) = cond (f x) 1 0 + count f l
+
+-- `Within` as a test, for a round of distinct nodes and places of nodes off the route
+abbrev pub within : Places → ℕ → List ℕ → List ℕ → Bool
+within o p [] [] = true
+within o p (k ∷ r) [] = false
+within o p [] (x ∷ R) = false
+within o p (k ∷ r) (x ∷ R) = cond (eqb x k) (within o x r R) (o x p && within o p (k ∷ r) R)
+
+-- `Inside` as a test
+abbrev pub inside : Places → List ℕ → List ℕ → Bool
+inside o [] R = false
+inside o (z ∷ r) [] = false
+inside o (z ∷ r) (y ∷ R) = eqb z y && within o z r R
+
+-- the round belongs to a plan: `Belongs` as a test, for a round of the day
+abbrev pub belongs : Day → Plan → List ℕ → Bool
+belongs d a R = inside (a .places) (a .route) R && all (λ x. not (a .marks x) || mem x R) (inner d)

@@ -1,0 +1,82 @@
+-- 01's examples at the edges on the mathematics, to keep the definitions honest. (The table P1 to P12, on the bytes of the sheet, is the planner's.)
+use mathlib.Core.Path.{_≡_, refl}
+use Prim.Native.Nat.{ℕ, _+_, _*_}
+use mathlib.Core.Bool.{Bool, true, false, _&&_}
+use mathlib.Core.List.{List, [], _∷_}
+use lib.ListN.{getD}
+use lib.IntN.{pos, negsuc}
+use Rattle.rules.specs.Day.{Day, Van}
+use Rattle.rules.specs.Time.{start, lastStart}
+use Rattle.rules.specs.Plan.{Plan, Places, fresh}
+use Rattle.rules.specs.Rounds.{keeps}
+use Rattle.rules.specs.Steps.{placed}
+use Rattle.rules.specs.Tests.{stays}
+use Rattle.rules.specs.Settle.{round, strikes, settleIn, roundsIn, rounds, settled}
+use Rattle.rules.specs.Verdict.{owed, alive}
+use Rattle.rules.specs.Every.{everyRound, belongs, count}
+use Rattle.rules.specs.declared.Job.{Job}
+use Rattle.rules.specs.declared.Job.the-variants.{Transfer}
+
+abbrev table : List ℕ
+table = 0 ∷ 10 ∷ 20 ∷ 30 ∷ 10 ∷ 0 ∷ 10 ∷ 20 ∷ 20 ∷ 10 ∷ 0 ∷ 10 ∷ 30 ∷ 20 ∷ 10 ∷ 0 ∷ []
+
+-- 01's sheet, with the latest of nodes 2 and 3 to be altered
+abbrev pub dayWith : ℕ → ℕ → Day
+dayWith l2 l3 = record {
+  n = 4;
+  earliest = λ i. 0;
+  latest = λ i. getD (0 ∷ 100 ∷ l2 ∷ l3 ∷ []) i 0;
+  service = λ i. getD (0 ∷ 5 ∷ 5 ∷ 0 ∷ []) i 0;
+  seconds = λ i j. getD table (4 * i + j) 0;
+  metres = λ i j. getD table (4 * i + j) 0;
+  jobs = Transfer 1 2 2 ∷ [];
+}
+
+abbrev pub day : Day
+day = dayWith 25 100
+
+abbrev pub van : ℕ → ℕ → Van
+van c m = record { capacity = c; limit = m }
+
+-- node 2 placed after 0
+abbrev two : Plan
+two = placed 0 2 (fresh day)
+
+p1 : start day (2 ∷ 0 ∷ []) 3 ≡ 35
+p1 = refl
+
+p3 : lastStart day (2 ∷ 3 ∷ []) 0 ≡ pos 0
+p3 = refl
+
+-- 25 against 25
+p4 : round (van 2 60) day (two .route) (two .places) 1 0 ≡ true
+unfolding round stays
+p4 = refl
+
+p6 : round (van 2 60) day (two .route) (two .places) 1 2 ≡ false
+unfolding round stays
+p6 = refl
+
+p7 : rounds (van 2 30) day (fresh day .route) (fresh day .places) ≡ 0
+unfolding roundsIn strikes round stays
+p7 = refl
+
+p8 : alive (van 2 29) day (settled (van 2 29) day (fresh day)) ≡ false
+unfolding alive owed settleIn strikes round stays
+p8 = refl
+
+p10 : rounds (van 2 60) (dayWith 19 100) (fresh day .route) (fresh day .places) ≡ 2
+unfolding roundsIn strikes round stays
+p10 = refl
+
+p11 : lastStart (dayWith 25 10) (3 ∷ []) 0 ≡ negsuc 19
+p11 = refl
+
+-- fresh: 5 rounds belong, 2 keep the rules
+p12 : count (belongs day (fresh day)) (everyRound day) ≡ 5
+unfolding everyRound
+p12 = refl
+
+p12k : count (λ R. belongs day (fresh day) R && keeps (van 2 60) day R) (everyRound day) ≡ 2
+unfolding everyRound keeps
+p12k = refl

@@ -1,0 +1,21 @@
+-- Document 01, in its own order. Day: what a sheet says. Leg: the route cut in two. Time: E and L. Metres. Load: H.
+-- Plan: a state's route, places and marks. Rounds: which belong, which keep the rules. Steps: what each step does to a plan.
+-- Tests: the six tests of settling. Settle: a round of settling, settling, the count of striking rounds. Verdict: owed, alive.
+-- Worked: runs, and the state that demand 3 works out. Asked: what the theorems ask of a day and a plan, as tests that compute.
+-- Every: all rounds of a small day. Along: E, L and H by the stop's place on the route. Examples: small days, computed.
+pub mod Day
+pub mod Leg
+pub mod Time
+pub mod Metres
+pub mod Load
+pub mod Plan
+pub mod Rounds
+pub mod Steps
+pub mod Tests
+pub mod Settle
+pub mod Verdict
+pub mod Worked
+pub mod Asked
+pub mod Every
+pub mod Along
+pub mod Examples

@@ -1,0 +1,51 @@
+-- Rounds: which belong to a plan, and which keep the rules.
+use Prim.Native.Nat.{ℕ, _<_, _-_}
+use mathlib.Core.Bool.{Bool, true, false, cond, not, _&&_}
+use mathlib.Core.List.{List, [], _∷_}
+use lib.Dec.{T, leb, eqb}
+use Rattle.laws.specs.Lists.{mem, all}
+use Rattle.rules.specs.Day.{Day, Van}
+use Rattle.rules.specs.Leg.{everyLeg}
+use Rattle.rules.specs.Time.{onTime}
+use Rattle.rules.specs.Metres.{driven}
+use Rattle.rules.specs.Load.{carries}
+use Rattle.rules.specs.Plan.{Plan, Places}
+use Rattle.rules.specs.declared.Job.{Job}
+use Rattle.rules.specs.declared.Job.the-variants.{Clean, Soiled, Transfer}
+
+-- distinct nodes of a day of n
+pub data Distinct (n : ℕ) : List ℕ → Type 0 where
+  none : Distinct n []
+  more : {x : ℕ} {l : List ℕ} → x < n → T (not (mem x l)) → Distinct n l → Distinct n (x ∷ l)
+
+-- after the route's stop p: R runs through the rest r of the route, and each other node of it has an open place at the last route
+-- node before it
+pub data Within (o : Places) : ℕ → List ℕ → List ℕ → Type 0 where
+  done : {p : ℕ} → Within o p [] []
+  stop : {p k : ℕ} {r R : List ℕ} → Within o k r R → Within o p (k ∷ r) (k ∷ R)
+  extra : {p x k : ℕ} {r R : List ℕ} → T (o x p) → Within o p (k ∷ r) R → Within o p (k ∷ r) (x ∷ R)
+
+-- the same of whole rounds: both leave the start
+pub data Inside (o : Places) : List ℕ → List ℕ → Type 0 where
+  start : {z : ℕ} {r R : List ℕ} → Within o z r R → Inside o (z ∷ r) (z ∷ R)
+
+-- the round R belongs to the plan
+pub record Belongs (d : Day) (a : Plan) (R : List ℕ) : Type 0 where
+  pub nodes : Distinct (d .n) R
+  pub inside : Inside (a .places) (a .route) R
+  pub needed : (x : ℕ) → T (a .marks x) → T (mem x R)
+
+-- a before b, or neither of them
+abbrev pub ordered : ℕ → ℕ → List ℕ → Bool
+ordered a b [] = true
+ordered a b (x ∷ R) = cond (eqb x a) (mem b R) (not (eqb x b) && ordered a b R)
+
+-- each transfer has both nodes in the round, first before second, or neither
+abbrev pub inOrder : List ℕ → Job → Bool
+inOrder R (Clean a w) = true
+inOrder R (Soiled a w) = true
+inOrder R (Transfer a b w) = ordered a b R
+
+-- the round keeps the rules: starts, metres, transfers, loads
+unfoldable pub keeps : Van → Day → List ℕ → Bool
+keeps v d R = onTime d [] R && leb (driven d R) (v .limit) && all (inOrder R) (d .jobs) && everyLeg (carries v d) R
