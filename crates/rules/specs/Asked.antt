@@ -1,17 +1,17 @@
 -- What the theorems ask of a day and of a plan, and the tests that it comes from.
-use Prim.Native.Nat.{ℕ, zero, suc, _+_, _-_, _≤_, _<_}
+use Prim.Native.Nat.{ℕ, _+_, _-_, _≤_, _<_}
 use mathlib.Core.Path.{_≡_}
-use mathlib.Core.Bool.{Bool, true, false, cond, not, _&&_, _||_}
-use mathlib.Core.List.{List, [], _∷_}
+use mathlib.Core.Bool.{not}
+use mathlib.Core.List.{List, _∷_}
 use mathlib.Core.Logic.{_≢_}
-use lib.Dec.{T, leb, ltb, eqb}
-use Rattle.laws.specs.Lists.{In, mem, all}
+use lib.Dec.{T}
+use Rattle.laws.specs.Lists.{In, mem}
 use Rattle.rules.specs.Day.{Day, inner}
 use Rattle.rules.specs.Leg.{legStops}
 use Rattle.rules.specs.Plan.{Plan}
 use Rattle.rules.specs.Rounds.{Distinct}
 use Rattle.rules.specs.declared.Job.{Job}
-use Rattle.rules.specs.declared.Job.the-variants.{Clean, Soiled, Transfer}
+use Rattle.rules.specs.declared.Job.the-variants.{Transfer}
 
 -- no refusal 5: for three different i, j, k, (i, k) is at most (i, j) + (j, k)
 abbrev pub Shortest : ℕ → (ℕ → ℕ → ℕ) → Type 0

@@ -1,20 +1,19 @@
 -- 01's examples at the edges on the mathematics, to keep the definitions honest. (The table P1 to P12, on the bytes of the sheet, is the planner's.)
 use mathlib.Core.Path.{_≡_, refl}
 use Prim.Native.Nat.{ℕ, _+_, _*_}
-use mathlib.Core.Bool.{Bool, true, false, _&&_}
+use mathlib.Core.Bool.{true, false, _&&_}
 use mathlib.Core.List.{List, [], _∷_}
 use lib.ListN.{getD}
 use lib.IntN.{pos, negsuc}
 use Rattle.rules.specs.Day.{Day, Van}
 use Rattle.rules.specs.Time.{start, lastStart}
-use Rattle.rules.specs.Plan.{Plan, Places, fresh}
+use Rattle.rules.specs.Plan.{Plan, fresh}
 use Rattle.rules.specs.Rounds.{keeps}
 use Rattle.rules.specs.Steps.{placed}
 use Rattle.rules.specs.Tests.{stays}
 use Rattle.rules.specs.Settle.{round, strikes, settleIn, roundsIn, rounds, settled}
 use Rattle.rules.specs.Verdict.{owed, alive}
 use Rattle.rules.specs.Every.{everyRound, belongs, count}
-use Rattle.rules.specs.declared.Job.{Job}
 use Rattle.rules.specs.declared.Job.the-variants.{Transfer}
 
 abbrev table : List ℕ

@@ -1,6 +1,6 @@
 -- Rounds: which belong to a plan, and which keep the rules.
-use Prim.Native.Nat.{ℕ, _<_, _-_}
-use mathlib.Core.Bool.{Bool, true, false, cond, not, _&&_}
+use Prim.Native.Nat.{ℕ, _<_}
+use mathlib.Core.Bool.{Bool, true, cond, not, _&&_}
 use mathlib.Core.List.{List, [], _∷_}
 use lib.Dec.{T, leb, eqb}
 use Rattle.laws.specs.Lists.{mem, all}

@@ -1,9 +1,9 @@
 -- What the steps do to a plan, and which rounds use a place.
 use Prim.Native.Nat.{ℕ}
-use mathlib.Core.Bool.{Bool, true, false, cond, not, _&&_, _||_}
+use mathlib.Core.Bool.{Bool, false, cond, not, _&&_, _||_}
 use mathlib.Core.List.{List, [], _∷_}
 use lib.Dec.{eqb}
-use Rattle.rules.specs.Plan.{Plan, Places, Marks}
+use Rattle.rules.specs.Plan.{Plan, Places}
 
 -- the route with x after p
 abbrev pub putAfter : ℕ → ℕ → List ℕ → List ℕ

@@ -1,7 +1,7 @@
 -- The tests of settling. Place p of x, in the leg (A, B) of the route rt, with the places o open, stays if it passes every test: 01 says
 -- when a place is struck, and a test here is passed exactly if 01's does not strike.
 use Prim.Native.Nat.{ℕ, _+_, _-_}
-use mathlib.Core.Bool.{Bool, true, false, not, _&&_, _||_}
+use mathlib.Core.Bool.{Bool, true, not, _&&_, _||_}
 use mathlib.Core.List.{List, [], _∷_}
 use lib.Dec.{leb, eqb}
 use lib.IntN.{pos}

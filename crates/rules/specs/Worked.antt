@@ -1,6 +1,6 @@
 -- Demand 3: runs, and the state that 01 works out from the start.
 use Prim.Native.Nat.{ℕ}
-use mathlib.Core.Bool.{Bool, true, false, cond, not, _&&_, _||_}
+use mathlib.Core.Bool.{Bool, cond, not, _&&_}
 use mathlib.Core.List.{List, [], _∷_}
 use lib.Dec.{T, eqb}
 use Rattle.laws.specs.Lists.{mem, hd}

@@ -1,0 +1,75 @@
+-- 01's listing as bytes.
+use Prim.Native.Nat.{ℕ, zero, suc, _+_, _/_, _%_}
+use mathlib.Core.Bool.{cond}
+use mathlib.Core.List.{List, [], _∷_, _++_}
+use lib.Dec.{ltb}
+
+-- the decimal digits of v, at most f of them, the highest first
+unfoldable pub digits : ℕ → ℕ → List ℕ
+digits zero v = []
+digits (suc f) v = cond (ltb v 10) [] (digits f (v / 10)) ++ ((48 + v % 10) ∷ [])
+
+-- v in decimal; 20 digits hold every 64-bit number
+abbrev pub decimal : ℕ → List ℕ
+decimal v = digits 20 v
+
+abbrev pub space : ℕ
+space = 32
+
+abbrev pub newline : ℕ
+newline = 10
+
+-- "step", "answer", "open", "records", "rounds", "alive", "route", "refused"
+abbrev pub stepWord : List ℕ
+stepWord = 115 ∷ 116 ∷ 101 ∷ 112 ∷ []
+
+abbrev pub answerWord : List ℕ
+answerWord = 97 ∷ 110 ∷ 115 ∷ 119 ∷ 101 ∷ 114 ∷ []
+
+abbrev pub openWord : List ℕ
+openWord = 111 ∷ 112 ∷ 101 ∷ 110 ∷ []
+
+abbrev pub recordsWord : List ℕ
+recordsWord = 114 ∷ 101 ∷ 99 ∷ 111 ∷ 114 ∷ 100 ∷ 115 ∷ []
+
+abbrev pub roundsWord : List ℕ
+roundsWord = 114 ∷ 111 ∷ 117 ∷ 110 ∷ 100 ∷ 115 ∷ []
+
+abbrev pub aliveWord : List ℕ
+aliveWord = 97 ∷ 108 ∷ 105 ∷ 118 ∷ 101 ∷ []
+
+abbrev pub routeWord : List ℕ
+routeWord = 114 ∷ 111 ∷ 117 ∷ 116 ∷ 101 ∷ []
+
+abbrev pub refusedWord : List ℕ
+refusedWord = 114 ∷ 101 ∷ 102 ∷ 117 ∷ 115 ∷ 101 ∷ 100 ∷ []
+
+-- a name, a space, a number, and what follows it
+unfoldable pub field : List ℕ → ℕ → ℕ → List ℕ
+field name v after = name ++ (space ∷ []) ++ decimal v ++ (after ∷ [])
+
+-- three fields
+unfoldable pub threeFields : List ℕ → ℕ → List ℕ → ℕ → List ℕ → ℕ → ℕ → List ℕ
+threeFields a v b w c u after = field a v space ++ field b w space ++ field c u after
+
+-- the line of a step: step from 1, refusal or 0, open places in all, records, striking rounds, verdict
+unfoldable pub stepLine : ℕ → ℕ → ℕ → ℕ → ℕ → ℕ → List ℕ
+stepLine i answer places records rounds alive =
+    threeFields stepWord i answerWord answer openWord places space
+    ++ threeFields recordsWord records roundsWord rounds aliveWord alive newline
+
+-- each stop after a space
+unfoldable pub stopText : ℕ → List ℕ
+stopText x = (space ∷ []) ++ decimal x
+
+unfoldable pub stopsText : List ℕ → List ℕ
+stopsText [] = []
+stopsText (x ∷ r) = stopText x ++ stopsText r
+
+-- the line of the route
+unfoldable pub routeLine : List ℕ → List ℕ
+routeLine r = routeWord ++ stopsText r ++ (newline ∷ [])
+
+-- the one line of a refused sheet
+unfoldable pub refusedLine : ℕ → List ℕ
+refusedLine k = field refusedWord k newline
