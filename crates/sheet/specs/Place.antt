@@ -17,12 +17,13 @@ use Rattle.sheet.specs.Section.{tablesRefusal, laterRefusal, refusal13}
 use Rattle.sheet.specs.Section.{jobsAt, secondsAt, metresAt, stepsAt, nOf, mOf, kOf}
 use Rattle.sheet.specs.declared.Layout.{Layout}
 
--- the layout that the sheet says: its counts, and the word at which the entries of sections 3 to 6 begin, behind their count
+-- the layout that the sheet says: its counts, and the word at which the entries of sections 2 to 6 begin, behind their count
 abbrev pub layoutOf : List ℕ → Layout
 layoutOf s = record {
   nodes = nOf s;
   jobs = mOf s;
   steps = kOf s;
+  node = 4;
   job = jobsAt (nOf s) + 1;
   seconds = secondsAt (nOf s) (mOf s) + 1;
   metres = metresAt (nOf s) (mOf s) + 1;

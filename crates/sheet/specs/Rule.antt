@@ -14,14 +14,14 @@ abbrev pub nodeOk : ℕ → ℕ → ℕ → Bool
 nodeOk earliest latest service = leb earliest latest && leb latest 1000000 && leb service 1000000
 
 -- "between 1 and n−2"
-abbrev pub inner : ℕ → ℕ → Bool
-inner n x = leb 1 x && leb x (n - 2)
+abbrev pub isInner : ℕ → ℕ → Bool
+isInner n x = leb 1 x && leb x (n - 2)
 
 -- "Kinds are 1, 2, 3. For kinds 1 and 2, b is 0. Nodes a, and b of a transfer, are between 1 and n−2; a ≠ b in a transfer", "load (1 to 1,000)"
 abbrev pub jobOk : ℕ → ℕ → ℕ → ℕ → ℕ → Bool
 jobOk n kind a b load =
-    inner n a && (leb 1 load && leb load 1000)
-    && (eqb kind 3 && (inner n b && not (eqb a b)) || (eqb kind 1 || eqb kind 2) && eqb b 0)
+    isInner n a && (leb 1 load && leb load 1000)
+    && (eqb kind 3 && (isInner n b && not (eqb a b)) || (eqb kind 1 || eqb kind 2) && eqb b 0)
 
 -- the i-th node, the i-th job, the i-th table entry, where the section's entries begin at word `from`
 abbrev pub nodeAtOk : List ℕ → ℕ → ℕ → Bool

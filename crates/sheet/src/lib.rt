@@ -6,10 +6,11 @@ ghost use Rattle.laws.specs.Below.{allBelow};
 ghost use Rattle.laws.specs.Choice.{unless};
 ghost use Rattle.sheet.specs.Word.{words, wordAt, Reads};
 ghost use Rattle.sheet.specs.Refusal.{VALUE};
-ghost use Rattle.sheet.specs.Rule.{limitsOk, nodeOk, inner, jobOk, nodeAtOk, jobAtOk, entryOk};
+ghost use Rattle.sheet.specs.Rule.{limitsOk, nodeOk, isInner, jobOk, nodeAtOk, jobAtOk, entryOk};
 ghost use Rattle.sheet.specs.Section.{headRefusal, limitsRefusal, nodesRefusal, jobsRefusal, tableRefusal, stepsRefusal};
 ghost use Rattle.sheet.specs.Section.{tablesRefusal, laterRefusal, refusal13};
-ghost use Rattle.sheet.specs.Place.{layoutOf, Laid};
+ghost use Rattle.sheet.specs.Place.{Laid};
+use rules::Job;
 
 // The numbers by which a sheet is refused.
 pub const SHORT: usize = 1;
@@ -22,11 +23,12 @@ pub const TWICE: usize = 4;
 
 pub const TRIANGLE: usize = 5;
 
-// Where an accepted sheet has what: how many nodes, jobs and steps, and the word of the first job, second, metre and step.
+// Where an accepted sheet has what: how many nodes, jobs and steps, and the word of the first node, job, second, metre and step.
 pub struct Layout {
     pub nodes: usize,
     pub jobs: usize,
     pub steps: usize,
+    pub node: usize,
     pub job: usize,
     pub seconds: usize,
     pub metres: usize,
@@ -88,7 +90,7 @@ fn node_ok(earliest: u32, latest: u32, service: u32) -> bool
 
 fn is_inner(n: u32, x: u32) -> bool
     requires { ⌜ 2 ≤ n ⌝ }
-    ensures { λ r. ⌜ r ≡ inner n x ⌝ }
+    ensures { λ r. ⌜ r ≡ isInner n x ⌝ }
 {
     (1 <= x) & (x <= n - 2)
 }
@@ -218,7 +220,7 @@ fn jobs_refusal(s: &[u8], n: u32, at: usize) -> usize
     requires { ⌜ (2 ≤ n) × (at < 1000) ⌝ }
     ensures { λ r. ⌜ r ≡ jobsRefusal (now (s .entry)) n at ⌝ }
 {
-    let h = head(s, at, 0, 155, 4);
+    let h = head(s, at, 0, Job::MOST, 4);
     if h != 0 {
         return h;
     }
@@ -319,6 +321,7 @@ pub fn layout_of(s: &[u8]) -> Layout
         nodes: nodes,
         jobs: jobs,
         steps: word(s, steps_at) as usize,
+        node: 4,
         job: at + 1,
         seconds: seconds_at + 1,
         metres: metres_at + 1,
