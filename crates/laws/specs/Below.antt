@@ -4,7 +4,7 @@ use mathlib.Core.Bool.{Bool, true, false, not, _&&_, and-false}
 use borrow.Author.Tests.{not-true, not-false}
 use mathlib.Core.Path.{_≡_, refl, sym, ap, _∙_, subst}
 use mathlib.Core.Logic.{⊎-elim}
-use native.Mathlib.Nat.{eq-or-lt-of-le, le-of-suc-le-suc, not-suc-le-zero, le-antisymm}
+use native.Mathlib.Nat.{eq-or-lt-of-le, le-of-suc-le-suc, not-suc-le-zero, le-antisymm, le-refl, le-step}
 use native.Mathlib.Numerals.{add-one}
 
 -- every number below n passes f
@@ -53,3 +53,9 @@ flag-goes i f p q = rw (add-one, p, q) refl
 
 pub flag-done : (n i : ℕ) (f : ℕ → Bool) {a : Bool} → i ≤ n → n ≤ i → allBelow i f ≡ a → a ≡ allBelow n f
 flag-done n i f {a} p q r = sym (subst (λ (k : ℕ). allBelow k f ≡ a) (le-antisymm p q) r)
+
+-- every number passes: all pass
+pub below-make : (n : ℕ) (f : ℕ → Bool) → ((i : ℕ) → i < n → f i ≡ true) → allBelow n f ≡ true
+unfolding allBelow
+below-make zero f h = refl
+below-make (suc n) f h = rw (below-make n f (λ i l. h i (le-step l))) (h n (le-refl (suc n)))

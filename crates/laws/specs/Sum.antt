@@ -1,0 +1,47 @@
+-- A sum over the numbers below one, and the law of a loop that makes it.
+use mathlib.Core.Path.{_≡_, refl, ap₂, sym, _∙_}
+use mathlib.Core.Logic.{⊎-elim}
+use Prim.Native.Nat.{ℕ, zero, suc, _+_, _*_, _≤_, _<_}
+use native.Mathlib.Nat.{eq-or-lt-of-le, le-of-suc-le-suc, suc-mul}
+use native.Mathlib.Numerals.{add-one}
+use native.Mathlib.Omega.{arith}
+
+-- f 0 + f 1 + .. + f (n - 1)
+unfoldable pub sumBelow : ℕ → (ℕ → ℕ) → ℕ
+sumBelow zero f = 0
+sumBelow (suc n) f = sumBelow n f + f n
+
+pub sum-none : (f : ℕ → ℕ) → sumBelow 0 f ≡ 0
+unfolding sumBelow
+sum-none f = refl
+
+-- a turn of the loop
+pub sum-next : (i : ℕ) (f : ℕ → ℕ) {a v : ℕ} → a ≡ sumBelow i f → v ≡ f i → a + v ≡ sumBelow (i + 1) f
+unfolding sumBelow
+sum-next i f p q = rw add-one (ap₂ (λ (x y : ℕ). x + y) p q)
+
+pub sum-same : (n : ℕ) (f g : ℕ → ℕ) → ((i : ℕ) → i < n → f i ≡ g i) → sumBelow n f ≡ sumBelow n g
+unfolding sumBelow
+sum-same zero f g h = refl
+sum-same (suc n) f g h = ap₂ (λ (x y : ℕ). x + y) (sum-same n f g (λ i l. h i (omega arith))) (h n (omega arith))
+
+pub sum-le : (n : ℕ) (f g : ℕ → ℕ) → ((i : ℕ) → i < n → f i ≤ g i) → sumBelow n f ≤ sumBelow n g
+unfolding sumBelow
+sum-le zero f g h = omega arith
+sum-le (suc n) f g h = omega (arith, sum-le n f g (λ i l. h i (omega arith)), h n (omega arith))
+
+-- nowhere more, and less at one number: the sum is less
+pub sum-lt : (n k : ℕ) (f g : ℕ → ℕ) → ((i : ℕ) → i < n → f i ≤ g i) → k < n → f k < g k → sumBelow n f < sumBelow n g
+unfolding sumBelow
+sum-lt zero k f g h l s = absurd (omega arith)
+sum-lt (suc n) k f g h l s =
+    ⊎-elim
+    (λ e. let s' : f n < g n = rw e at s in omega (arith, sum-le n f g (λ i l. h i (omega arith)), s'))
+    (λ b. omega (arith, sum-lt n k f g (λ i l. h i (omega arith)) b s, h n (omega arith)))
+    (eq-or-lt-of-le (le-of-suc-le-suc l))
+
+-- each at most m: the sum is at most n times m
+pub sum-most : (n m : ℕ) (f : ℕ → ℕ) → ((i : ℕ) → i < n → f i ≤ m) → sumBelow n f ≤ n * m
+unfolding sumBelow
+sum-most zero m f h = omega arith
+sum-most (suc n) m f h = omega (arith, sum-most n m f (λ i l. h i (omega arith)), h n (omega arith), suc-mul n m)
