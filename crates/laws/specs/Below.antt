@@ -1,10 +1,10 @@
 -- A test of every number below one, and the laws of a loop that makes it.
 use Prim.Native.Nat.{ℕ, zero, suc, _+_, _<_, _≤_}
-use mathlib.Core.Bool.{Bool, true, false, not, _&&_, and-false}
+use mathlib.Core.Bool.{Bool, true, false, not, _&&_, and-false, and-true, and-assoc}
 use borrow.Author.Tests.{not-true, not-false}
 use mathlib.Core.Path.{_≡_, refl, sym, ap, _∙_, subst}
 use mathlib.Core.Logic.{⊎-elim}
-use native.Mathlib.Nat.{eq-or-lt-of-le, le-of-suc-le-suc, not-suc-le-zero, le-antisymm, le-refl, le-step}
+use native.Mathlib.Nat.{eq-or-lt-of-le, le-of-suc-le-suc, le-of-suc-le, le-step, le-refl, not-suc-le-zero, le-antisymm}
 use native.Mathlib.Numerals.{add-one}
 
 -- every number below n passes f
@@ -59,3 +59,20 @@ pub below-make : (n : ℕ) (f : ℕ → Bool) → ((i : ℕ) → i < n → f i �
 unfolding allBelow
 below-make zero f h = refl
 below-make (suc n) f h = rw (below-make n f (λ i l. h i (le-step l))) (h n (le-refl (suc n)))
+
+-- ---- two tests, and a test that is asked from a number on
+
+pub below-same : (n : ℕ) (f g : ℕ → Bool) → ((i : ℕ) → i < n → f i ≡ g i) → allBelow n f ≡ allBelow n g
+unfolding allBelow
+below-same zero f g e = refl
+below-same (suc n) f g e = λ u. below-same n f g (λ i h. e i (le-step h)) u && e n (le-refl (suc n)) u
+
+-- u i asks f of every number from i to n: what is passed below k, and the rest
+pub below-split : (n : ℕ) (f u : ℕ → Bool) → ((i : ℕ) → i < n → u i ≡ (f i && u (suc i))) → (k : ℕ) → k ≤ n → (allBelow k f && u k) ≡ u 0
+unfolding allBelow
+below-split n f u s zero h = refl
+below-split n f u s (suc k) h =
+    and-assoc (allBelow k f) (f k) (u (suc k)) ∙ ap (λ (b : Bool). allBelow k f && b) (sym (s k h)) ∙ below-split n f u s k (le-of-suc-le h)
+
+pub below-all : (n : ℕ) (f u : ℕ → Bool) → ((i : ℕ) → i < n → u i ≡ (f i && u (suc i))) → u n ≡ true → u 0 ≡ allBelow n f
+below-all n f u s e = sym (below-split n f u s n (le-refl n)) ∙ ap (λ (b : Bool). allBelow n f && b) e ∙ and-true (allBelow n f)

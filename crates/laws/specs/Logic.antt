@@ -103,6 +103,27 @@ pub imp-e : (a b : Bool) → T (not a || b) → T a → T b
 imp-e true b h t = h
 imp-e false b h t = absurd t
 
+-- if a and not b, or if a and b, then c
+pub imp-or-i : (a b c : Bool) → (T a → T (not b) → T c) → T (not a || b || c)
+imp-or-i true true c f = tt
+imp-or-i true false c f = f tt tt
+imp-or-i false b c f = tt
+
+pub imp-or-e : (a b c : Bool) → T (not a || b || c) → T a → T (not b) → T c
+imp-or-e true true c h t n = absurd n
+imp-or-e true false c h t n = h
+imp-or-e false b c h t n = absurd t
+
+pub imp-imp-i : (a b c : Bool) → (T a → T b → T c) → T (not a || not b || c)
+imp-imp-i true true c f = f tt tt
+imp-imp-i true false c f = tt
+imp-imp-i false b c f = tt
+
+pub imp-imp-e : (a b c : Bool) → T (not a || not b || c) → T a → T b → T c
+imp-imp-e true true c h t n = h
+imp-imp-e true false c h t n = absurd n
+imp-imp-e false b c h t n = absurd t
+
 -- two numbers that a test tells apart
 pub neqb : (m n : ℕ) → T (not (eqb m n)) → m ≢ n
 neqb m n h e = absurd (subst (λ (k : ℕ). T (not (eqb m k)) → ⊥) e (λ t. T-not (eqb m m) t (eqb-refl m)) h)

@@ -1,2 +1,5 @@
 pub mod Cuts
 pub mod Grows
+pub mod AlongLaws
+pub mod Transfers
+pub mod Left
