@@ -3,3 +3,4 @@ pub mod Grows
 pub mod AlongLaws
 pub mod Transfers
 pub mod Left
+pub mod Twice
