@@ -56,6 +56,13 @@ in-mem {x} (there {b = b} {l = l} i) = or-r (eqb b x) (mem x l) (in-mem i)
 pub each-in : {A : Type 0} {P : A → Type 0} {a : A} {l : List A} → In a l → Each P l → P a
 each-in here (also p e) = p
 each-in (there i) (also p e) = each-in i e
+-- what holds of the first entry and of every entry after it
+pub in-first : {A : Type 0} (P : A → Type 0) {a b : A} {l : List A} → In b (a ∷ l) → P a → (In b l → P b) → P b
+in-first P here p f = p
+in-first P (there i) p f = f i
+
+pub in-none : {A : Type 0} {a : A} → In a [] → ⊥
+in-none = elim [ ]
 
 -- ---- all and any
 

@@ -4,3 +4,6 @@ pub mod AlongLaws
 pub mod Transfers
 pub mod Left
 pub mod Twice
+pub mod Keeps
+pub mod Sound
+pub mod NoneLost
