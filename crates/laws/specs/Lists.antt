@@ -32,6 +32,11 @@ pub data In {ℓ} {A : Type ℓ} (a : A) : List A → Type ℓ where
   here : {l : List A} → In a (a ∷ l)
   there : {b : A} {l : List A} → In a l → In a (b ∷ l)
 
+-- P of every entry, entry by entry
+pub data Each {A : Type 0} (P : A → Type 0) : List A → Type 0 where
+  end : Each P []
+  also : {a : A} {l : List A} → P a → Each P l → Each P (a ∷ l)
+
 -- the first list is a subsequence of the second
 pub data Sub : List ℕ → List ℕ → Type 0 where
   nil : Sub [] []
@@ -47,6 +52,17 @@ mem-in x (y ∷ l) h = ⊎-elim (λ e. subst (λ (v : ℕ). In v (y ∷ l)) (eqb
 pub in-mem : {x : ℕ} {l : List ℕ} → In x l → T (mem x l)
 in-mem {x} (here {l = l}) = or-l (eqb x x) (mem x l) (eqb-refl x)
 in-mem {x} (there {b = b} {l = l} i) = or-r (eqb b x) (mem x l) (in-mem i)
+
+pub each-in : {A : Type 0} {P : A → Type 0} {a : A} {l : List A} → In a l → Each P l → P a
+each-in here (also p e) = p
+each-in (there i) (also p e) = each-in i e
+-- what holds of the first entry and of every entry after it
+pub in-first : {A : Type 0} (P : A → Type 0) {a b : A} {l : List A} → In b (a ∷ l) → P a → (In b l → P b) → P b
+in-first P here p f = p
+in-first P (there i) p f = f i
+
+pub in-none : {A : Type 0} {a : A} → In a [] → ⊥
+in-none = elim [ ]
 
 -- ---- all and any
 

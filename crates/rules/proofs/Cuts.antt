@@ -69,6 +69,11 @@ cut-behind x same m = inl m
 cut-behind x (move {k = k} {A = A} {B = B} c) m =
     ⊎-elim (λ u. ⊎-elim (λ e. inr (or-l (eqb k x) (mem x B) e)) inl (or-e (eqb k x) (mem x A) u)) (λ u. inr (mem-tl x k B u)) (cut-behind x c m)
 
+pub cut-mem : (x : ℕ) {A B A′ B′ : List ℕ} → Cut A B A′ B′ → T (mem x A) ⊎ T (mem x B) → T (mem x A′) ⊎ T (mem x B′)
+cut-mem x same m = m
+cut-mem x {A = A} (move {k = k} {B = B} c) m =
+    cut-mem x c (⊎-elim (λ u. inl (mem-tl x k A u)) (λ u. ⊎-elim (λ e. inl (or-l (eqb k x) (mem x A) e)) inr (or-e (eqb k x) (mem x B) u)) m)
+
 -- ---- the leg that a stop names
 
 cut-name : {A B A′ B′ : List ℕ} {k : ℕ} → Cut (k ∷ A) B A′ B′ → T (mem (hd A′) (k ∷ B))

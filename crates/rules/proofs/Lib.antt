@@ -3,3 +3,7 @@ pub mod Grows
 pub mod AlongLaws
 pub mod Transfers
 pub mod Left
+pub mod Twice
+pub mod Keeps
+pub mod Sound
+pub mod NoneLost

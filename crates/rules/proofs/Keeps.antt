@@ -1,0 +1,80 @@
+-- What keeping the rules says, rule by rule, and what a round's distinct nodes and a transfer's order say at a cut of it.
+use mathlib.Core.Path.{_≡_, subst, sym}
+use Prim.Native.Nat.{ℕ, _≤_}
+use mathlib.Core.Bool.{Bool, true, false, cond, not, _&&_, _||_}
+use mathlib.Core.List.{List, [], _∷_}
+use mathlib.Core.Logic.{_⊎_, inl, inr, ⊎-elim}
+use lib.Dec.{T, T-not, leb, eqb, eqb→eq, eqb-refl, leb→le}
+use Rattle.laws.specs.Logic.{and-l, and-r, or-l, tf, not-or-i, cond-yes, cond-no}
+use Rattle.laws.specs.Lists.{mem, all, In, all-in}
+use Rattle.rules.specs.Day.{Day, Van}
+use Rattle.rules.specs.Leg.{everyLeg}
+use Rattle.rules.specs.Time.{onTime}
+use Rattle.rules.specs.Metres.{driven}
+use Rattle.rules.specs.Load.{carries}
+use Rattle.rules.specs.Rounds.{Distinct, none, more, ordered, inOrder, keeps}
+use Rattle.rules.specs.declared.Job.the-variants.{Transfer}
+use Rattle.rules.proofs.Cuts.{Cut, same, move, cut-next, mem-hd, mem-tl, mem-ne}
+use Rattle.rules.proofs.Grows.{distinct-off}
+
+-- ---- the four rules
+
+module _ (v : Van) (d : Day) (R : List ℕ) (h : T (keeps v d R)) where
+  pub keeps-time : T (onTime d [] R)
+  unfolding keeps
+  keeps-time = search (and-l, and-r)
+
+  pub keeps-metres : driven d R ≤ v .limit
+  unfolding keeps
+  keeps-metres = let t : T (leb (driven d R) (v .limit)) = search (and-l, and-r) in leb→le (driven d R) (v .limit) t
+
+  pub keeps-order : (a b w : ℕ) → In (Transfer a b w) (d .jobs) → T (ordered a b R)
+  unfolding keeps
+  keeps-order a b w i = let t : T (all (inOrder R) (d .jobs)) = search (and-l, and-r) in all-in (inOrder R) t i
+
+  pub keeps-loads : T (everyLeg (carries v d) R)
+  unfolding keeps
+  keeps-loads = search (and-l, and-r)
+
+-- ---- distinct nodes at a cut
+
+distinct-cut : {n : ℕ} {A B A′ B′ : List ℕ} → Cut A B A′ B′ → Distinct n A → Distinct n B → ((y : ℕ) → T (mem y B) → T (not (mem y A)))
+    → Distinct n A′ × ((y : ℕ) → T (mem y B′) → T (not (mem y A′)))
+distinct-cut same f g h = (f, h)
+distinct-cut {A = A} (move {k = k} {B = B} c) f (more a b g) h =
+    distinct-cut c (more a (h k (mem-hd k B)) f) g (λ y m. not-or-i (eqb k y) (mem y A) (mem-ne k y B b m) (h y (mem-tl y k B m)))
+
+-- the stops behind are distinct, and none of them is ahead
+pub distinct-behind : {n z : ℕ} {R A B : List ℕ} → Distinct n (z ∷ R) → Cut (z ∷ []) R A B → Distinct n A × ((y : ℕ) → T (mem y B) → T (not (mem y A)))
+distinct-behind {z = z} {R = R} (more a b g) c = distinct-cut c (more a tt none) g (λ y m. not-or-i (eqb z y) false (mem-ne z y R b m) tt)
+
+pub distinct-ahead : {n : ℕ} {A B A′ B′ : List ℕ} → Distinct n B → Cut A B A′ B′ → Distinct n B′
+distinct-ahead g same = g
+distinct-ahead (more a b g) (move c) = distinct-ahead g c
+
+-- ---- the partners of a transfer at a cut
+
+stays-behind : (y : ℕ) {A B A′ B′ : List ℕ} → Cut A B A′ B′ → T (mem y A) → T (mem y A′)
+stays-behind y same m = m
+stays-behind y {A = A} (move {k = k} c) m = stays-behind y c (mem-tl y k A m)
+
+ordered-cut : (a b : ℕ) {A B A′ B′ : List ℕ} → Cut A B A′ B′ → T (ordered a b B) → T (ordered a b B′) ⊎ T (mem a A′)
+ordered-cut a b same h = inl h
+ordered-cut a b {A = A} {A′ = A′} {B′ = B′} (move {k = k} {B = B} c) h = go (tf (eqb k a)) (ordered-cut a b c)
+  where
+    go : T (eqb k a) ⊎ T (not (eqb k a)) → (T (ordered a b B) → T (ordered a b B′) ⊎ T (mem a A′)) → T (ordered a b B′) ⊎ T (mem a A′)
+    go (inl e) f = inr (stays-behind a c (or-l (eqb k a) (mem a A) e))
+    go (inr n) f = f (and-r (not (eqb k b)) (ordered a b B) (cond-no (eqb k a) (mem b B) (not (eqb k b) && ordered a b B) n h))
+
+module _ {R A B : List ℕ} (x : ℕ) (c : Cut [] R A (x ∷ B)) (off : T (not (mem x A))) (out : T (not (mem x B))) where
+  -- x is the first node: the second stands ahead
+  pub second-ahead : (b : ℕ) → T (ordered x b R) → T (mem b B)
+  second-ahead b h = ⊎-elim (cond-yes (eqb x x) (mem b B) (not (eqb x b) && ordered x b B) (eqb-refl x)) (λ m. absurd (T-not (mem x A) off m)) (ordered-cut x b c h)
+
+  -- x is the second node: the first stands behind
+  pub first-behind : (a : ℕ) → T (ordered a x R) → T (mem a A)
+  first-behind a h = ⊎-elim (λ t. absurd (go t (tf (eqb x a)))) (λ m. m) (ordered-cut a x c h)
+    where
+      go : T (ordered a x (x ∷ B)) → T (eqb x a) ⊎ T (not (eqb x a)) → ⊥
+      go t (inl e) = T-not (mem x B) out (cond-yes (eqb x a) (mem x B) (not (eqb x x) && ordered a x B) e t)
+      go t (inr m) = T-not (eqb x x) (and-l (not (eqb x x)) (ordered a x B) (cond-no (eqb x a) (mem x B) (not (eqb x x) && ordered a x B) m t)) (eqb-refl x)
