@@ -1,0 +1,63 @@
+-- A state as 01 lists it, and the part of it that records speak of: route, place sets and marks.
+use mathlib.Core.Bool.{Bool, _&&_}
+use mathlib.Core.List.{List}
+use Prim.Native.Nat.{ℕ, _+_, _-_}
+use lib.Count.{ones}
+use lib.ListN.{getD, take}
+use lib.Dec.{leb, ltb}
+use Rattle.laws.specs.Lists.{mem}
+use Rattle.laws.specs.Sum.{sumBelow}
+use Rattle.bits.specs.Places.{has}
+use Rattle.board.specs.Route.{wordOf}
+use Rattle.board.specs.declared.State.{State}
+
+pub record Board : Type 0 where
+  pub route : List ℕ
+  pub stops : ℕ
+  pub sets : List ℕ
+  pub marks : ℕ
+
+abbrev pub board : List ℕ → ℕ → List ℕ → ℕ → Board
+board route stops sets marks = record { route = route; stops = stops; sets = sets; marks = marks }
+
+abbrev pub stateOf : List ℕ → ℕ → List ℕ → ℕ → List ℕ → ℕ → ℕ → State
+stateOf route stops sets marks levels depth records =
+    record { route = route; stops = stops; sets = sets; marks = marks; levels = levels; depth = depth; records = records }
+
+abbrev pub boardOf : State → Board
+boardOf s = board (s .route) (s .stops) (s .sets) (s .marks)
+
+-- the state s with another board and record count; its levels stay
+abbrev pub onBoard : State → Board → ℕ → State
+onBoard s b k = stateOf (b .route) (b .stops) (b .sets) (b .marks) (s .levels) (s .depth) k
+
+-- the route: the first entries of its array
+unfoldable pub routeOf : Board → List ℕ
+routeOf b = take (b .stops) (b .route)
+
+unfoldable pub onRoute : Board → ℕ → Bool
+onRoute b x = mem x (routeOf b)
+
+-- the legs of the route: a leg is named by the stop it leaves
+unfoldable pub legsOf : Board → ℕ
+legsOf b = wordOf (b .stops - 1) (b .route)
+
+-- the set of open places of x
+unfoldable pub setOf : Board → ℕ → ℕ
+setOf b x = getD (b .sets) x 0
+
+-- whether x is open in the leg that leaves p
+unfoldable pub openAt : Board → ℕ → ℕ → Bool
+openAt b x p = has (setOf b x) p
+
+-- x is between 1 and n - 2
+unfoldable pub inner : ℕ → ℕ → Bool
+inner n x = leb 1 x && ltb (x + 1) n
+
+-- p is between 0 and n - 2
+unfoldable pub legNode : ℕ → ℕ → Bool
+legNode n p = ltb (p + 1) n
+
+-- the open places of the first k nodes: for each the count of ones in its word
+unfoldable pub placesOf : List ℕ → ℕ → ℕ
+placesOf sets k = sumBelow k (λ y. ones (getD sets y 0))

@@ -1,0 +1,83 @@
+// The board: a round in the making, by value.
+pub mod form;
+pub mod places;
+pub mod route;
+
+ghost use mathlib.Core.Path.{_≡_};
+ghost use Prim.Native.Nat.{_<_};
+ghost use Rattle.board.specs.Fresh.{noState, freshState, freshSet, freshSets};
+
+// The route, each unplaced node's set of open places, the marks of required nodes, and for each level the record count when it was opened.
+pub struct State {
+    pub route: [usize; 64],
+    pub stops: usize,
+    pub sets: [u64; 64],
+    pub marks: u64,
+    pub levels: [usize; 64],
+    pub depth: usize,
+    pub records: usize,
+}
+
+impl State {
+    pub const NODES: usize = 64;
+
+    pub const LEVELS: usize = 64;
+
+    // Every number 0: it stands beside a refusal.
+    pub fn none() -> State
+        ensures { λ r. ⌜ r ≡ noState ⌝ }
+    {
+        State {
+            route: [0; 64],
+            stops: 0,
+            sets: [0; 64],
+            marks: 0,
+            levels: [0; 64],
+            depth: 0,
+            records: 0,
+        }
+    }
+
+    // Route 0, n - 1; every other node open in leg 0. None where n is no number of nodes.
+    pub fn fresh(n: usize) -> State
+        ensures { λ r. ⌜ r ≡ freshState n ⌝ }
+    {
+        if n < 2 {
+            return State::none();
+        }
+        if State::NODES < n {
+            return State::none();
+        }
+        let mut route = [0usize; 64];
+        route[1] = n - 1;
+        let sets = fresh_sets(n);
+        State {
+            route: route,
+            stops: 2,
+            sets: sets,
+            marks: 0,
+            levels: [0; 64],
+            depth: 0,
+            records: 0,
+        }
+    }
+}
+
+fn fresh_set(n: usize, y: usize) -> u64
+    requires { ⌜ y < 64 ⌝ }
+    ensures { λ r. ⌜ r ≡ freshSet n y ⌝ }
+{
+    if form::inner(n, y) { 1 } else { 0 }
+}
+
+fn fresh_sets(n: usize) -> [u64; 64]
+    ensures { λ r. ⌜ r ≡ freshSets n ⌝ }
+{
+    let mut sets = [0u64; 64];
+    let mut y = 0;
+    while y < 64 {
+        sets[y] = fresh_set(n, y);
+        y += 1;
+    }
+    sets
+}

@@ -1,0 +1,55 @@
+// What a step does to every place set, and how many places are open.
+ghost use mathlib.Core.Path.{_≡_};
+ghost use mathlib.Core.List.{map};
+ghost use Prim.Native.Nat.{_+_, _*_, _≤_, _<_};
+ghost use lib.Count.{ones};
+ghost use lib.ListN.{length, getD};
+ghost use Rattle.bits.specs.Places.{without};
+ghost use Rattle.board.specs.Board.{placesOf};
+ghost use Rattle.board.specs.Change.{heir, strike};
+
+fn heir_of(w: u64, p: usize, x: usize) -> u64
+    ensures { λ r. ⌜ r ≡ heir p x w ⌝ }
+{
+    if bits::has(w, p) { bits::with(w, x) } else { w }
+}
+
+// x is placed after p: where leg p was open, leg x is too.
+pub fn inherit(sets: &mut [u64; 64], p: usize, x: usize)
+    requires { ⌜ length (now sets) ≡ 64 ⌝ }
+    ensures { λ r. ⌜ now (sets .exit) ≡ map (heir p x) (now (sets .entry)) ⌝ }
+{
+    let mut i = 0;
+    while i < 64 {
+        let w = sets[i];
+        sets[i] = heir_of(w, p, x);
+        i += 1;
+    }
+}
+
+// Leg x is taken out of every set.
+pub fn strike_leg(sets: &mut [u64; 64], x: usize)
+    requires { ⌜ length (now sets) ≡ 64 ⌝ }
+    ensures { λ r. ⌜ now (sets .exit) ≡ map (strike x) (now (sets .entry)) ⌝ }
+{
+    let mut i = 0;
+    while i < 64 {
+        let w = sets[i];
+        sets[i] = bits::without(w, x);
+        i += 1;
+    }
+}
+
+// The open places in all: for each node the count of ones in its word.
+pub fn count(sets: &[u64; 64]) -> usize
+    ensures { λ r. ⌜ (r ≡ placesOf (now (sets .entry)) 64) × (r ≤ 4096) ⌝ }
+{
+    let mut k = 0;
+    let mut y = 0;
+    while y < 64 {
+        let one = bits::count(sets[y]);
+        k += one;
+        y += 1;
+    }
+    k
+}

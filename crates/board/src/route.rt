@@ -1,0 +1,63 @@
+// A route is the first `stops` entries of an array of nodes.
+ghost use mathlib.Core.Path.{_≡_};
+ghost use Prim.Native.Nat.{_+_, _≤_, _<_};
+ghost use lib.ListN.{length, take};
+ghost use Rattle.board.specs.Route.{indexOf, insertIn, removeIn, wordOf};
+
+// Where p stands on the route; the number of stops where it does not.
+pub fn position(route: &[usize; 64], stops: usize, p: usize) -> usize
+    requires { ⌜ (stops ≤ 64) × (length (now route) ≡ 64) ⌝ }
+    ensures { λ r. ⌜ r ≡ indexOf p (take stops (now (route .entry))) ⌝ }
+{
+    let mut i = 0;
+    while i < stops {
+        if route[i] == p {
+            return i;
+        }
+        i += 1;
+    }
+    i
+}
+
+// The first k stops as a set.
+pub fn word(route: &[usize; 64], k: usize) -> u64
+    requires { ⌜ k ≤ 64 ⌝ }
+    ensures { λ r. ⌜ r ≡ wordOf k (now (route .entry)) ⌝ }
+{
+    let mut w: u64 = 0;
+    let mut i = 0;
+    while i < k {
+        let p = route[i];
+        w = bits::with(w, p);
+        i += 1;
+    }
+    w
+}
+
+// x put in at a place; the entries from there on move up by one.
+pub fn insert(route: &mut [usize; 64], at: usize, x: usize)
+    requires { ⌜ (at < 64) × (length (now route) ≡ 64) ⌝ }
+    ensures { λ r. ⌜ now (route .exit) ≡ insertIn 63 at x (now (route .entry)) ⌝ }
+{
+    let mut j = 63;
+    while at < j {
+        let v = route[j - 1];
+        route[j] = v;
+        j -= 1;
+    }
+    route[at] = x;
+}
+
+// The entry at a place taken out; those after it move down by one.
+pub fn remove(route: &mut [usize; 64], at: usize)
+    requires { ⌜ (at < 64) × (length (now route) ≡ 64) ⌝ }
+    ensures { λ r. ⌜ now (route .exit) ≡ removeIn at (now (route .entry)) ⌝ }
+{
+    let mut j = at;
+    while j < 63 {
+        let v = route[j + 1];
+        route[j] = v;
+        j += 1;
+    }
+    route[63] = 0;
+}
