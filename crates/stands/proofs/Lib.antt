@@ -1,0 +1,3 @@
+-- Formed: a board in form stands for a plan in form. Changed: each change of the board is the rules' step of its plan.
+pub mod Formed
+pub mod Changed

@@ -1,0 +1,2 @@
+-- Plan: the plan that a board stands for.
+pub mod Stands

@@ -1,0 +1,1 @@
+// What a state stands for, as the rules see it. Definitions in specs/, laws in proofs/; there is no code here.
