@@ -56,13 +56,6 @@ in-mem {x} (there {b = b} {l = l} i) = or-r (eqb b x) (mem x l) (in-mem i)
 pub each-in : {A : Type 0} {P : A → Type 0} {a : A} {l : List A} → In a l → Each P l → P a
 each-in here (also p e) = p
 each-in (there i) (also p e) = each-in i e
--- what holds of the first entry and of every entry after it
-pub in-first : {A : Type 0} (P : A → Type 0) {a b : A} {l : List A} → In b (a ∷ l) → P a → (In b l → P b) → P b
-in-first P here p f = p
-in-first P (there i) p f = f i
-
-pub in-none : {A : Type 0} {a : A} → In a [] → ⊥
-in-none = elim [ ]
 
 -- ---- all and any
 
@@ -81,6 +74,11 @@ all-mono f g (x ∷ l) h t = and-mono (f x) (all f l) (g x) (all g l) (h x) (all
 pub any-i : {A : Type 0} (f : A → Bool) {a : A} {l : List A} → In a l → T (f a) → T (any f l)
 any-i f {a} (here {l = l}) h = or-l (f a) (any f l) h
 any-i f (there {b = b} {l = l} i) h = or-r (f b) (any f l) (any-i f i h)
+
+-- what follows from each entry that passes f follows where some entry does
+pub any-e : {A : Type 0} {P : Type 0} (f : A → Bool) (l : List A) → ((a : A) → In a l → T (f a) → P) → T (any f l) → P
+any-e f [] g h = absurd h
+any-e f (x ∷ l) g h = ⊎-elim (g x here) (any-e f l (λ a i. g a (there i))) (or-e (f x) (any f l) h)
 
 pub any-none : {A : Type 0} (f : A → Bool) (l : List A) → ((a : A) → T (f a) → ⊥) → T (any f l) → ⊥
 any-none f [] g h = h

@@ -114,7 +114,6 @@ imp-or-e true true c h t n = absurd n
 imp-or-e true false c h t n = h
 imp-or-e false b c h t n = absurd t
 
--- if a and b then c; if a and not b then c
 pub imp-imp-i : (a b c : Bool) → (T a → T b → T c) → T (not a || not b || c)
 imp-imp-i true true c f = f tt tt
 imp-imp-i true false c f = tt
@@ -124,10 +123,6 @@ pub imp-imp-e : (a b c : Bool) → T (not a || not b || c) → T a → T b → T
 imp-imp-e true true c h t n = h
 imp-imp-e true false c h t n = absurd n
 imp-imp-e false b c h t n = absurd t
-pub imp-else-i : (a b c : Bool) → (T a → T (not b) → T c) → T (not a || b || c)
-imp-else-i true true c f = tt
-imp-else-i true false c f = f tt tt
-imp-else-i false b c f = tt
 
 -- two numbers that a test tells apart
 pub neqb : (m n : ℕ) → T (not (eqb m n)) → m ≢ n

@@ -30,6 +30,10 @@ mem-tl x y l = or-r (eqb y x) (mem x l)
 pub mem-ne : (y x : ℕ) (l : List ℕ) → T (not (mem y l)) → T (mem x l) → T (not (eqb y x))
 mem-ne y x l h m = contra (eqb y x) (mem y l) (λ e. subst (λ (v : ℕ). T (mem v l)) (sym (eqb→eq y x e)) m) h
 
+-- in a list, and not its first entry
+pub mem-rest : (x y : ℕ) (l : List ℕ) → T (not (eqb y x)) → T (mem x (y ∷ l)) → T (mem x l)
+mem-rest x y l n m = ⊎-elim (λ e. absurd (T-not (eqb y x) n e)) (λ h. h) (or-e (eqb y x) (mem x l) m)
+
 -- ---- cuts of one route
 
 pub cut-trans : {A B A′ B′ A″ B″ : List ℕ} → Cut A B A′ B′ → Cut A′ B′ A″ B″ → Cut A B A″ B″

@@ -7,3 +7,5 @@ pub mod Twice
 pub mod Keeps
 pub mod Sound
 pub mod NoneLost
+pub mod Around
+pub mod Complete

@@ -1,28 +1,18 @@
 -- Settling loses no round: on a triangle day every rule-keeping round that belongs to a plan belongs to the settled plan.
-use mathlib.Core.Path.{_≡_, subst, sym}
 use Prim.Native.Nat.{ℕ, zero, suc, _*_}
-use mathlib.Core.Bool.{Bool, true, false, _&&_}
+use mathlib.Core.Bool.{Bool, true, false}
 use mathlib.Core.List.{List, [], _∷_}
 use lib.Dec.{T}
-use Rattle.laws.specs.Logic.{and-i}
-use Rattle.laws.specs.Lists.{hd, keep}
+use Rattle.laws.specs.Lists.{keep}
 use Rattle.rules.specs.Day.{Day, Van}
-use Rattle.rules.specs.Leg.{onLeg}
 use Rattle.rules.specs.Plan.{Plan, Places}
 use Rattle.rules.specs.Rounds.{Distinct, Within, done, stop, extra, Inside, start, Belongs, keeps}
-use Rattle.rules.specs.Tests.{stays}
 use Rattle.rules.specs.Settle.{round, strikes, settleIn, settled}
 use Rattle.rules.specs.Asked.{Triangle}
-use Rattle.rules.proofs.Cuts.{Cut, same, cut-next, leg-cut}
+use Rattle.rules.proofs.Cuts.{Cut, same, cut-next}
 use Rattle.rules.proofs.Grows.{distinct-sub, within-sub}
-use Rattle.rules.proofs.Sound.{Behind, begin, past, other, stays-sound}
-
--- a round of settling keeps the open place that stays
-round-i : {n : ℕ} (v : Van) (d : Day) (o : Places) (x : ℕ) {z k : ℕ} {r A B : List ℕ} → Distinct n (z ∷ r) → Cut (z ∷ []) r A (k ∷ B) → T (o x (hd A)) → T (stays v d (z ∷ r) o x A (k ∷ B))
-    → T (round v d (z ∷ r) o x (hd A))
-unfolding round
-round-i v d o x {z} {r = r} {A = A} g c t s =
-    and-i (o x (hd A)) (onLeg (stays v d (z ∷ r) o x) (hd A) (z ∷ r)) t (subst (λ (b : Bool). T b) (sym (leg-cut (stays v d (z ∷ r) o x) c g)) s)
+use Rattle.rules.proofs.Sound.{Behind, begin, past, other, all-sound}
+use Rattle.rules.proofs.Left.{stays-i, round-i}
 
 module _ (v : Van) (d : Day) (tri : Triangle d) {z : ℕ} {r R : List ℕ} (nodes : Distinct (d .n) (z ∷ R)) (rules : T (keeps v d (z ∷ R))) where
   -- along the round: behind, what it has passed; ahead, what is to come
@@ -32,8 +22,8 @@ module _ (v : Van) (d : Day) (tri : Triangle d) {z : ℕ} {r R : List ℕ} (node
   walk o g c at u (stop w) = stop (walk o g (cut-next c) (cut-next at) (past u) w)
   walk o {p} {q} {A} {A′} g c at u (extra {x = x} {k = k} {r = B} {R = B′} t w) =
       extra
-      (round-i v d o x g c t
-      (stays-sound v d tri o z x p k r R A B (record { nodes = nodes; rules = rules; leg = c; q = q; A′ = A′; B′ = B′; at = at; behind = u; ahead = w })))
+      (round-i v d z r o x g c t (stays-i v d (z ∷ r) o x (p ∷ A) (k ∷ B)
+      (λ s i. all-sound s i v d tri o z x p k r R A B (record { nodes = nodes; rules = rules; leg = c; q = q; A′ = A′; B′ = B′; at = at; behind = u; ahead = w }))))
       (walk o g c (cut-next at) (other t u) w)
 
   -- one round of settling

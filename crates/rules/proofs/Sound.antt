@@ -7,8 +7,8 @@ use mathlib.Core.Bool.{Bool, true, false, cond, not, _&&_, _||_}
 use mathlib.Core.List.{List, [], _∷_}
 use mathlib.Core.Logic.{_⊎_, inl, inr, ⊎-elim}
 use lib.Dec.{T, T-not, eqb, eqb→eq}
-use Rattle.laws.specs.Logic.{and-i, and-l, and-r, or-l, or-r, or-e, or-mono, tf, not-or-i, not-or-l, not-or-r, contra, imp-i, imp-imp-i, imp-else-i, cond-new}
-use Rattle.laws.specs.Lists.{mem, hd, all, In, in-first, in-none, Sub, nil, keep, skip, mem-sub, all-i}
+use Rattle.laws.specs.Logic.{and-i, and-l, and-r, or-l, or-r, or-e, or-mono, tf, not-or-i, not-or-l, not-or-r, contra, imp-i, cond-new}
+use Rattle.laws.specs.Lists.{mem, hd, all, In, Each, end, also, each-in, Sub, nil, keep, skip, mem-sub, all-i}
 use Rattle.rules.specs.Day.{Day, Van}
 use Rattle.rules.specs.Leg.{legsAhead, legsBehind}
 use Rattle.rules.specs.Time.{start}
@@ -19,8 +19,9 @@ use Rattle.rules.specs.Tests.{Test, window, short, cleanFits, clean, soi
 use Rattle.rules.specs.Asked.{Triangle}
 use Rattle.rules.specs.declared.Job.{Job}
 use Rattle.rules.specs.declared.Job.the-variants.{Clean, Soiled, Transfer}
-use Rattle.rules.proofs.Cuts.{Cut, move, cut-next, cut-ahead, cut-behind, cut-mem, mem-hd, mem-tl, legs-ahead, legs-behind}
+use Rattle.rules.proofs.Cuts.{Cut, move, cut-next, cut-ahead, cut-behind, cut-mem, mem-hd, mem-tl, mem-rest, legs-ahead, legs-behind}
 use Rattle.rules.proofs.Grows.{distinct-tail, distinct-off, off-sub, within-sub, window-fits, fits-sooner, time-fits, time-cut, start-grows, fits-grows, around-grows, cut-driven, short-around, room-new}
+use Rattle.rules.proofs.Transfers.{meets-i, supports-i}
 use Rattle.rules.proofs.Keeps.{keeps-time, keeps-metres, keeps-order, keeps-loads, distinct-behind, distinct-ahead, second-ahead, first-behind}
 
 -- the round's stops behind, the newest first, run through the route's, and each other node has an open place at the last of them before it
@@ -52,10 +53,6 @@ behind-sub (other h u) = skip (behind-sub u)
 
 behind-nil : {o : Places} {A′ : List ℕ} → Behind o [] A′ → ⊥
 behind-nil (other h u) = behind-nil u
-
--- in a list, and not its first entry
-mem-rest : (x y : ℕ) (l : List ℕ) → T (not (eqb y x)) → T (mem x (y ∷ l)) → T (mem x l)
-mem-rest x y l n m = ⊎-elim (λ e. absurd (T-not (eqb y x) n e)) (λ h. h) (or-e (eqb y x) (mem x l) m)
 
 -- ---- the load that a job of x needs fits along the route where it fits along the round
 
@@ -232,52 +229,19 @@ soiled-sound v d tri o z x p k r R A B u = all-i (soiledFits v d x (p ∷ A) (k 
     job (Transfer a b w) i = tt
 
 pub partnerPlaced-sound : Sound partnerPlaced
-partnerPlaced-sound v d tri o z x p k r R A B u = all-i (meetsPartner v d (z ∷ r) x (p ∷ A) (k ∷ B)) (d .jobs) job
-  where
-    job : (j : Job) → In j (d .jobs) → T (meetsPartner v d (z ∷ r) x (p ∷ A) (k ∷ B) j)
-    job (Clean a w) i = tt
-    job (Soiled a w) i = tt
-    job (Transfer a b w) i =
-        let ahead = reachAhead v d (λ p k. eqb k b) w (p ∷ A) (k ∷ B) in
-        let back = reachBack v d (λ p k. eqb p a) w (p ∷ A) (k ∷ B) in
-        and-i (not (eqb a x) || not (mem b (z ∷ r)) || ahead) (not (eqb b x) || not (mem a (z ∷ r)) || back)
-        (imp-imp-i (eqb a x) (mem b (z ∷ r)) ahead
-        (λ e m. let j = subst (λ (c : ℕ). In (Transfer c b w) (d .jobs)) (eqb→eq a x e) i in
-        placed-ahead v d j (skip (subBehind u)) (subAhead u) (mem-hd x (u .q ∷ u .A′)) (offBehind u) (distinct-off (freshAhead u)) (onAhead u b m (second u b w j)) (loadsAhead u)))
-        (imp-imp-i (eqb b x) (mem a (z ∷ r)) back
-        (λ e m. let j = subst (λ (c : ℕ). In (Transfer a c w) (d .jobs)) (eqb→eq b x e) i in
-        placed-back v d j (subBehind u) (skip (subAhead u)) (mem-hd x (u .B′)) (offAhead u) (distinct-off (freshBehind u)) (onBehind u a m (first u a w j)) (loadsBehind u)))
+partnerPlaced-sound v d tri o z x p k r R A B u = meets-i v d (z ∷ r) o x (p ∷ A) (k ∷ B) (record {
+  first = λ b w i m. placed-ahead v d i (skip (subBehind u)) (subAhead u) (mem-hd x (u .q ∷ u .A′)) (offBehind u) (distinct-off (freshAhead u)) (onAhead u b m (second u b w i)) (loadsAhead u);
+  second = λ a w i m. placed-back v d i (subBehind u) (skip (subAhead u)) (mem-hd x (u .B′)) (offAhead u) (distinct-off (freshBehind u)) (onBehind u a m (first u a w i)) (loadsBehind u);
+})
 
 pub neitherPlaced-sound : Sound neitherPlaced
-neitherPlaced-sound v d tri o z x p k r R A B u = all-i (hasSupport v d (z ∷ r) o x (p ∷ A) (k ∷ B)) (d .jobs) job
-  where
-    job : (j : Job) → In j (d .jobs) → T (hasSupport v d (z ∷ r) o x (p ∷ A) (k ∷ B) j)
-    job (Clean a w) i = tt
-    job (Soiled a w) i = tt
-    job (Transfer a b w) i =
-        let ahead = reachAhead v d (λ p k. o b p) w (p ∷ A) (k ∷ B) in
-        let back = reachBack v d (λ p k. o a p) w (p ∷ A) (k ∷ B) in
-        and-i (not (eqb a x) || mem b (z ∷ r) || ahead) (not (eqb b x) || mem a (z ∷ r) || back)
-        (imp-else-i (eqb a x) (mem b (z ∷ r)) ahead
-        (λ e n. let j = subst (λ (c : ℕ). In (Transfer c b w) (d .jobs)) (eqb→eq a x e) i in
-        open-ahead v d j (skip (subBehind u)) (u .ahead) (mem-hd x (u .q ∷ u .A′)) (offBehind u) (distinct-off (freshAhead u))
-        (contra (mem b (k ∷ B)) (mem b (z ∷ r)) (cut-ahead b (move (u .leg))) n) (second u b w j) (loadsAhead u)))
-        (imp-else-i (eqb b x) (mem a (z ∷ r)) back
-        (λ e n. let j = subst (λ (c : ℕ). In (Transfer a c w) (d .jobs)) (eqb→eq b x e) i in
-        open-back v d j (u .behind) (skip (subAhead u)) (mem-hd x (u .B′)) (offAhead u) (distinct-off (freshBehind u))
-        (contra (mem a (p ∷ A)) (mem a (z ∷ r)) (λ m. ⊎-elim (λ f. absurd f) (λ h. h) (cut-behind a (move (u .leg)) m)) n) (first u a w j) (loadsBehind u)))
+neitherPlaced-sound v d tri o z x p k r R A B u = supports-i v d (z ∷ r) o x (p ∷ A) (k ∷ B) (record {
+  first = λ b w i n. open-ahead v d i (skip (subBehind u)) (u .ahead) (mem-hd x (u .q ∷ u .A′)) (offBehind u) (distinct-off (freshAhead u))
+      (contra (mem b (k ∷ B)) (mem b (z ∷ r)) (cut-ahead b (move (u .leg))) n) (second u b w i) (loadsAhead u);
+  second = λ a w i n. open-back v d i (u .behind) (skip (subAhead u)) (mem-hd x (u .B′)) (offAhead u) (distinct-off (freshBehind u))
+      (contra (mem a (p ∷ A)) (mem a (z ∷ r)) (λ m. ⊎-elim (λ f. absurd f) (λ h. h) (cut-behind a (move (u .leg)) m)) n) (first u a w i) (loadsBehind u);
+})
 
 -- every test of settling is sound
 pub all-sound : (t : Test) → In t tests → Sound t
-all-sound t i =
-    in-first Sound i window-sound
-    (λ i. in-first Sound i short-sound
-    (λ i. in-first Sound i clean-sound
-    (λ i. in-first Sound i soiled-sound
-    (λ i. in-first Sound i partnerPlaced-sound
-    (λ i. in-first Sound i neitherPlaced-sound (λ i. absurd (in-none i)))))))
-
--- so the place stays
-pub stays-sound : Sound stays
-unfolding stays
-stays-sound v d tri o z x p k r R A B u = all-i (λ t. t v d (z ∷ r) o x (p ∷ A) (k ∷ B)) tests (λ t i. all-sound t i v d tri o z x p k r R A B u)
+all-sound t i = each-in {P = Sound} i (also window-sound (also short-sound (also clean-sound (also soiled-sound (also partnerPlaced-sound (also neitherPlaced-sound end))))))
