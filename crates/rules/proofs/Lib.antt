@@ -4,3 +4,4 @@ pub mod AlongLaws
 pub mod Transfers
 pub mod Left
 pub mod Twice
+pub mod Fixpoint
