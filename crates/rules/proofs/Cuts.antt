@@ -182,6 +182,11 @@ module _ (v : Van) (d : Day) (g : ℕ → ℕ → Bool) (w : ℕ) where
   way-back {A = A} (next {k = k} {B = B} r u) h =
       way-back u (and-i (room v d w (k ∷ A) B) (g k (hd B) || reachBack v d g w A (k ∷ B)) (way-room u) (or-r (g k (hd B)) (reachBack v d g w A (k ∷ B)) h))
 
+  -- from the end of a way, a leg where g holds is reached at its beginning
+  pub way-from : {p k : ℕ} {A B A′ B′ : List ℕ} → Way v d w (p ∷ A) (k ∷ B) A′ B′ → T (g p k) → T (reachBack v d g w A′ B′)
+  way-from {p = p} {k = k} {A = A} {B = B} u h =
+      way-back u (and-i (room v d w (p ∷ A) (k ∷ B)) (g p k || reachBack v d g w A (p ∷ k ∷ B)) (way-room u) (or-l (g p k) (reachBack v d g w A (p ∷ k ∷ B)) h))
+
   pub back-way : (A : List ℕ) (k : ℕ) (B : List ℕ) → T (reachBack v d g w A (k ∷ B)) → Source v d g w A (k ∷ B)
   back-way [] k B h = absurd h
   back-way (p ∷ A) k B h =

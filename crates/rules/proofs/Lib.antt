@@ -9,3 +9,4 @@ pub mod Sound
 pub mod NoneLost
 pub mod Around
 pub mod Complete
+pub mod Fixpoint

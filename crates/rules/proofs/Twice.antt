@@ -1,23 +1,22 @@
 -- At most two rounds of settling strike. Every test but 'neither placed' reads the route only, so what it strikes it strikes in the first
 -- round. 'Neither placed' strikes in the second what has lost its support; support goes both ways, so a place that is left then still
 -- has its support, and the third round strikes nothing.
-use mathlib.Core.Path.{_≡_, refl, subst, sym}
+use mathlib.Core.Path.{_≡_, ap}
 use Prim.Native.Nat.{ℕ, zero, suc, _*_, _≤_}
 use native.Mathlib.Omega.{arith}
-use mathlib.Core.Bool.{Bool, true, false, not, _&&_, _||_}
+use mathlib.Core.Bool.{Bool, true, false, not, _&&_}
 use mathlib.Core.List.{List, [], _∷_}
 use lib.Dec.{T, T-not}
-use Rattle.laws.specs.Logic.{and-i, and-l, and-r, or-l}
+use Rattle.laws.specs.Logic.{and-l, and-r}
 use Rattle.laws.specs.Lists.{hd, any, In, here, there, Each, end, also, each-in, any-none}
 use Rattle.rules.specs.Day.{Day, Van, inner}
-use Rattle.rules.specs.Load.{room, reachBack}
 use Rattle.rules.specs.Plan.{Places}
 use Rattle.rules.specs.Rounds.{Distinct}
 use Rattle.rules.specs.Tests.{Test, tests, window, short, clean, soiled, partnerPlaced, neitherPlaced, stays}
 use Rattle.rules.specs.Settle.{round, strikes, roundsIn, rounds}
 use Rattle.rules.specs.Asked.{OneEnd}
 use Rattle.rules.specs.declared.Job.the-variants.{Transfer}
-use Rattle.rules.proofs.Cuts.{Cut, cut-trans, cut-nil, Way, way-cut, way-room, way-reach, way-back, reach-way, back-way, way-source}
+use Rattle.rules.proofs.Cuts.{Cut, cut-trans, cut-nil, Way, way-cut, way-reach, way-from, reach-way, back-way, way-source}
 use Rattle.rules.proofs.Transfers.{Supports, supports-e, supports-i}
 use Rattle.rules.proofs.Left.{_⊆_, stays-e, stays-i, round-less, round-found, round-stays, round-i}
 
@@ -36,7 +35,7 @@ window-steady : Steady window
 window-steady v d rt o o′ x A [] h = h
 window-steady v d rt o o′ x A (k ∷ B) h = h
 
-all-rest : Each Rests tests
+pub all-rest : Each Rests tests
 all-rest =
     also (steady window-steady)
     (also (steady (λ v d rt o o′ x A B h. h))
@@ -69,15 +68,11 @@ module _ (v : Van) (d : Day) (one : OneEnd (d .jobs)) (z : ℕ) (r : List ℕ) (
   second-left {a} {b} {w} {p} {k} {k′} {A} {B} {A′} {B′} i way c ha hb =
       round-i v d z r o₁ b g c′ hb (restays v d (z ∷ r) o o₁ b A′ (k′ ∷ B′) (round-stays v d z r o b g c′ hb) (supports-i v d (z ∷ r) o₁ b A′ (k′ ∷ B′) (record {
         first = λ b′ w′ j. absurd (one .apart b b′ a w′ w j i);
-        second = λ a′ w′ j n. let q = one .seconds a a′ b w w′ i j in rw (← q .0, ← q .1) back;
+        second = λ a′ w′ j n. let q = one .seconds a a′ b w w′ i j in rw (← q .0, ← q .1) (way-from v d (λ p k. o₁ a p) w way ha);
       })))
     where
       c′ : Cut (z ∷ []) r A′ (k′ ∷ B′)
       c′ = cut-trans c (way-cut way)
-
-      back : T (reachBack v d (λ p k. o₁ a p) w A′ (k′ ∷ B′))
-      back = way-back v d (λ p k. o₁ a p) w way
-          (and-i (room v d w (p ∷ A) (k ∷ B)) (o₁ a p || reachBack v d (λ p k. o₁ a p) w A (p ∷ k ∷ B)) (way-room way) (or-l (o₁ a p) (reachBack v d (λ p k. o₁ a p) w A (p ∷ k ∷ B)) ha))
 
   -- and b's supports a's
   first-left : {a b w p k k′ : ℕ} {A B A′ B′ : List ℕ} → In (Transfer a b w) (d .jobs) → Way v d w (p ∷ A) (k ∷ B) A′ (k′ ∷ B′)
@@ -95,8 +90,7 @@ module _ (v : Van) (d : Day) (one : OneEnd (d .jobs)) (z : ℕ) (r : List ℕ) (
     first = λ b w i n. let u = reach-way v d (λ p k. o₁ b p) w (p ∷ A) (k ∷ B) (s .first b w i n) in
         way-reach v d (λ p k. o₂ b p) w (u .way) (second-left i (u .way) c hx (u .holds));
     second = λ a w i n. let u = back-way v d (λ p k. o₁ a p) w (p ∷ A) k B (s .second a w i n) in
-        way-back v d (λ p k. o₂ a p) w (u .way) (and-i (room v d w (u .p′ ∷ u .A′) (u .k′ ∷ u .B′)) (o₂ a (u .p′) || reachBack v d (λ p k. o₂ a p) w (u .A′) (u .p′ ∷ u .k′ ∷ u .B′)) (way-room (u .way))
-        (or-l (o₂ a (u .p′)) (reachBack v d (λ p k. o₂ a p) w (u .A′) (u .p′ ∷ u .k′ ∷ u .B′)) (first-left i (u .way) (way-source (u .way) c) hx (u .holds))));
+        way-from v d (λ p k. o₂ a p) w (u .way) (first-left i (u .way) (way-source (u .way) c) hx (u .holds));
   }))
     where
       s : Supports v d (z ∷ r) o₁ x (p ∷ A) (k ∷ B)
@@ -157,6 +151,18 @@ module _ (v : Van) (d : Day) (rt : List ℕ) where
     roundsIn-next f (round v d rt o),
     roundsIn-calm f (round v d rt (round v d rt o)) (calm v d rt (round v d rt (round v d rt o)) (third v d one rt g o)),
   )
+
+  -- any fuel from 2 on counts the same
+  pub roundsIn-fuel : OneEnd (d .jobs) → Distinct (d .n) rt → (f : ℕ) (o : Places) → 2 ≤ f → roundsIn f v d rt o ≡ roundsIn 2 v d rt o
+  unfolding roundsIn
+  roundsIn-fuel one g zero o h = absurd (omega arith)
+  roundsIn-fuel one g (suc zero) o h = absurd (omega arith)
+  roundsIn-fuel one g (suc (suc f)) o h =
+      ap (λ (m : ℕ). elim (strikes v d rt o) as (λ b. ℕ) [ true ↦ suc (elim (strikes v d rt (round v d rt o)) as (λ b. ℕ) [ true ↦ suc m | false ↦ 0 ]) | false ↦ 0 ])
+      (le-zero (roundsIn-calm f (round v d rt (round v d rt o)) (calm v d rt (round v d rt (round v d rt o)) (third v d one rt g o))))
+    where
+      le-zero : {m : ℕ} → m ≤ 0 → m ≡ 0
+      le-zero k = omega arith
 
 -- 01: the number of rounds that strike something is never above 2
 pub at-most-two : (v : Van) (d : Day) → OneEnd (d .jobs) → (rt : List ℕ) → Distinct (d .n) rt → (o : Places) → rounds v d rt o ≤ 2
