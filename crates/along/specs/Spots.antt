@@ -1,13 +1,13 @@
 -- Where each node stands on a route of n stops in an array, and how that tells which jobs are aboard on a leg.
 use mathlib.Core.Path.{_≡_, refl, sym, ap, _∙_, subst}
 use Prim.Native.Nat.{ℕ, zero, suc, _+_, _-_, _<_, _≤_}
-use mathlib.Core.Bool.{Bool, true, false, cond, _&&_, _||_}
+use mathlib.Core.Bool.{Bool, true, false, cond, _&&_, _||_, and-true}
 use mathlib.Core.List.{List, [], _∷_}
 use mathlib.Core.Logic.{⊎-elim, _⊎_, inl, inr}
 use native.Mathlib.Numerals.{add-one}
 use native.Mathlib.Omega.{arith}
 use lib.Dec.{T, T-not, leb, ltb, eqb, eqb→eq, eqb-refl, leb→le, le→leb, ltb→lt, lt→ltb}
-use borrow.Author.Tests.{eqb-true, eqb-false, eq-eqb, ne-eqb, lt-ltb, le-ltb}
+use borrow.Author.Tests.{eqb-true, eqb-false, eq-eqb, ne-eqb, ltb-true, ltb-false, lt-ltb, le-leb}
 use lib.ListN.{getD, set, replicate, take, drop, length, length-take, length-set, List·getD-eq-default}
 use lib.Seq.{getD-set-same, getD-set-other, getD-take, drop-cons}
 use Rattle.laws.specs.Logic.{decided, T-ext, or-l, or-r, or-e, true→T}
@@ -15,6 +15,7 @@ use Rattle.laws.specs.Lists.{mem}
 use Rattle.rules.specs.Rounds.{Distinct, none, more}
 use Rattle.rules.specs.Along.{behind}
 use Rattle.rules.specs.Load.{aboard}
+use Rattle.rules.proofs.AlongLaws.{mem-at, stops-apart}
 use Rattle.rules.specs.declared.Job.{Job}
 use Rattle.rules.specs.declared.Job.the-variants.{Clean, Soiled, Transfer}
 
@@ -28,6 +29,15 @@ spot l (suc n) x = cond (eqb (getD l n 0) x) n (spot l n x)
 pub record Spots (l : List ℕ) (n : ℕ) (a : List ℕ) : Type 0 where
   pub long : length a ≡ 64
   pub at : (x : ℕ) → getD a x 64 ≡ spot l n x
+
+-- an entry of the array, and what stands for a number past it
+pub spot-in : (a : List ℕ) (x : ℕ) → x < length a → getD a x 0 ≡ getD a x 64
+spot-in [] x h = absurd (omega arith)
+spot-in (y ∷ a) zero h = refl
+spot-in (y ∷ a) (suc x) h = spot-in a x (omega arith)
+
+pub spot-past : (a : List ℕ) (x : ℕ) → length a ≡ 64 → 64 ≤ x → 64 ≡ getD a x 64
+spot-past a x n h = sym (List·getD-eq-default a 64 {n = x} (omega arith))
 
 fresh-spot : (k x : ℕ) → _≡_ {A = ℕ} (getD (replicate k 64) x 64) 64
 fresh-spot zero x = refl
@@ -70,29 +80,16 @@ spot-cases l (suc n) x = decided (eqb (getD l n 0) x) (λ e. rw e (inr (omega ar
     go f (inr p) = inr (omega (arith, p .0), p .1)
 
 -- no node stands at two stops
-abbrev pub Apart : List ℕ → ℕ → Type 0
-Apart l n = (i j : ℕ) → i < n → j < n → getD l i 0 ≡ getD l j 0 → i ≡ j
+same-stop : {k : ℕ} {l : List ℕ} → Distinct k l → (i j : ℕ) → i < length l → j < length l → getD l i 0 ≡ getD l j 0 → i ≡ j
+same-stop {l = l} g i j h k e =
+    decided (ltb i j) (λ q. absurd (eqb-false (getD l i 0) (getD l j 0) (stops-apart g i j (ltb-true i j q) k) e))
+    (λ q. decided (ltb j i) (λ r. absurd (eqb-false (getD l j 0) (getD l i 0) (stops-apart g j i (ltb-true j i r) h) (sym e)))
+    (λ r. omega (arith, ltb-false i j q, ltb-false j i r)))
 
-mem-at : (l : List ℕ) (i : ℕ) → i < length l → T (mem (getD l i 0) l)
-mem-at [] i h = absurd (omega arith)
-mem-at (x ∷ l) zero h = or-l (eqb x x) (mem x l) (eqb-refl x)
-mem-at (x ∷ l) (suc i) h = or-r (eqb x (getD l i 0)) (mem (getD l i 0) l) (mem-at l i (omega arith))
-
-pub apart : {k : ℕ} {l : List ℕ} → Distinct k l → Apart l (length l)
-apart none i j h g e = absurd (omega arith)
-apart (more a b d) zero zero h g e = refl
-apart (more {x = x} {l = l} a b d) zero (suc j) h g e = absurd (T-not (mem x l) b (subst (λ (v : ℕ). T (mem v l)) (sym e) (mem-at l j (omega arith))))
-apart (more {x = x} {l = l} a b d) (suc i) zero h g e = absurd (T-not (mem x l) b (subst (λ (v : ℕ). T (mem v l)) e (mem-at l i (omega arith))))
-apart (more a b d) (suc i) (suc j) h g e = ap suc (apart d i j (omega arith) (omega arith) e)
-
-pub below-at : {k : ℕ} {l : List ℕ} → Distinct k l → (i : ℕ) → i < length l → getD l i 0 < k
-below-at none i h = absurd (omega arith)
-below-at (more a b d) zero h = a
-below-at (more a b d) (suc i) h = below-at d i (omega arith)
-
--- the spot of the node at a stop
-pub spot-at : (l : List ℕ) (n x i : ℕ) → Apart l n → i < n → getD l i 0 ≡ x → spot l n x ≡ i
-spot-at l n x i a h e = ⊎-elim (λ p. absurd (p .1 i h e)) (λ p. a (spot l n x) i (p .0) h (p .1 ∙ sym e)) (spot-cases l n x)
+pub node-low : {k : ℕ} {l : List ℕ} → Distinct k l → (i : ℕ) → i < length l → getD l i 0 < k
+node-low none i h = absurd (omega arith)
+node-low (more a b d) zero h = a
+node-low (more a b d) (suc i) h = node-low d i (omega arith)
 
 -- ---- membership in what is behind and ahead, by index
 
@@ -136,11 +133,27 @@ found-drop x (y ∷ l) (suc k) f = found-drop x l k (found-tail y l k x f)
 
 -- ---- the legs that a job is aboard on, as a stretch
 
+abbrev pub loadOf : Job → ℕ
+loadOf (Clean a w) = w
+loadOf (Soiled a w) = w
+loadOf (Transfer a b w) = w
+
 -- the first leg that does not lead to x any more: none does where x is not on the route
 abbrev pub till : ℕ → ℕ
 till k = cond (eqb k 64) 0 k
 
-module _ (l : List ℕ) (n : ℕ) (most : n ≤ 64) (fits : n ≤ length l) (sep : Apart l n) where
+-- the first leg that a job is aboard on, and the first behind those, where the nodes' spots on a route of n stops are in the array a
+abbrev pub comes : Job → List ℕ → ℕ
+comes (Clean x w) a = 0
+comes (Soiled x w) a = getD a x 64
+comes (Transfer x y w) a = getD a x 64
+
+abbrev pub goes : Job → List ℕ → ℕ → ℕ
+goes (Clean x w) a n = till (getD a x 64)
+goes (Soiled x w) a n = n - 1
+goes (Transfer x y w) a n = till (getD a y 64)
+
+module _ (l : List ℕ) (n : ℕ) (most : n ≤ 64) (fits : n ≤ length l) {k : ℕ} (nodes : Distinct k (take n l)) where
   abbrev m : List ℕ
   m = take n l
 
@@ -151,7 +164,9 @@ module _ (l : List ℕ) (n : ℕ) (most : n ≤ 64) (fits : n ≤ length l) (sep
   entry i h = getD-take n l i 0 h
 
   spot-found : (x k : ℕ) → k < n → getD m k 0 ≡ x → spot l n x ≡ k
-  spot-found x k h e = spot-at l n x k sep h (sym (entry k h) ∙ e)
+  spot-found x k h e =
+      ⊎-elim (λ p. absurd (p .1 k h (sym (entry k h) ∙ e)))
+      (λ p. same-stop nodes (spot l n x) k (omega (arith, p .0, size)) (omega (arith, size)) (entry (spot l n x) (p .0) ∙ p .1 ∙ sym e)) (spot-cases l n x)
 
   pub spot-behind : (x i : ℕ) → i < n → leb (spot l n x) i ≡ mem x (behind m (suc i))
   spot-behind x i h =
@@ -175,3 +190,9 @@ module _ (l : List ℕ) (n : ℕ) (most : n ≤ 64) (fits : n ≤ length l) (sep
 
       some-lt : spot l n x < n → T (ltb i (till (spot l n x))) → suc i ≤ spot l n x
       some-lt a t = let z : till (spot l n x) ≡ spot l n x = rw (ne-eqb (spot l n x) 64 (λ e. omega arith)) in omega (arith, z, ltb→lt i (till (spot l n x)) t)
+
+  -- a job is aboard on its stretch
+  pub aboard-is : (a : List ℕ) → Spots l n a → (j : Job) (i : ℕ) → i < n - 1 → aboard (behind m (suc i)) (drop (suc i) m) j ≡ cond (leb (comes j a) i && ltb i (goes j a n)) (loadOf j) 0
+  aboard-is a p (Clean x w) i h = rw (p .at x, spot-ahead x i, le-leb 0 i (omega arith))
+  aboard-is a p (Soiled x w) i h = rw (p .at x, spot-behind x i (omega arith), lt-ltb i (n - 1) h, and-true (mem x (behind m (suc i))))
+  aboard-is a p (Transfer x y w) i h = rw (p .at x, p .at y, spot-behind x i (omega arith), spot-ahead y i)
