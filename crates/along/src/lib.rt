@@ -2,4 +2,5 @@
 // that all load tests share.
 pub mod loads;
 pub mod spots;
+pub mod times;
 pub mod walks;
