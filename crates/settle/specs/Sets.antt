@@ -5,11 +5,11 @@ use mathlib.Core.Bool.{Bool, true, false, cond, _&&_}
 use mathlib.Core.List.{List}
 use native.Mathlib.Nat.{pow-succ'}
 use native.Mathlib.Omega.{arith}
-use lib.Dec.{eqb, ltb}
+use lib.Dec.{T, eqb, ltb}
 use borrow.Author.Tests.{eqb-true, eqb-false, ltb-true, ltb-false, lt-ltb, le-ltb}
 use lib.ListN.{getD, length, take, List·getD-eq-default}
 use lib.Seq.{ext-getD}
-use Rattle.laws.specs.Logic.{decided}
+use Rattle.laws.specs.Logic.{decided, true→T}
 use Rattle.laws.specs.Table.{tab, length-tab, getD-tab}
 use Rattle.bits.specs.Places.{has, with}
 use Rattle.bits.specs.Digits.{digits-ext}
@@ -75,3 +75,26 @@ sets-ext ws o n e far =
   where
     inside : (x p : ℕ) → (ltb p 64 && o x p) ≡ o x p
     inside x p = decided (ltb p 64) (λ t. ap (λ (b : Bool). b && o x p) t) (λ t. ap (λ (b : Bool). b && o x p) t ∙ sym (far x p (ltb-false p 64 t)))
+
+-- ---- places of nodes and legs below 64 are those of their words
+
+abbrev pub Small : Places → Type 0
+Small o = (x p : ℕ) → T (o x p) → (x < 64) × (p < 64)
+
+pub length-sets : (o : Places) → length (setsOf o) ≡ 64
+unfolding setsOf
+length-sets o = length-tab 64 (λ x. wordOf 64 (o x))
+
+pub places-sets : (o : Places) → Small o → (x p : ℕ) → placesOf (setsOf o) x p ≡ o x p
+unfolding setsOf
+places-sets o small x p = decided (ltb x 64) (λ t. near (ltb-true x 64 t)) (λ t. far (ltb-false x 64 t))
+  where
+    shut : (x < 64 → p < 64 → ⊥) → o x p ≡ false
+    shut n = decided (o x p) (λ t. let s = small x p (true→T _ t) in absurd (n (s .0) (s .1))) (λ t. t)
+
+    near : x < 64 → placesOf (tab 64 (λ x. wordOf 64 (o x))) x p ≡ o x p
+    near h = ap (λ (w : ℕ). has w p) (getD-tab 64 (λ x. wordOf 64 (o x)) 0 x h) ∙ word-has 64 (o x) p (omega arith)
+        ∙ decided (ltb p 64) (λ t. ap (λ (b : Bool). b && o x p) t) (λ t. ap (λ (b : Bool). b && o x p) t ∙ sym (shut (λ a b. omega (arith, ltb-false p 64 t))))
+
+    far : 64 ≤ x → placesOf (tab 64 (λ x. wordOf 64 (o x))) x p ≡ o x p
+    far h = ap (λ (w : ℕ). has w p) (List·getD-eq-default (tab 64 (λ x. wordOf 64 (o x))) 0 {n = x} (omega (arith, length-tab 64 (λ x. wordOf 64 (o x))))) ∙ has-none p ∙ sym (shut (λ a b. omega arith))
