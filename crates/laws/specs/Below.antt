@@ -59,3 +59,20 @@ pub below-make : (n : ℕ) (f : ℕ → Bool) → ((i : ℕ) → i < n → f i �
 unfolding allBelow
 below-make zero f h = refl
 below-make (suc n) f h = rw (below-make n f (λ i l. h i (le-step l))) (h n (le-refl (suc n)))
+
+-- tests that agree below n are one test there
+pub below-same : (n : ℕ) (f g : ℕ → Bool) → ((i : ℕ) → i < n → f i ≡ g i) → allBelow n f ≡ allBelow n g
+unfolding allBelow
+below-same zero f g h = refl
+below-same (suc n) f g h = rw (below-same n f g (λ i l. h i (le-step l)), h n (le-refl (suc n))) refl
+
+-- a test of two parts is the two tests
+pub below-both : (n : ℕ) (f g h : ℕ → Bool) → ((i : ℕ) → h i ≡ (f i && g i)) → allBelow n h ≡ (allBelow n f && allBelow n g)
+unfolding allBelow
+below-both zero f g h e = refl
+below-both (suc n) f g h e = rw (below-both n f g h e, e n) (cross (allBelow n f) (allBelow n g) (f n) (g n))
+  where
+    cross : (a b c d : Bool) → ((a && b) && (c && d)) ≡ ((a && c) && (b && d))
+    cross true true c d = refl
+    cross true false c d = sym (and-false c)
+    cross false b c d = refl
