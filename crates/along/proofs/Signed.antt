@@ -54,7 +54,7 @@ last-far d w (m ∷ B) k =
       w .seconds k m,
       last-far d w B m,
       mag-min (lastMoment d k) (lastStart d B m -ℤ pos (d .service k + d .seconds k m)) (mag (lastStart d B m) + (4294967296 + (d .service k + d .seconds k m))) (omega (arith, w .moment k))
-      (omega (arith, mag-sub (lastStart d B m) (d .service k + d .seconds k m))),
+          (omega (arith, mag-sub (lastStart d B m) (d .service k + d .seconds k m))),
     )
 
 -- L of a route of at most 64 stops is far from the ends of 64 bits
@@ -67,3 +67,7 @@ last-low d w l n i h = omega (arith, last-far d w (drop (suc i) (take n l)) (get
 -- what is stored of L is read back
 pub last-kept : (d : Day) → Low d → (l : List ℕ) (n i : ℕ) {z : ℤ} → n ≤ 64 → z ≡ lastAt d (take n l) i → toZ w64 (ofZ w64 z) ≡ lastAt d (take n l) i
 last-kept d w l n i {z} h e = rw e (back (lastAt d (take n l) i) (omega (arith, last-low d w l n i h)))
+
+-- and what is handed on of a last moment
+pub moment-kept : (d : Day) → Low d → (x : ℕ) {z : ℤ} → z ≡ lastMoment d x → toZ w64 (ofZ w64 z) ≡ lastMoment d x
+moment-kept d w x {z} e = rw e (back (lastMoment d x) (omega (arith, w .moment x)))

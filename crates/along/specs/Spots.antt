@@ -153,6 +153,15 @@ goes (Clean x w) a n = till (getD a x 64)
 goes (Soiled x w) a n = n - 1
 goes (Transfer x y w) a n = till (getD a y 64)
 
+till-low : (l : List ℕ) (n x : ℕ) → till (spot l n x) ≤ n - 1
+till-low l n x = decided (eqb (spot l n x) 64) (λ e. rw e (omega arith)) (λ e. rw e (⊎-elim (λ p. absurd (eqb-false (spot l n x) 64 e (p .0))) (λ p. omega (arith, p .0)) (spot-cases l n x)))
+
+-- no stretch goes past the last leg
+pub goes-low : (l : List ℕ) (n : ℕ) (a : List ℕ) → Spots l n a → (j : Job) → goes j a n ≤ n - 1
+goes-low l n a p (Clean x w) = rw (p .at x) (till-low l n x)
+goes-low l n a p (Soiled x w) = omega arith
+goes-low l n a p (Transfer x y w) = rw (p .at y) (till-low l n y)
+
 module _ (l : List ℕ) (n : ℕ) (most : n ≤ 64) (fits : n ≤ length l) {k : ℕ} (nodes : Distinct k (take n l)) where
   abbrev m : List ℕ
   m = take n l
@@ -172,7 +181,7 @@ module _ (l : List ℕ) (n : ℕ) (most : n ≤ 64) (fits : n ≤ length l) {k :
   spot-behind x i h =
       T-ext (leb (spot l n x) i) (mem x (behind m (suc i)))
       (λ t. ⊎-elim (λ p. absurd (omega (arith, p .0, leb→le (spot l n x) i t)))
-        (λ p. found-behind x m (suc i) (record { i = spot l n x; low = omega arith; high = omega (arith, leb→le (spot l n x) i t); is = entry (spot l n x) (p .0) ∙ p .1 })) (spot-cases l n x))
+      (λ p. found-behind x m (suc i) (record { i = spot l n x; low = omega arith; high = omega (arith, leb→le (spot l n x) i t); is = entry (spot l n x) (p .0) ∙ p .1 })) (spot-cases l n x))
       (λ t. let f = behind-found x m (suc i) t in le→leb (spot l n x) i (omega (arith, f .high, spot-found x (f .i) (omega (arith, f .high)) (f .is))))
 
   pub spot-ahead : (x i : ℕ) → ltb i (till (spot l n x)) ≡ mem x (drop (suc i) m)
@@ -180,7 +189,7 @@ module _ (l : List ℕ) (n : ℕ) (most : n ≤ 64) (fits : n ≤ length l) {k :
       T-ext (ltb i (till (spot l n x))) (mem x (drop (suc i) m))
       (λ t. ⊎-elim (λ p. absurd (none-lt (p .0) t)) (λ p. found-drop x m (suc i) (record { i = spot l n x; low = some-lt (p .0) t; high = omega (arith, p .0, size); is = entry (spot l n x) (p .0) ∙ p .1 })) (spot-cases l n x))
       (λ t. let f = drop-found x m (suc i) t in let g : f .i < n = omega (arith, f .high, size) in
-          let e = spot-found x (f .i) g (f .is) in lt→ltb i (till (spot l n x)) (subst (λ (k : ℕ). i < till k) (sym e) (near (f .i) g (f .low))))
+      let e = spot-found x (f .i) g (f .is) in lt→ltb i (till (spot l n x)) (subst (λ (k : ℕ). i < till k) (sym e) (near (f .i) g (f .low))))
     where
       none-lt : spot l n x ≡ 64 → T (ltb i (till (spot l n x))) → ⊥
       none-lt e t = let q = ltb→lt i (till (spot l n x)) t in let z : till (spot l n x) ≡ 0 = ap till e in omega (arith, q, z)
