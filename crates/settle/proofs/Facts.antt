@@ -56,6 +56,9 @@ module _ {s : List ℕ} {at : Layout} {l : List ℕ} {n : ℕ} {ws : List ℕ} {
   pub route-of : Route (at .nodes) l n
   route-of = record { long = r .long; some = two-stops; most = r .most; nodes = rw (nodes-are (r .laid)) (r .form .nodes) }
 
+  pub near-nodes : (i : ℕ) → i < n → getD l i 0 < 64
+  near-nodes i h = omega (arith, node-at route-of i h, nodes-most (r .laid))
+
   pub places-seen : Seen (dayOf s) m (placesOf ws)
   places-seen x p t =
       let a = leg-index p m (r .form .leg x p t) in

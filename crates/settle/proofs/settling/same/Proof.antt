@@ -1,53 +1,49 @@
+use mathlib.Core.Path.{_≡_, sym}
+use mathlib.Core.Bool.{true}
+use Prim.Native.Nat.{_-_, _≤_}
+use native.Mathlib.Omega.{arith}
+use lib.Dec.{eqb}
+use lib.ListN.{getD}
+use borrow.Author.Tests.{eq-eqb, ne-eqb}
+use Rattle.laws.specs.Below.{allBelow, below-none, below-next, below-fails, below-done}
 use Rattle.settle.proofs.settling.same.Statement.{statement}
 use Rattle.settle.proofs.settling.same.Tie as tie
-use Rattle.settle.proofs.settling.same.Reads as reads
-use Rattle.settle.proofs.settling.same.Lts as lts
 
 abbrev Inv-loop : tie.InvT-loop
-Inv-loop a b i₀ i = ?
+Inv-loop a b i₀ i = (i ≤ 64) × (allBelow i (λ k. eqb (getD a k 0) (getD b k 0)) ≡ true)
 
 abbrev μ-loop : tie.MeasureT-loop
-μ-loop a b i₀ i = ?
+μ-loop a b i₀ i = 64 - i
 
--- src/settling.rt:24:5
 loop-holds : tie.Need-loop-holds Inv-loop μ-loop
-loop-holds c = ?
+loop-holds c = (omega arith, below-none _)
 
--- src/settling.rt:25:12
 mul-if1 : tie.Need-mul-if1 Inv-loop μ-loop
-mul-if1 c = ?
+mul-if1 c = omega arith
 
--- src/settling.rt:25:12
 element-copy-out-if1 : tie.Need-element-copy-out-if1 Inv-loop μ-loop
-element-copy-out-if1 c = ?
+element-copy-out-if1 c = omega arith
 
--- src/settling.rt:25:20
 mul-if1-2 : tie.Need-mul-if1-2 Inv-loop μ-loop
-mul-if1-2 c = ?
+mul-if1-2 c = omega arith
 
--- src/settling.rt:25:20
 element-copy-out-if1-2 : tie.Need-element-copy-out-if1-2 Inv-loop μ-loop
-element-copy-out-if1-2 c = ?
+element-copy-out-if1-2 c = omega arith
 
--- src/settling.rt:26:13
 returns : tie.Need-returns Inv-loop μ-loop
-returns c = ?
+returns c = let a = c .before .before .before .before .before .args in sym (below-fails 64 (c .before .before .before .before .loop .i) (λ k. eqb (getD (a .a .now) k 0) (getD (a .b .now) k 0)) (omega arith) (ne-eqb _ _ (c .if1 .taken)))
 
--- src/settling.rt:28:9
 add-i : tie.Need-add-i Inv-loop μ-loop
-add-i c = ?
+add-i c = omega arith
 
--- src/settling.rt:24:5
 loop-less : tie.Need-loop-less Inv-loop μ-loop
-loop-less c = ?
+loop-less c = omega arith
 
--- src/settling.rt:24:5
 loop-again : tie.Need-loop-again Inv-loop μ-loop
-loop-again c = ?
+loop-again c = let a = c .before .before .before .before .before .args in (omega arith, below-next (c .before .before .before .before .loop .i) (λ k. eqb (getD (a .a .now) k 0) (getD (a .b .now) k 0)) (c .before .before .before .before .loop .inv .1) (eq-eqb _ _ (c .if1 .left)))
 
--- src/settling.rt:19:1
 returns-2 : tie.Need-returns-2 Inv-loop μ-loop
-returns-2 c = ?
+returns-2 c = below-done _ _ _ (c .before .loop .inv .0) (c .loop-test .left) (c .before .loop .inv .1)
 
 pub same-spec : {M : Type 1} → statement M
 same-spec =
