@@ -10,3 +10,4 @@ pub mod NoneLost
 pub mod Around
 pub mod Complete
 pub mod Fixpoint
+pub mod Placing
