@@ -11,3 +11,4 @@ pub mod Around
 pub mod Complete
 pub mod Fixpoint
 pub mod Placing
+pub mod StepRounds
