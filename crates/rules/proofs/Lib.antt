@@ -12,3 +12,4 @@ pub mod Complete
 pub mod Fixpoint
 pub mod Placing
 pub mod StepRounds
+pub mod Given
