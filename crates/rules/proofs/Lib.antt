@@ -10,3 +10,6 @@ pub mod NoneLost
 pub mod Around
 pub mod Complete
 pub mod Fixpoint
+pub mod Placing
+pub mod StepRounds
+pub mod Given

@@ -5,8 +5,8 @@ use mathlib.Core.Bool.{true, false, not, _&&_}
 use mathlib.Core.List.{List, [], _∷_}
 use native.Mathlib.Omega.{arith}
 use lib.Dec.{T, eqb, ltb}
-use lib.ListN.{length, getD, take, drop, length-take, length-drop}
-use lib.Seq.{getD-take, getD-drop}
+use lib.ListN.{length, getD, take, drop, length-take}
+use lib.Seq.{getD-take}
 use borrow.Author.Tests.{eqb-true, eqb-false, ltb-true, ltb-false, not-true}
 use Rattle.laws.specs.Logic.{T→true, true→T, false→N, decided, and-true}
 use Rattle.laws.specs.Lists.{In, here, there, mem}
@@ -22,8 +22,9 @@ use Rattle.rules.specs.Day.{Day, downFrom}
 use Rattle.rules.specs.Day as day
 use Rattle.rules.specs.Leg.{legStops}
 use Rattle.rules.specs.Rounds.{Distinct, none, more}
-use Rattle.rules.specs.Asked.{Formed}
+use Rattle.rules.specs.Asked.{Formed, endsWith}
 use Rattle.rules.proofs.AlongLaws.{leg-stops}
+use Rattle.rules.proofs.Given.{ends-at}
 use Rattle.stands.specs.Stands.{planOf, Held}
 
 -- entries below n, each once, are distinct nodes
@@ -88,12 +89,8 @@ module _ (d : Day) (b : Board) (small : d .n ≤ 64) (held : Held b) (form : boa
       take-first (b .stops) (b .route) (omega (arith, form .route .two)) (omega (arith, wide .route))
       ∙ ap (λ (z : ℕ). z ∷ take (b .stops - 1) (drop 1 (b .route))) (form .route .start)
 
-  last : T (mem (d .n - 1) (take (b .stops - 1) (drop 1 (b .route))))
-  last =
-      true→T _ (mem-at (d .n - 1) (b .stops - 2) (take (b .stops - 1) (drop 1 (b .route)))
-      (omega (arith, length-take (b .stops - 1) (drop 1 (b .route)), length-drop 1 (b .route), wide .route, form .route .two, form .route .most))
-      (getD-take (b .stops - 1) (drop 1 (b .route)) (b .stops - 2) 0 (omega (arith, form .route .two)) ∙ getD-drop 1 (b .route) (b .stops - 2) 0
-      ∙ ap (λ (i : ℕ). getD (b .route) i 0) (let e : 1 + (b .stops - 2) ≡ b .stops - 1 = omega (arith, form .route .two) in e) ∙ form .route .end))
+  last : T (endsWith (d .n - 1) (routeOf b))
+  last = ends-at (d .n - 1) (b .stops - 1) (routeOf b) (omega (arith, long, form .route .two)) (at (b .stops - 1) (omega (arith, form .route .two)) ∙ form .route .end)
 
   pub stands-formed : Formed d (planOf b)
   unfolding onRoute
