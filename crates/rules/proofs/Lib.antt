@@ -13,3 +13,4 @@ pub mod Fixpoint
 pub mod Placing
 pub mod StepRounds
 pub mod Given
+pub mod Placing
