@@ -14,3 +14,4 @@ pub mod Placing
 pub mod StepRounds
 pub mod Given
 pub mod Placing
+pub mod Fixpoint
