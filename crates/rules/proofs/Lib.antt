@@ -15,3 +15,5 @@ pub mod StepRounds
 pub mod Given
 pub mod Placing
 pub mod Fixpoint
+pub mod Longer
+pub mod Monotone
