@@ -8,40 +8,18 @@ use lib.Dec.{T, T-not, eqb}
 use Rattle.laws.specs.Logic.{not-or-i, not-or-l, not-or-r}
 use Rattle.laws.specs.Lists.{mem, hd, Sub, nil, keep, skip, mem-sub}
 use Rattle.rules.specs.Plan.{Places}
-use Rattle.rules.specs.Rounds.{Distinct, none, more, Within, stop, extra}
-use Rattle.rules.proofs.Cuts.{Cut, same, move, mem-hd, mem-tl, mem-ne, cut-next}
-use Rattle.rules.proofs.Grows.{distinct-tail, distinct-low, distinct-off, within-sub}
+use Rattle.rules.specs.Rounds.{Distinct, Within, stop, extra}
+use Rattle.rules.proofs.Cuts.{Cut, same, move, mem-hd, cut-next}
+use Rattle.rules.proofs.Grows.{within-sub}
+use Rattle.rules.proofs.Keeps.{distinct-behind, stays-behind}
 
--- ---- the two sides of a cut
-
-pub record Sides (n : ℕ) (A B : List ℕ) : Type 0 where
-  pub behind : Distinct n A
-  pub ahead : Distinct n B
-  pub apart : (x : ℕ) → T (mem x B) → T (not (mem x A))
-
-sides-start : {n z : ℕ} {r : List ℕ} → Distinct n (z ∷ r) → Sides n (z ∷ []) r
-sides-start {n} {z} {r} g = record {
-  behind = more (distinct-low g) tt none;
-  ahead = distinct-tail g;
-  apart = λ x m. not-or-i (eqb z x) false (mem-ne z x r (distinct-off g) m) tt;
-}
-
-sides-next : {n : ℕ} {A B A′ B′ : List ℕ} → Cut A B A′ B′ → Sides n A B → Sides n A′ B′
-sides-next same s = s
-sides-next (move {k = k} {A = A} {B = B} c) s = sides-next c (record {
-  behind = more (distinct-low (s .ahead)) (s .apart k (mem-hd k B)) (s .behind);
-  ahead = distinct-tail (s .ahead);
-  apart = λ x m. not-or-i (eqb k x) (mem x A) (mem-ne k x B (distinct-off (s .ahead)) m) (s .apart x (mem-tl x k B m));
-})
-
-pub sides : {n z : ℕ} {r A B : List ℕ} → Distinct n (z ∷ r) → Cut (z ∷ []) r A B → Sides n A B
-sides g c = sides-next c (sides-start g)
+-- ---- a node off the route
 
 cut-off : (x : ℕ) {A B A′ B′ : List ℕ} → Cut A B A′ B′ → T (not (mem x A)) → T (not (mem x B)) → T (not (mem x A′)) × T (not (mem x B′))
 cut-off x same a b = (a, b)
 cut-off x (move {k = k} {A = A} {B = B} c) a b = cut-off x c (not-or-i (eqb k x) (mem x A) (not-or-l (eqb k x) (mem x B) b) a) (not-or-r (eqb k x) (mem x B) b)
 
--- a node off the route is on neither side
+-- it is on neither side of a cut
 pub off-sides : (x : ℕ) {z : ℕ} {r A B : List ℕ} → T (not (mem x (z ∷ r))) → Cut (z ∷ []) r A B → T (not (mem x A)) × T (not (mem x B))
 off-sides x {z} {r} h c = cut-off x c (not-or-i (eqb z x) false (not-or-l (eqb z x) (mem x r) h) tt) (not-or-r (eqb z x) (mem x r) h)
 
@@ -54,21 +32,17 @@ pub record Lies (z : ℕ) (e r A′ B′ A B : List ℕ) : Type 0 where
   pub behind : Sub A A′
   pub ahead : Sub B B′
 
-cut-mem : (x : ℕ) {A B A′ B′ : List ℕ} → Cut A B A′ B′ → T (mem x A) → T (mem x A′)
-cut-mem x same m = m
-cut-mem x (move {k = k} {A = A} c) m = cut-mem x c (mem-tl x k A m)
-
-cut-one : {n : ℕ} {A B A₁ B₁ A₂ B₂ A′ B′ : List ℕ} → Cut A B A₁ B₁ → Cut A B A₂ B₂ → Sides n A′ B′ → Sub A₁ A′ → Sub B₁ B′ → Sub A₂ A′ → Sub B₂ B′ → (A₁ ≡ A₂) × (B₁ ≡ B₂)
+cut-one : {A B A₁ B₁ A₂ B₂ A′ B′ : List ℕ} → Cut A B A₁ B₁ → Cut A B A₂ B₂ → ((x : ℕ) → T (mem x B′) → T (not (mem x A′))) → Sub A₁ A′ → Sub B₁ B′ → Sub A₂ A′ → Sub B₂ B′ → (A₁ ≡ A₂) × (B₁ ≡ B₂)
 cut-one same same s a₁ b₁ a₂ b₂ = (refl, refl)
 cut-one (move c₁) (move c₂) s a₁ b₁ a₂ b₂ = cut-one c₁ c₂ s a₁ b₁ a₂ b₂
 cut-one {A′ = A′} same (move {k = k} {A = A} {B = B} c) s a₁ b₁ a₂ b₂ =
-    absurd (T-not (mem k A′) (s .apart k (mem-sub k b₁ (mem-hd k B))) (mem-sub k a₂ (cut-mem k c (mem-hd k A))))
+    absurd (T-not (mem k A′) (s k (mem-sub k b₁ (mem-hd k B))) (mem-sub k a₂ (stays-behind k c (mem-hd k A))))
 cut-one {A′ = A′} (move {k = k} {A = A} {B = B} c) same s a₁ b₁ a₂ b₂ =
-    absurd (T-not (mem k A′) (s .apart k (mem-sub k b₂ (mem-hd k B))) (mem-sub k a₁ (cut-mem k c (mem-hd k A))))
+    absurd (T-not (mem k A′) (s k (mem-sub k b₂ (mem-hd k B))) (mem-sub k a₁ (stays-behind k c (mem-hd k A))))
 
 -- a leg lies in one leg
 pub lies-one : {n z : ℕ} {e r A′ B′ A₁ B₁ A₂ B₂ : List ℕ} → Distinct n (z ∷ e) → Lies z e r A′ B′ A₁ B₁ → Lies z e r A′ B′ A₂ B₂ → (A₁ ≡ A₂) × (B₁ ≡ B₂)
-lies-one g l m = cut-one (l .short) (m .short) (sides g (l .long)) (l .behind) (l .ahead) (m .behind) (m .ahead)
+lies-one g l m = cut-one (l .short) (m .short) (distinct-behind g (l .long) .1) (l .behind) (l .ahead) (m .behind) (m .ahead)
 
 -- ---- the stops in between
 
@@ -116,7 +90,7 @@ pub follow : {n z p k k′ : ℕ} {o : Places} {e r A′ B′ A B : List ℕ} �
     → Past o z (p ∷ A) A′ × Within o p (k ∷ B) (k′ ∷ B′)
 follow {z = z} {p = p} {k = k} {k′ = k′} {o = o} {A′ = A′} {B′ = B′} {B = B} g w l =
     let s = stands (l .long) w same first in
-    let q = cut-one (s .cut) (l .short) (sides g (l .long)) (past-sub (s .past)) (within-sub (s .rest)) (l .behind) (l .ahead) in (
+    let q = cut-one (s .cut) (l .short) (distinct-behind g (l .long) .1) (past-sub (s .past)) (within-sub (s .rest)) (l .behind) (l .ahead) in (
       subst (λ (m : List ℕ). Past o z m A′) (q .0) (s .past),
       subst (λ (m : ℕ). Within o m (k ∷ B) (k′ ∷ B′)) (ap hd (q .0)) (subst (λ (m : List ℕ). Within o (s .p) m (k′ ∷ B′)) (q .1) (s .rest)),
     )

@@ -20,10 +20,11 @@ use Rattle.rules.specs.Asked.{Triangle}
 use Rattle.rules.specs.declared.Job.{Job}
 use Rattle.rules.specs.declared.Job.the-variants.{Clean, Soiled, Transfer}
 use Rattle.rules.proofs.Cuts.{Cut, cut-next, cut-pred, cut-ahead, cut-behind, mem-hd, mem-tl}
-use Rattle.rules.proofs.Grows.{within-sub, window-fits, fits-sooner, start-grows, fits-grows, short-around, around-grows, room-grows}
+use Rattle.rules.proofs.Grows.{distinct-tail, within-sub, window-fits, fits-sooner, start-grows, fits-grows, short-around, around-grows, room-grows}
 use Rattle.rules.proofs.Transfers.{Meets, meets-e, meets-i, Supports, supports-e, supports-i}
 use Rattle.rules.proofs.Left.{stays-e, stays-i}
-use Rattle.rules.proofs.Longer.{Sides, sides, off-sides, Lies, Past, first, halt, between, past-sub, follow}
+use Rattle.rules.proofs.Keeps.{distinct-behind, distinct-ahead}
+use Rattle.rules.proofs.Longer.{off-sides, Lies, Past, first, halt, between, past-sub, follow}
 
 -- the route z ∷ e with the places W is longer than z ∷ r with the places o: its further stops stand in open places of o, and each place of W
 -- comes from one of o
@@ -110,10 +111,10 @@ module _ (v : Van) (d : Day) (tri : Triangle d) (z : ℕ) (r e : List ℕ) (o W 
   passes = stays-e v d (z ∷ e) W y (q ∷ A′) (k′ ∷ B′) st
 
   behind-y : Distinct (d .n) (y ∷ q ∷ A′)
-  behind-y = more low (off-sides y off (l .long) .0) (sides (over .nodes) (l .long) .behind)
+  behind-y = more low (off-sides y off (l .long) .0) (distinct-behind (over .nodes) (l .long) .0)
 
   ahead-y : Distinct (d .n) (y ∷ k′ ∷ B′)
-  ahead-y = more low (off-sides y off (l .long) .1) (sides (over .nodes) (l .long) .ahead)
+  ahead-y = more low (off-sides y off (l .long) .1) (distinct-ahead (distinct-tail (over .nodes)) (l .long))
 
   window-grows : T (window v d (z ∷ r) o y (p ∷ A) (k ∷ B))
   window-grows = window-fits v d (z ∷ r) o y (p ∷ A) (k ∷ B) .1
