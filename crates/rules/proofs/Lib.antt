@@ -14,6 +14,9 @@ pub mod Placing
 pub mod StepRounds
 pub mod Given
 pub mod Placing
+pub mod StepRounds
 pub mod Fixpoint
 pub mod Longer
 pub mod Monotone
+pub mod Forms
+pub mod Runs

@@ -4,12 +4,13 @@ use mathlib.Core.Path.{_≡_, refl, subst, ap}
 use Prim.Native.Nat.{ℕ}
 use mathlib.Core.Bool.{false, not}
 use mathlib.Core.List.{List, [], _∷_}
+use mathlib.Core.Logic.{⊎-elim}
 use lib.Dec.{T, T-not, eqb}
-use Rattle.laws.specs.Logic.{not-or-i, not-or-l, not-or-r}
-use Rattle.laws.specs.Lists.{mem, hd, Sub, nil, keep, skip, mem-sub}
+use Rattle.laws.specs.Logic.{or-l, or-e, not-or-i, not-or-l, not-or-r}
+use Rattle.laws.specs.Lists.{mem, hd, Sub, nil, keep, skip, sub-refl, sub-trans, mem-sub}
 use Rattle.rules.specs.Plan.{Places}
-use Rattle.rules.specs.Rounds.{Distinct, Within, stop, extra}
-use Rattle.rules.proofs.Cuts.{Cut, same, move, mem-hd, cut-next}
+use Rattle.rules.specs.Rounds.{Distinct, Within, done, stop, extra}
+use Rattle.rules.proofs.Cuts.{Cut, same, move, mem-hd, mem-tl, cut-next, cut-ahead, cut-behind}
 use Rattle.rules.proofs.Grows.{within-sub}
 use Rattle.rules.proofs.Keeps.{distinct-behind, stays-behind}
 
@@ -44,7 +45,30 @@ cut-one {A′ = A′} (move {k = k} {A = A} {B = B} c) same s a₁ b₁ a₂ b�
 pub lies-one : {n z : ℕ} {e r A′ B′ A₁ B₁ A₂ B₂ : List ℕ} → Distinct n (z ∷ e) → Lies z e r A′ B′ A₁ B₁ → Lies z e r A′ B′ A₂ B₂ → (A₁ ≡ A₂) × (B₁ ≡ B₂)
 lies-one g l m = cut-one (l .short) (m .short) (distinct-behind g (l .long) .1) (l .behind) (l .ahead) (m .behind) (m .ahead)
 
+-- the same leg
+pub lies-same : {z : ℕ} {r A B : List ℕ} → Cut (z ∷ []) r A B → Lies z r r A B A B
+lies-same {A = A} {B = B} c = record { long = c; short = c; behind = sub-refl A; ahead = sub-refl B }
+
+pub lies-trans : {z : ℕ} {e r r₀ A″ B″ A′ B′ A B : List ℕ} → Lies z e r A″ B″ A′ B′ → Lies z r r₀ A′ B′ A B → Lies z e r₀ A″ B″ A B
+lies-trans l m = record { long = l .long; short = m .short; behind = sub-trans (m .behind) (l .behind); ahead = sub-trans (m .ahead) (l .ahead) }
+
+-- its two stops are on the route
+pub entered-on : {z k : ℕ} {r A B : List ℕ} → Cut (z ∷ []) r A (k ∷ B) → T (mem k (z ∷ r))
+entered-on {z} {k} {r} {B = B} c = mem-tl k z r (cut-ahead k c (mem-hd k B))
+
+pub left-on : {z p : ℕ} {r A B : List ℕ} → Cut (z ∷ []) r (p ∷ A) B → T (mem p (z ∷ r))
+left-on {z} {p} {r} {A} c = ⊎-elim (λ m. ⊎-elim (or-l (eqb z p) (mem p r)) (λ n. absurd n) (or-e (eqb z p) false m)) (mem-tl p z r) (cut-behind p c (mem-hd p A))
+
 -- ---- the stops in between
+
+-- each leg of the route z ∷ e: where a node has a place of W, it has one of o in the leg of z ∷ r in which it lies
+abbrev pub Comes : ℕ → List ℕ → List ℕ → Places → Places → Type 0
+Comes z e r W o = (q k′ p k : ℕ) (A′ B′ A B : List ℕ) → Lies z e r (q ∷ A′) (k′ ∷ B′) (p ∷ A) (k ∷ B) → (y : ℕ) → T (W y q) → T (o y p)
+
+-- a route has its own stops only
+pub within-self : (o : Places) (p : ℕ) (l : List ℕ) → Within o p l l
+within-self o p [] = done
+within-self o p (k ∷ l) = stop (within-self o k l)
 
 -- the stops A′ behind run through the stops A; each other one has an open place at the stop before it of the shorter route
 pub data Past (o : Places) (z : ℕ) : List ℕ → List ℕ → Type 0 where

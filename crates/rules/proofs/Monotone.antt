@@ -19,12 +19,12 @@ use Rattle.rules.specs.Tests.{Test, tests, window, short, clean, cleanFi
 use Rattle.rules.specs.Asked.{Triangle}
 use Rattle.rules.specs.declared.Job.{Job}
 use Rattle.rules.specs.declared.Job.the-variants.{Clean, Soiled, Transfer}
-use Rattle.rules.proofs.Cuts.{Cut, cut-next, cut-pred, cut-ahead, cut-behind, mem-hd, mem-tl}
+use Rattle.rules.proofs.Cuts.{Cut, cut-next, cut-pred}
 use Rattle.rules.proofs.Grows.{distinct-tail, within-sub, window-fits, fits-sooner, start-grows, fits-grows, short-around, around-grows, room-grows}
 use Rattle.rules.proofs.Transfers.{Meets, meets-e, meets-i, Supports, supports-e, supports-i}
 use Rattle.rules.proofs.Left.{stays-e, stays-i}
 use Rattle.rules.proofs.Keeps.{distinct-behind, distinct-ahead}
-use Rattle.rules.proofs.Longer.{off-sides, Lies, Past, first, halt, between, past-sub, follow}
+use Rattle.rules.proofs.Longer.{off-sides, Lies, entered-on, left-on, Comes, Past, first, halt, between, past-sub, follow}
 
 -- the route z ∷ e with the places W is longer than z ∷ r with the places o: its further stops stand in open places of o, and each place of W
 -- comes from one of o
@@ -32,7 +32,7 @@ pub record Over (d : Day) (z : ℕ) (r e : List ℕ) (o W : Places) : Type 0 whe
   pub nodes : Distinct (d .n) (z ∷ e)
   pub inside : Within o z r e
   pub off : (y q : ℕ) → T (o y q) → T (not (mem y (z ∷ r)))
-  pub places : (q k′ p k : ℕ) (A′ B′ A B : List ℕ) → Lies z e r (q ∷ A′) (k′ ∷ B′) (p ∷ A) (k ∷ B) → (y : ℕ) → T (W y q) → T (o y p)
+  pub places : Comes z e r W o
 
 -- the law, of a test
 abbrev pub Monotone : Test → Type 0
@@ -164,12 +164,6 @@ module _ (v : Van) (d : Day) (tri : Triangle d) (z : ℕ) (r e : List ℕ) (o W 
   stands-between : (x : ℕ) → T (not (mem x (z ∷ r))) → (m′ m p : ℕ) → T (mem m (z ∷ r)) → (m′ ≡ m) ⊎ T (o m′ p) → T (eqb m′ x) → T (o x p)
   stands-between x out m′ m p on (inl c) t = let e : m ≡ x = sym c ∙ eqb→eq m′ x t in absurd (T-not (mem x (z ∷ r)) out (rw e at on))
   stands-between x out m′ m p on (inr c) t = rw (eqb→eq m′ x t) at c
-
-  entered-on : {k p : ℕ} {A B : List ℕ} → Cut (z ∷ []) r (p ∷ A) (k ∷ B) → T (mem k (z ∷ r))
-  entered-on {k = k} {B = B} c = mem-tl k z r (cut-ahead k c (mem-hd k B))
-
-  left-on : {k p : ℕ} {A B : List ℕ} → Cut (z ∷ []) r (p ∷ A) (k ∷ B) → T (mem p (z ∷ r))
-  left-on {p = p} {A = A} c = ⊎-elim (λ m. ⊎-elim (or-l (eqb z p) (mem p r)) (λ n. absurd n) (or-e (eqb z p) false m)) (mem-tl p z r) (cut-behind p c (mem-hd p A))
 
   partner-grows : T (partnerPlaced v d (z ∷ r) o y (p ∷ A) (k ∷ B))
   partner-grows = meets-i v d (z ∷ r) o y (p ∷ A) (k ∷ B) (record {
