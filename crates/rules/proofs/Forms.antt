@@ -14,7 +14,7 @@ use Rattle.rules.specs.Plan.{Plan, Places}
 use Rattle.rules.specs.Rounds.{Distinct, more}
 use Rattle.rules.specs.Steps.{putAfter, split, placed, closed, excluded, required}
 use Rattle.rules.specs.Settle.{settled}
-use Rattle.rules.specs.Asked.{Formed}
+use Rattle.rules.specs.Asked.{endsWith, Formed}
 use Rattle.rules.proofs.Cuts.{mem-hd, mem-tl, mem-ne}
 use Rattle.rules.proofs.Left.{_⊆_}
 use Rattle.rules.proofs.Placing.{Ins, at, on, Put, put-ins, split-ne, split-e, split-half}
@@ -63,6 +63,10 @@ ins-distinct at low h g = more low h g
 ins-distinct {x = x} (on {k = k} {r = r} i) low h (more a b g) =
     more a (ins-off k i (ne-sym k x (not-or-l (eqb k x) (mem x r) h)) b) (ins-distinct i low (not-or-r (eqb k x) (mem x r) h) g)
 
+ins-ends : {p x c : ℕ} {r r′ : List ℕ} (e : ℕ) → Ins p x c r r′ → T (endsWith e (c ∷ r)) → T (endsWith e (c ∷ r′))
+ins-ends e at h = h
+ins-ends e (on i) h = ins-ends e i h
+
 -- its legs are the old ones, the split one under both names
 ins-leg : {p x c : ℕ} {r r′ : List ℕ} (q : ℕ) → Ins p x c r r′ → T (mem q (legStops (c ∷ r))) → T (mem q (legStops (c ∷ r′)))
 ins-leg {p} {x} q (at {k = k} {r = r}) h =
@@ -92,7 +96,7 @@ pub placed-formed : (d : Day) (a : Plan) (p x : ℕ) → Formed d a → T (a .pl
 placed-formed d a p x f t = record {
   tail = u .rest;
   starts = is;
-  ends = mem-sub (d .n - 1) (ins-sub (u .ins)) (f .ends);
+  ends = rw is (ins-ends (d .n - 1) (u .ins) (rw (f .starts) at (f .ends)));
   nodes = rw is (l .nodes);
   inside = l .inside;
   off = λ y q h. rw is (l .off y q h);
