@@ -98,3 +98,9 @@ pub mem-sub : (x : ℕ) {l m : List ℕ} → Sub l m → T (mem x l) → T (mem 
 mem-sub x nil h = h
 mem-sub x (keep {x = y} {l = l} {m = m} s) h = or-mono (eqb y x) (mem x l) (eqb y x) (mem x m) (λ t. t) (mem-sub x s) h
 mem-sub x (skip {x = y} {m = m} s) h = or-r (eqb y x) (mem x m) (mem-sub x s h)
+
+pub sub-trans : {l m n : List ℕ} → Sub l m → Sub m n → Sub l n
+sub-trans u nil = u
+sub-trans (keep u) (keep v) = keep (sub-trans u v)
+sub-trans (skip u) (keep v) = skip (sub-trans u v)
+sub-trans u (skip v) = skip (sub-trans u v)

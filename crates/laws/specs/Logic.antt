@@ -4,7 +4,7 @@ use Prim.Native.Nat.{ℕ, _+_, _≤_}
 use native.Mathlib.Omega.{arith}
 use mathlib.Core.Bool.{Bool, true, false, cond, not, _&&_, _||_}
 use mathlib.Core.Logic.{_⊎_, inl, inr, _≢_}
-use lib.Dec.{T, T-not, eqb, eqb-refl}
+use lib.Dec.{T, T-not, eqb, eqb→eq, eqb-refl}
 
 -- ---- from one form to the other, and both cases of a test
 
@@ -127,6 +127,9 @@ imp-imp-e false b c h t n = absurd t
 -- two numbers that a test tells apart
 pub neqb : (m n : ℕ) → T (not (eqb m n)) → m ≢ n
 neqb m n h e = absurd (subst (λ (k : ℕ). T (not (eqb m k)) → ⊥) e (λ t. T-not (eqb m m) t (eqb-refl m)) h)
+
+pub ne-sym : (m n : ℕ) → T (not (eqb m n)) → T (not (eqb n m))
+ne-sym m n = contra (eqb n m) (eqb m n) (λ e. rw (eqb→eq n m e) (eqb-refl m))
 
 -- ---- a choice by a test
 

@@ -54,7 +54,7 @@ distinct-ahead (more a b g) (move c) = distinct-ahead g c
 
 -- ---- the partners of a transfer at a cut
 
-stays-behind : (y : ℕ) {A B A′ B′ : List ℕ} → Cut A B A′ B′ → T (mem y A) → T (mem y A′)
+pub stays-behind : (y : ℕ) {A B A′ B′ : List ℕ} → Cut A B A′ B′ → T (mem y A) → T (mem y A′)
 stays-behind y same m = m
 stays-behind y {A = A} (move {k = k} c) m = stays-behind y c (mem-tl y k A m)
 

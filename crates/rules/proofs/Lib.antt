@@ -9,7 +9,11 @@ pub mod Sound
 pub mod NoneLost
 pub mod Around
 pub mod Complete
-pub mod Fixpoint
 pub mod Placing
 pub mod StepRounds
 pub mod Given
+pub mod Fixpoint
+pub mod Longer
+pub mod Monotone
+pub mod Forms
+pub mod Runs

@@ -87,7 +87,7 @@ module _ (o : Places) (p x : ℕ) where
   half-old h (stop w) = stop (after-old h w)
   half-old h (extra {x = y} t w) = extra (split-half p x o y t) (half-old h w)
 
-  place-old : {c : ℕ} {r r′ R : List ℕ} → T (o x p) → T (not (mem x (c ∷ r))) → Ins p x c r r′ → Within (split p x o) c r′ R → Within o c r R
+  pub place-old : {c : ℕ} {r r′ R : List ℕ} → T (o x p) → T (not (mem x (c ∷ r))) → Ins p x c r r′ → Within (split p x o) c r′ R → Within o c r R
   place-old t h (at {k = k} {r = r}) (stop w) = extra t (half-old (not-or-r (eqb p x) (mem x (k ∷ r)) h) w)
   place-old t h (at {k = k} {r = r}) (extra {x = y} u w) = extra (split-e p x o y p (not-or-l (eqb p x) (mem x (k ∷ r)) h) u) (place-old t h at w)
   place-old {c} t h (on {k = k} {r = r} i) (stop w) = stop (place-old t (not-or-r (eqb c x) (mem x (k ∷ r)) h) i w)
