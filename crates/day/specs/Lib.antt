@@ -8,3 +8,6 @@ pub mod Fit
 pub mod Tables
 pub mod Row
 pub mod Refuse
+pub mod Tell
+pub mod Range
+pub mod Section
