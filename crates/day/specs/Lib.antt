@@ -11,3 +11,4 @@ pub mod Refuse
 pub mod Tell
 pub mod Range
 pub mod Section
+pub mod Asked

@@ -76,11 +76,6 @@ below-split n f u s (suc k) h =
 
 pub below-all : (n : ℕ) (f u : ℕ → Bool) → ((i : ℕ) → i < n → u i ≡ (f i && u (suc i))) → u n ≡ true → u 0 ≡ allBelow n f
 below-all n f u s e = sym (below-split n f u s n (le-refl n)) ∙ ap (λ (b : Bool). allBelow n f && b) e ∙ and-true (allBelow n f)
--- tests that agree below n are one test there
-pub below-same : (n : ℕ) (f g : ℕ → Bool) → ((i : ℕ) → i < n → f i ≡ g i) → allBelow n f ≡ allBelow n g
-unfolding allBelow
-below-same zero f g h = refl
-below-same (suc n) f g h = rw (below-same n f g (λ i l. h i (le-step l)), h n (le-refl (suc n))) refl
 
 -- a test of two parts is the two tests
 pub below-both : (n : ℕ) (f g h : ℕ → Bool) → ((i : ℕ) → h i ≡ (f i && g i)) → allBelow n h ≡ (allBelow n f && allBelow n g)
