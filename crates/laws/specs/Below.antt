@@ -76,3 +76,14 @@ below-split n f u s (suc k) h =
 
 pub below-all : (n : ℕ) (f u : ℕ → Bool) → ((i : ℕ) → i < n → u i ≡ (f i && u (suc i))) → u n ≡ true → u 0 ≡ allBelow n f
 below-all n f u s e = sym (below-split n f u s n (le-refl n)) ∙ ap (λ (b : Bool). allBelow n f && b) e ∙ and-true (allBelow n f)
+
+-- a test of two parts is the two tests
+pub below-both : (n : ℕ) (f g h : ℕ → Bool) → ((i : ℕ) → h i ≡ (f i && g i)) → allBelow n h ≡ (allBelow n f && allBelow n g)
+unfolding allBelow
+below-both zero f g h e = refl
+below-both (suc n) f g h e = rw (below-both n f g h e, e n) (cross (allBelow n f) (allBelow n g) (f n) (g n))
+  where
+    cross : (a b c d : Bool) → ((a && b) && (c && d)) ≡ ((a && c) && (b && d))
+    cross true true c d = refl
+    cross true false c d = sym (and-false c)
+    cross false b c d = refl

@@ -1,5 +1,5 @@
 -- Tests put together and taken apart. A test is a Bool; `T b` says that it passed, as `b ≡ true` does.
-use mathlib.Core.Path.{_≡_, refl, subst}
+use mathlib.Core.Path.{_≡_, refl, sym, subst}
 use Prim.Native.Nat.{ℕ, _+_, _≤_}
 use native.Mathlib.Omega.{arith}
 use mathlib.Core.Bool.{Bool, true, false, cond, not, _&&_, _||_}
@@ -160,3 +160,7 @@ pub cond-new : (a b : Bool) (w : ℕ) → T (not a) → T b → cond a w 0 + w �
 cond-new true b w f g = absurd f
 cond-new false true w f g = omega arith
 cond-new false false w f g = absurd g
+
+pub or-false : (a b : Bool) → a || b ≡ false → (a ≡ false) × (b ≡ false)
+or-false true b e = absurd (true→T false (sym e))
+or-false false b e = (refl, e)

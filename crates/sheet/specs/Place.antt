@@ -1,7 +1,7 @@
 -- Where an accepted sheet has what, and all that is known of it.
 use Prim.Native.Nat.{ℕ, suc, _+_, _*_, _%_, _≤_}
 use mathlib.Core.Bool.{Bool, true, false, _&&_}
-use mathlib.Core.Path.{_≡_, refl}
+use mathlib.Core.Path.{_≡_, ap}
 use mathlib.Core.List.{List}
 use lib.ListN.{length}
 use lib.Dec.{leb, ltb, eqb}
@@ -105,7 +105,30 @@ fine s h =
       metres = unless-zero _ 2 (or-else-zero _ _ (h5 .0) .1);
     }
 
--- l is the layout of the accepted sheet s: what every reader of the sheet asks of its caller
+-- l is the layout of the accepted sheet s: what every reader of the sheet asks of its caller. (The numbers stand by themselves too, for
+-- arithmetic to find them.)
 pub record Laid (s : List ℕ) (l : Layout) : Type 0 where
   pub is : l ≡ layoutOf s
   pub fine : Fine s
+  pub nodes : l .nodes ≡ nOf s
+  pub jobs : l .jobs ≡ mOf s
+  pub steps : l .steps ≡ kOf s
+  pub node : l .node ≡ 4
+  pub job : l .job ≡ jobsAt (nOf s) + 1
+  pub seconds : l .seconds ≡ secondsAt (nOf s) (mOf s) + 1
+  pub metres : l .metres ≡ metresAt (nOf s) (mOf s) + 1
+  pub step : l .step ≡ stepsAt (nOf s) (mOf s) + 1
+
+pub laid : {s : List ℕ} {l : Layout} → Fine s → l ≡ layoutOf s → Laid s l
+laid f e = record {
+  is = e;
+  fine = f;
+  nodes = ap (λ (l : Layout). l .nodes) e;
+  jobs = ap (λ (l : Layout). l .jobs) e;
+  steps = ap (λ (l : Layout). l .steps) e;
+  node = ap (λ (l : Layout). l .node) e;
+  job = ap (λ (l : Layout). l .job) e;
+  seconds = ap (λ (l : Layout). l .seconds) e;
+  metres = ap (λ (l : Layout). l .metres) e;
+  step = ap (λ (l : Layout). l .step) e;
+}

@@ -1,6 +1,6 @@
-use native.Mathlib.Omega.{arith}
-use Rattle.sheet.specs.Place.{fine}
 use borrow.Author.Needs.{needs}
+use native.Mathlib.Omega.{arith}
+use Rattle.sheet.specs.Place.{fine, laid}
 use Rattle.sheet.proofs.layout_of.Statement.{statement}
 use Rattle.sheet.proofs.layout_of.Tie as tie
 
@@ -65,7 +65,7 @@ add-t14 : tie.Need-add-t14
 add-t14 c = search needs
 
 returns : tie.Need-returns
-returns c = record { is = rw (c .word3 .ensures .is, c .before .word2 .ensures .is, c .before .before .square .ensures .0, c .before .before .before .word .ensures .is); fine = fine _ (c .before .before .before .before .before .pre) }
+returns c = laid (fine _ (c .before .before .before .before .before .pre)) (rw (c .word3 .ensures .is, c .before .word2 .ensures .is, c .before .before .square .ensures .0, c .before .before .before .word .ensures .is))
 
 pub layout-of-spec : {M : Type 1} → statement M
 layout-of-spec =

@@ -1,0 +1,112 @@
+// The jobs of a sheet, and whether two of them are one too many for a node.
+ghost use mathlib.Core.Path.{_≡_};
+ghost use Prim.Native.Nat.{_+_, _*_, _<_, _≤_};
+ghost use Rattle.sheet.specs.Word.{words};
+ghost use Rattle.sheet.specs.Place.{Laid};
+ghost use Rattle.day.specs.Jobs.{jobAt, jobIn};
+ghost use Rattle.day.specs.Twice.{apart};
+ghost use Rattle.day.specs.Seen.{taken, seeing};
+use rules::Job;
+use sheet::Layout;
+use sheet::word;
+
+// The i-th job of a section whose entries begin at word `from`.
+fn job_at(s: &[u8], from: usize, i: usize) -> Job
+    requires { ⌜ from + 4 * i + 4 ≤ words (now s) ⌝ }
+    ensures { λ r. ⌜ r ≡ jobAt (now (s .entry)) from i ⌝ }
+{
+    let p = from + 4 * i;
+    let kind = word(s, p);
+    let a = word(s, p + 1) as usize;
+    let b = word(s, p + 2) as usize;
+    let load = word(s, p + 3) as usize;
+    if kind == 1 {
+        return Job::Clean {
+            node: a,
+            load: load,
+        };
+    }
+    if kind == 2 {
+        return Job::Soiled {
+            node: a,
+            load: load,
+        };
+    }
+    Job::Transfer {
+        from: a,
+        to: b,
+        load: load,
+    }
+}
+
+// The i-th job of the sheet.
+pub fn job(s: &[u8], l: Layout, i: usize) -> Job
+    requires { ⌜ Laid (now s) l × (i < l .jobs) ⌝ }
+    ensures { λ r. ⌜ r ≡ jobIn (now (s .entry)) i ⌝ }
+{
+    let from = l.job;
+    job_at(s, from, i)
+}
+
+// The nodes at which a clean job, a soiled job or a transfer end was met, each a word.
+pub struct Seen {
+    pub clean: u64,
+    pub soiled: u64,
+    pub ends: u64,
+}
+
+fn is_taken(seen: Seen, job: Job) -> bool
+    ensures { λ r. ⌜ r ≡ taken seen job ⌝ }
+{
+    match job {
+        Job::Clean { node, load: _ } => bits::has(seen.clean, node),
+        Job::Soiled { node, load: _ } => bits::has(seen.soiled, node),
+        Job::Transfer { from, to, load: _ } => bits::has(seen.ends, from)
+            | bits::has(seen.ends, to),
+    }
+}
+
+fn see(seen: Seen, job: Job) -> Seen
+    ensures { λ r. ⌜ r ≡ seeing seen job ⌝ }
+{
+    match job {
+        Job::Clean { node, load: _ } => Seen {
+            clean: bits::with(seen.clean, node),
+            soiled: seen.soiled,
+            ends: seen.ends,
+        },
+        Job::Soiled { node, load: _ } => Seen {
+            clean: seen.clean,
+            soiled: bits::with(seen.soiled, node),
+            ends: seen.ends,
+        },
+        Job::Transfer { from, to, load: _ } => Seen {
+            clean: seen.clean,
+            soiled: seen.soiled,
+            ends: bits::with(bits::with(seen.ends, from), to),
+        },
+    }
+}
+
+// No node has two jobs of one kind, or two transfer ends: one pass.
+pub fn all_apart(s: &[u8], l: Layout) -> bool
+    requires { ⌜ Laid (now s) l ⌝ }
+    ensures { λ r. ⌜ r ≡ apart (jobIn (now (s .entry))) (l .jobs) ⌝ }
+{
+    let mut seen = Seen {
+        clean: 0,
+        soiled: 0,
+        ends: 0,
+    };
+    let m = l.jobs;
+    let mut i = 0;
+    while i < m {
+        let next = job(s, l, i);
+        if is_taken(seen, next) {
+            return false;
+        }
+        seen = see(seen, next);
+        i += 1;
+    }
+    true
+}

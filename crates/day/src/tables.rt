@@ -1,0 +1,78 @@
+// The tables of a sheet, and the triangle rule over them.
+ghost use mathlib.Core.Path.{_≡_};
+ghost use mathlib.Core.Bool.{true};
+ghost use Prim.Native.Nat.{_+_, _*_, _<_, _≤_};
+ghost use lib.ListN.{length, getD};
+ghost use Rattle.laws.specs.Below.{allBelow};
+ghost use Rattle.laws.specs.Table.{Filled};
+ghost use Rattle.sheet.specs.Word.{words};
+ghost use Rattle.sheet.specs.Rule.{entryOk};
+ghost use Rattle.day.specs.Tables.{cell, shortestRow, triangle};
+ghost use Rattle.day.specs.Row.{rowAt, lineOk, Table};
+use sheet::word;
+
+// Row i of a table as numbers, with 0 at the diagonal: n entries from word `at` on.
+fn row_of(s: &[u8], at: usize, n: usize, i: usize) -> [u32; 64]
+    requires { ⌜ (n ≤ 64) × (i < n) × (at + n ≤ words (now s)) ⌝ }
+    ensures { λ r. ⌜ Filled 64 (rowAt (now (s .entry)) at i) 0 n r ⌝ }
+{
+    let mut row = [0u32; 64];
+    let mut k = 0;
+    while k < n {
+        row[k] = word(s, at + k);
+        k += 1;
+    }
+    row[i] = 0;
+    row
+}
+
+// Every entry of the row against `first` and the entry of another row, whose entries begin at word `at`: a flag and no exit inside. The
+// test tells the compiler that the row lies in the sheet, so the loop becomes vector code.
+fn line_ok(s: &[u8], at: usize, n: usize, row: &[u32; 64], first: u32) -> bool
+    requires { ⌜ (n ≤ 64) × (length (now row) ≡ 64) × (first ≤ 1000000) × (at + n ≤ words (now s)) ⌝ }
+    requires { ⌜ allBelow n (entryOk (now s) at) ≡ true ⌝ }
+    ensures { λ r. ⌜ r ≡ allBelow n (lineOk (now (s .entry)) (now (row .entry)) first at) ⌝ }
+{
+    if s.len() / 4 < at + n {
+        return false;
+    }
+    let mut ok = true;
+    let mut k = 0;
+    while k < n {
+        let far = word(s, at + k);
+        ok = ok & (row[k] <= first + far);
+        k += 1;
+    }
+    ok
+}
+
+fn row_ok(s: &[u8], from: usize, n: usize, i: usize) -> bool
+    requires { ⌜ Table (now s) from n × (i < n) ⌝ }
+    ensures { λ r. ⌜ r ≡ shortestRow n (cell (now (s .entry)) from n) i ⌝ }
+{
+    let row = row_of(s, from + i * n, n, i);
+    let mut j = 0;
+    while j < n {
+        let first = row[j];
+        if !line_ok(s, from + j * n, n, &row, first) {
+            return false;
+        }
+        j += 1;
+    }
+    true
+}
+
+// Refusal 5's test of a table of n rows whose entries begin at word `from`.
+pub fn triangle_ok(s: &[u8], from: usize, n: usize) -> bool
+    requires { ⌜ Table (now s) from n ⌝ }
+    ensures { λ r. ⌜ r ≡ triangle n (cell (now (s .entry)) from n) ⌝ }
+{
+    let mut i = 0;
+    while i < n {
+        if !row_ok(s, from, n, i) {
+            return false;
+        }
+        i += 1;
+    }
+    true
+}
