@@ -1,0 +1,69 @@
+-- Signed numbers of 64 bits: what a difference keeps to, what a test says, and that L stays far from the ends.
+use mathlib.Core.Path.{_≡_, refl, sym, ap, _∙_, subst}
+use Prim.Native.Nat.{ℕ, zero, suc, _+_, _-_, _*_, _<_, _≤_}
+use mathlib.Core.Bool.{Bool, true, false, cond}
+use mathlib.Core.List.{List, [], _∷_}
+use native.Mathlib.Omega.{arith}
+use lib.Dec.{T, ltb}
+use lib.IntN.{ℤ, pos, negsuc, subℕ, _-ℤ_}
+use lib.Signed.{mag, leZ}
+use lib.ListN.{getD, take, drop, length, length-take, length-drop}
+use mir.Syntax.{w64}
+use mir.Val.{toZ, ofZ}
+use mir.Facts.{toZ-ofZ, toZ-pos}
+use Rattle.rules.specs.Day.{Day}
+use Rattle.rules.specs.Time.{lastMoment, lastStart, minZ}
+use Rattle.rules.specs.Along.{lastAt}
+use Rattle.along.specs.Times.{Low}
+
+mag-subℕ : (a b k : ℕ) → a ≤ k → b ≤ suc k → mag (subℕ a b) ≤ k
+mag-subℕ a b k h g = go (ltb a b)
+  where
+    go : (t : Bool) → mag (cond t (negsuc (b - suc a)) (pos (a - b))) ≤ k
+    go true = omega arith
+    go false = omega arith
+
+-- a difference is no further from 0 than the sum of the two
+pub mag-sub : (z : ℤ) (n : ℕ) → mag (z -ℤ pos n) ≤ mag z + n
+mag-sub (pos a) zero = omega arith
+mag-sub (pos a) (suc n) = mag-subℕ a (suc n) (a + suc n) (omega arith) (omega arith)
+mag-sub (negsuc a) zero = mag-subℕ 0 (suc a) (a + 0) (omega arith) (omega arith)
+mag-sub (negsuc a) (suc n) = omega arith
+
+mag-min : (a b : ℤ) (k : ℕ) → mag a ≤ k → mag b ≤ k → mag (minZ a b) ≤ k
+mag-min a b k p q = go (leZ a b)
+  where
+    go : (t : Bool) → mag (cond t a b) ≤ k
+    go true = p
+    go false = q
+
+-- what is written of a number near 0 is read back
+pub back : (z : ℤ) → mag z < 9223372036854775808 → toZ w64 (ofZ w64 z) ≡ z
+back z h = toZ-ofZ (record { sfits = h })
+
+pub ahead : (n : ℕ) → n < 9223372036854775808 → toZ w64 n ≡ pos n
+ahead n h = toZ-pos w64 h
+
+last-far : (d : Day) → Low d → (B : List ℕ) (k : ℕ) → mag (lastStart d B k) < 12884901888 * (length B + 1)
+last-far d w [] k = omega (arith, w .moment k)
+last-far d w (m ∷ B) k =
+    omega (
+      arith,
+      w .moment k,
+      w .service k,
+      w .seconds k m,
+      last-far d w B m,
+      mag-min (lastMoment d k) (lastStart d B m -ℤ pos (d .service k + d .seconds k m)) (mag (lastStart d B m) + (4294967296 + (d .service k + d .seconds k m))) (omega (arith, w .moment k))
+      (omega (arith, mag-sub (lastStart d B m) (d .service k + d .seconds k m))),
+    )
+
+-- L of a route of at most 64 stops is far from the ends of 64 bits
+pub last-low : (d : Day) → Low d → (l : List ℕ) (n i : ℕ) → n ≤ 64 → mag (lastAt d (take n l) i) < 1099511627776
+last-low d w l n i h = omega (arith, last-far d w (drop (suc i) (take n l)) (getD (take n l) i 0), few)
+  where
+    few : length (drop (suc i) (take n l)) < 64
+    few = simp (length-drop, length-take) (omega arith)
+
+-- what is stored of L is read back
+pub last-kept : (d : Day) → Low d → (l : List ℕ) (n i : ℕ) {z : ℤ} → n ≤ 64 → z ≡ lastAt d (take n l) i → toZ w64 (ofZ w64 z) ≡ lastAt d (take n l) i
+last-kept d w l n i {z} h e = rw e (back (lastAt d (take n l) i) (omega (arith, last-low d w l n i h)))

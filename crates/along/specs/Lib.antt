@@ -1,0 +1,4 @@
+pub mod Times
+pub mod Walks
+pub mod Spots
+pub mod Loads

@@ -1,0 +1,143 @@
+-- Two rounds over the words are the rules' settling, and the words tell how many of them struck.
+use mathlib.Core.Path.{_≡_, refl, sym, ap, _∙_, subst}
+use Prim.Native.Nat.{ℕ, zero, suc, _+_, _-_, _*_, _<_, _≤_}
+use mathlib.Core.Bool.{Bool, true, false, not, _&&_, _||_}
+use mathlib.Core.List.{List, [], _∷_}
+use native.Mathlib.Nat.{mul-le-mul}
+use native.Mathlib.Omega.{arith}
+use lib.Dec.{T, not-T, ltb, eqb}
+use borrow.Author.Tests.{eqb-true, eq-eqb, lt-ltb}
+use lib.ListN.{getD, length}
+use lib.Seq.{ext-getD}
+use Rattle.laws.specs.Logic.{decided, T-ext, true→T, N→false}
+use Rattle.laws.specs.Lists.{In, mem}
+use Rattle.laws.specs.Below.{allBelow, below-at, below-make}
+use Rattle.rules.specs.Day.{Day, Van}
+use Rattle.rules.specs.Plan.{Places}
+use Rattle.rules.specs.Rounds.{Distinct}
+use Rattle.rules.specs.Settle.{round, strikes, settleIn, settle, roundsIn, rounds}
+use Rattle.rules.specs.Asked.{OneEnd}
+use Rattle.rules.proofs.Left.{_⊆_, round-less}
+use Rattle.rules.proofs.Twice.{calm, third, at-most-two}
+use Rattle.rules.proofs.Fixpoint.{Seen, settle-twice}
+use Rattle.settle.specs.Sets.{placesOf, setsOf, sets-ext, length-sets, places-sets, Small}
+
+-- the arrays are the same
+abbrev pub sameSets : List ℕ → List ℕ → Bool
+sameSets a b = allBelow 64 (λ i. eqb (getD a i 0) (getD b i 0))
+
+pub same-sets : (a b : List ℕ) → length a ≡ 64 → length b ≡ 64 → sameSets a b ≡ true → a ≡ b
+same-sets a b m n s = ext-getD 0 a b (m ∙ sym n) (λ k h. eqb-true (getD a k 0) (getD b k 0) (below-at 64 k (λ i. eqb (getD a i 0) (getD b i 0)) s (omega arith)))
+
+pub sets-same : (a b : List ℕ) → a ≡ b → sameSets a b ≡ true
+sets-same a b e = below-make 64 _ (λ i h. eq-eqb (getD a i 0) (getD b i 0) (ap (λ (l : List ℕ). getD l i 0) e))
+
+module _ (v : Van) (d : Day) (one : OneEnd (d .jobs)) (rt : List ℕ) (nodes : Distinct (d .n) rt) (enough : 2 ≤ d .n) where
+  fuel : suc (suc (d .n * d .n - 2)) ≡ d .n * d .n
+  fuel = let h = mul-le-mul enough enough in omega arith
+
+  -- ---- one round
+
+  settle-no : (f : ℕ) (o : Places) → strikes v d rt o ≡ false → settleIn (suc f) v d rt o ≡ o
+  unfolding settleIn
+  settle-no f o e = ap (λ (b : Bool). elim b as (λ c. Places) [ true ↦ settleIn f v d rt (round v d rt o) | false ↦ o ]) e
+
+  -- a round that strikes nothing leaves every place
+  calm-less : (o : Places) → Seen d rt o → strikes v d rt o ≡ false → o ⊆ round v d rt o
+  calm-less o seen e x p t =
+      round-less v d rt (round v d rt o) x p
+      (subst (λ (b : Bool). T b) (ap (λ (f : Places). f x p) (sym (settle-no (suc (d .n * d .n - 2)) o e)) ∙ ap (λ (k : ℕ). settleIn k v d rt o x p) fuel ∙ settle-twice v d one rt nodes o seen x p) t)
+
+  module _ (ws : List ℕ) (long : length ws ≡ 64) (seen : Seen d rt (placesOf ws)) (small : Small (placesOf ws)) where
+    abbrev o : Places
+    o = placesOf ws
+
+    pub round-small : Small (round v d rt o)
+    round-small x p t = small x p (round-less v d rt o x p t)
+
+    pub round-seen : Seen d rt (round v d rt o)
+    round-seen x p t = seen x p (round-less v d rt o x p t)
+
+    -- the words that a round leaves have the places that it leaves
+    pub round-open : placesOf (setsOf (round v d rt o)) ≡ round v d rt o
+    round-open = λ u x p. places-sets (round v d rt o) round-small x p u
+
+    -- they are the words before exactly if the round strikes nothing
+    pub struck-is : strikes v d rt o ≡ not (sameSets ws (setsOf (round v d rt o)))
+    struck-is = decided (sameSets ws (setsOf (round v d rt o))) (λ s. quiet s ∙ ap not (sym s)) (λ s. loud s ∙ ap not (sym s))
+      where
+        quiet : sameSets ws (setsOf (round v d rt o)) ≡ true → strikes v d rt o ≡ false
+        quiet s = N→false (strikes v d rt o) (not-T (strikes v d rt o) (calm v d rt o (λ x p t. subst (λ (f : Places). T (f x p)) (ap placesOf (same-sets ws (setsOf (round v d rt o)) long (length-sets (round v d rt o)) s) ∙ round-open) t)))
+
+        loud : sameSets ws (setsOf (round v d rt o)) ≡ false → strikes v d rt o ≡ true
+        loud s = decided (strikes v d rt o) (λ t. t) (λ t. absurd (false-true (sym s ∙ sets-same ws (setsOf (round v d rt o)) (still t))))
+          where
+            false-true : false ≡ true → ⊥
+            false-true e = true→T false e
+
+            still : strikes v d rt o ≡ false → ws ≡ setsOf (round v d rt o)
+            still t = sets-ext ws (round v d rt o) long
+                (λ x p. T-ext (o x p) (round v d rt o x p) (calm-less o seen t x p) (round-less v d rt o x p))
+                (λ x p k. decided (round v d rt o x p) (λ u. absurd (omega (arith, round-small x p (true→T _ u) .1))) (λ u. u))
+
+  -- ---- how often it strikes
+
+  rounds-no : (f : ℕ) (o : Places) → strikes v d rt o ≡ false → roundsIn (suc f) v d rt o ≡ 0
+  unfolding roundsIn
+  rounds-no f o e = ap (λ (b : Bool). elim b as (λ c. ℕ) [ true ↦ suc (roundsIn f v d rt (round v d rt o)) | false ↦ 0 ]) e
+
+  rounds-yes : (f : ℕ) (o : Places) → strikes v d rt o ≡ true → roundsIn (suc f) v d rt o ≡ suc (roundsIn f v d rt (round v d rt o))
+  unfolding roundsIn
+  rounds-yes f o e = ap (λ (b : Bool). elim b as (λ c. ℕ) [ true ↦ suc (roundsIn f v d rt (round v d rt o)) | false ↦ 0 ]) e
+
+  none-strikes : (o : Places) → strikes v d rt o ≡ false → 0 ≡ rounds v d rt o
+  none-strikes o e = sym (ap (λ (k : ℕ). roundsIn k v d rt o) (sym fuel) ∙ rounds-no (suc (d .n * d .n - 2)) o e)
+
+  one-strikes : (o : Places) → strikes v d rt o ≡ true → strikes v d rt (round v d rt o) ≡ false → 1 ≡ rounds v d rt o
+  one-strikes o e g = sym (ap (λ (k : ℕ). roundsIn k v d rt o) (sym fuel) ∙ rounds-yes (suc (d .n * d .n - 2)) o e ∙ ap suc (rounds-no (d .n * d .n - 2) (round v d rt o) g))
+
+  two-strike : (o : Places) → strikes v d rt o ≡ true → strikes v d rt (round v d rt o) ≡ true → 2 ≡ rounds v d rt o
+  two-strike o e g =
+      let k = ap (λ (k : ℕ). roundsIn k v d rt o) (sym fuel) ∙ rounds-yes (suc (d .n * d .n - 2)) o e ∙ ap suc (rounds-yes (d .n * d .n - 2) (round v d rt o) g) in
+      omega (arith, k, at-most-two v d one rt nodes o)
+
+  -- ---- the ways out of the code
+
+  module _ (ws : List ℕ) (long : length ws ≡ 64) (seen : Seen d rt (placesOf ws)) (small : Small (placesOf ws)) where
+    abbrev o₀ : Places
+    o₀ = placesOf ws
+
+    abbrev o₁ : Places
+    o₁ = round v d rt (placesOf ws)
+
+    first-open : {first : List ℕ} → first ≡ setsOf o₁ → placesOf first ≡ o₁
+    first-open e = ap placesOf e ∙ round-open ws long seen small
+
+    settled-sets : setsOf (round v d rt o₁) ≡ setsOf (settle v d rt o₀)
+    settled-sets = ap setsOf (λ u x p. sym (settle-twice v d one rt nodes o₀ seen x p) u)
+
+    struck₁ : {first : List ℕ} → first ≡ setsOf o₁ → strikes v d rt o₀ ≡ not (sameSets ws first)
+    struck₁ e = struck-is ws long seen small ∙ ap (λ (l : List ℕ). not (sameSets ws l)) (sym e)
+
+    struck₂ : {first second : List ℕ} → first ≡ setsOf o₁ → second ≡ setsOf (round v d rt (placesOf first)) → strikes v d rt o₁ ≡ not (sameSets first second)
+    struck₂ {first} e f =
+        ap (strikes v d rt) (sym (first-open e))
+        ∙ struck-is first (ap length e ∙ length-sets o₁) (subst (Seen d rt) (sym (first-open e)) (round-seen ws long seen small)) (subst Small (sym (first-open e)) (round-small ws long seen small))
+        ∙ ap (λ (l : List ℕ). not (sameSets first l)) (sym f)
+
+    -- nothing struck: the words stay
+    pub settle-none : {first : List ℕ} → first ≡ setsOf o₁ → sameSets ws first ≡ true → (0 ≡ rounds v d rt o₀) × (ws ≡ setsOf (settle v d rt o₀))
+    settle-none {first} e s =
+        let same = same-sets ws first long (ap length e ∙ length-sets o₁) s in
+        (none-strikes o₀ (struck₁ e ∙ ap not s), same ∙ e ∙ ap (λ (f : Places). setsOf (round v d rt f)) (ap placesOf same ∙ first-open e) ∙ settled-sets)
+
+    second-sets : {first second : List ℕ} → first ≡ setsOf o₁ → second ≡ setsOf (round v d rt (placesOf first)) → second ≡ setsOf (settle v d rt o₀)
+    second-sets e f = f ∙ ap (λ (g : Places). setsOf (round v d rt g)) (first-open e) ∙ settled-sets
+
+    pub settle-once : {first second : List ℕ} → first ≡ setsOf o₁ → second ≡ setsOf (round v d rt (placesOf first)) → sameSets ws first ≡ false → sameSets first second ≡ true
+        → (1 ≡ rounds v d rt o₀) × (second ≡ setsOf (settle v d rt o₀))
+    settle-once e f s t = (one-strikes o₀ (struck₁ e ∙ ap not s) (struck₂ e f ∙ ap not t), second-sets e f)
+
+    pub settle-again : {first second : List ℕ} → first ≡ setsOf o₁ → second ≡ setsOf (round v d rt (placesOf first)) → sameSets ws first ≡ false → sameSets first second ≡ false
+        → (2 ≡ rounds v d rt o₀) × (second ≡ setsOf (settle v d rt o₀))
+    settle-again e f s t = (two-strike o₀ (struck₁ e ∙ ap not s) (struck₂ e f ∙ ap not t), second-sets e f)

@@ -1,0 +1,149 @@
+-- A round of settling over all words, from arrays: which places window, metres and the jobs leave.
+use mathlib.Core.Path.{_≡_, refl, sym, ap, _∙_, subst}
+use Prim.Native.Nat.{ℕ, zero, suc, _+_, _-_, _*_, _<_, _≤_}
+use mathlib.Core.Bool.{Bool, true, false, cond, not, _&&_, _||_}
+use mathlib.Core.List.{List, [], _∷_}
+use native.Mathlib.Numerals.{add-one}
+use native.Mathlib.Omega.{arith}
+use lib.Dec.{leb, ltb, eqb}
+use borrow.Author.Tests.{eqb-true, eqb-false, eq-eqb, ltb-true, ltb-false}
+use lib.ListN.{getD, set, length, length-set, List·getD-eq-default}
+use lib.Seq.{getD-set-same, getD-set-other}
+use lib.IntN.{ℤ, pos}
+use lib.Signed.{leZ}
+use Rattle.laws.specs.Logic.{decided}
+use Rattle.laws.specs.Below.{allBelow}
+use Rattle.rules.specs.Day.{Day, Van}
+use Rattle.rules.specs.Time.{inTime}
+use Rattle.rules.specs.declared.Job.{Job}
+use Rattle.rules.specs.declared.Job.the-variants.{Clean, Soiled, Transfer}
+use Rattle.rules.proofs.AlongLaws.{arrives}
+use Rattle.along.specs.declared.walks.Ride.{Ride}
+use Rattle.along.specs.Walks.{Kept, kept-same, kept-both, kept-all, kept-zero, ridesUp, ridesDown}
+
+-- each word of vs keeps of the word of ws the places that pass f
+pub record Kepts (l : List ℕ) (legs : ℕ) (f : ℕ → ℕ → Bool) (ws vs : List ℕ) : Type 0 where
+  pub long : length vs ≡ 64
+  pub at : (y : ℕ) → Kept l 0 legs (f y) (getD ws y 0) (getD vs y 0)
+
+pub past : (ws : List ℕ) (y : ℕ) → length ws ≡ 64 → 64 ≤ y → getD ws y 0 ≡ 0
+past ws y n h = List·getD-eq-default ws 0 {n = y} (omega arith)
+
+pub kepts-all : {l : List ℕ} {legs : ℕ} {f : ℕ → ℕ → Bool} {ws : List ℕ} → length ws ≡ 64 → ((y i : ℕ) → f y i ≡ true) → Kepts l legs f ws ws
+kepts-all n e = record { long = n; at = λ y. kept-all (e y) }
+
+-- a test of one node's places
+pub kepts-one : {l : List ℕ} {legs : ℕ} {g : ℕ → Bool} {ws : List ℕ} {v : ℕ} (x : ℕ) → length ws ≡ 64 → x < 64 → Kept l 0 legs g (getD ws x 0) v
+    → Kepts l legs (λ y i. not (eqb x y) || g i) ws (set ws x v)
+kepts-one {l} {legs} {g} {ws} {v} x n h k = record { long = length-set ws x v ∙ n; at = λ y. go y (eqb x y) refl }
+  where
+    go : (y : ℕ) (c : Bool) → eqb x y ≡ c → Kept l 0 legs (λ i. not (eqb x y) || g i) (getD ws y 0) (getD (set ws x v) y 0)
+    go y true e = let q = eqb-true x y e in
+        rw (← q, getD-set-same ws x v 0 (omega arith)) (kept-same (λ i a b. ap (λ (c : Bool). not c || g i) (sym (eq-eqb x x refl))) k)
+    go y false e = let q = eqb-false x y e in
+        rw (getD-set-other ws x y v 0 (λ z. q (sym z))) (kept-all (λ i. ap (λ (c : Bool). not c || g i) e))
+
+-- where x is no node, no word is touched
+pub kepts-past : {l : List ℕ} {legs : ℕ} (g : ℕ → Bool) {ws : List ℕ} (x : ℕ) → length ws ≡ 64 → 64 ≤ x → Kepts l legs (λ y i. not (eqb x y) || g i) ws ws
+kepts-past {l} {legs} g {ws} x n h = record { long = n; at = λ y. go y (eqb x y) refl }
+  where
+    go : (y : ℕ) (c : Bool) → eqb x y ≡ c → Kept l 0 legs (λ i. not (eqb x y) || g i) (getD ws y 0) (getD ws y 0)
+    go y true e = let q = eqb-true x y e in let z = past ws y n (omega arith) in
+        subst (λ (v : ℕ). Kept l 0 legs (λ i. not (eqb x y) || g i) (getD ws y 0) v) (sym z) (kept-zero z)
+    go y false e = kept-all (λ i. ap (λ (c : Bool). not c || g i) e)
+
+pub kepts-both : {l : List ℕ} {legs : ℕ} {f g : ℕ → ℕ → Bool} {ws us vs : List ℕ} → Kepts l legs f ws us → Kepts l legs g us vs → Kepts l legs (λ y i. f y i && g y i) ws vs
+kepts-both a b = record { long = b .long; at = λ y. kept-both (a .at y) (b .at y) }
+
+pub kepts-same : {l : List ℕ} {legs : ℕ} {f g : ℕ → ℕ → Bool} {ws vs : List ℕ} → ((y i : ℕ) → i < legs → f y i ≡ g y i) → Kepts l legs f ws vs → Kepts l legs g ws vs
+kepts-same e a = record { long = a .long; at = λ y. kept-same (λ i m n. e y i n) (a .at y) }
+
+-- ---- a loop over the words
+
+pub record Upto (l : List ℕ) (legs : ℕ) (f : ℕ → ℕ → Bool) (ws : List ℕ) (x : ℕ) (vs : List ℕ) : Type 0 where
+  pub long : length vs ≡ 64
+  pub at : (y : ℕ) → y < x → Kept l 0 legs (f y) (getD ws y 0) (getD vs y 0)
+
+pub upto-none : (l : List ℕ) (legs : ℕ) (f : ℕ → ℕ → Bool) (ws vs : List ℕ) → length vs ≡ 64 → Upto l legs f ws 0 vs
+upto-none l legs f ws vs n = record { long = n; at = λ y h. absurd (omega arith) }
+
+pub upto-more : {l : List ℕ} {legs : ℕ} {f : ℕ → ℕ → Bool} {ws : List ℕ} {x : ℕ} {vs : List ℕ} {v : ℕ} → x < 64 → Upto l legs f ws x vs → Kept l 0 legs (f x) (getD ws x 0) v
+    → Upto l legs f ws (x + 1) (set vs x v)
+upto-more {l} {legs} {f} {ws} {x} {vs} {v} h a k = record { long = length-set vs x v ∙ a .long; at = λ y m. go y m (eqb x y) refl }
+  where
+    go : (y : ℕ) → y < x + 1 → (c : Bool) → eqb x y ≡ c → Kept l 0 legs (f y) (getD ws y 0) (getD (set vs x v) y 0)
+    go y m true e = let q = eqb-true x y e in rw (← q, getD-set-same vs x v 0 (omega (arith, a .long))) k
+    go y m false e = let q = eqb-false x y e in rw (getD-set-other vs x y v 0 (λ z. q (sym z))) (a .at y (omega (arith, q)))
+
+pub upto-all : {l : List ℕ} {legs : ℕ} {f : ℕ → ℕ → Bool} {ws : List ℕ} {x : ℕ} {vs : List ℕ} → length ws ≡ 64 → 64 ≤ x → Upto l legs f ws x vs → Kepts l legs f ws vs
+upto-all {l} {legs} {f} {ws} {x} {vs} n h a = record { long = a .long; at = λ y. decided (ltb y 64) (λ e. a .at y (omega (arith, ltb-true y 64 e))) (λ e. out y (ltb-false y 64 e)) }
+  where
+    out : (y : ℕ) → 64 ≤ y → Kept l 0 legs (f y) (getD ws y 0) (getD vs y 0)
+    out y q = subst (λ (v : ℕ). Kept l 0 legs (f y) (getD ws y 0) v) (sym (past vs y (a .long) q)) (kept-zero (past ws y n q))
+
+-- ---- window and metres of x between p, left after a start at t, and k, which has to be started by z, on a route of `total` metres
+
+abbrev pub inWindow : Day → ℕ → ℕ → ℕ → ℕ → ℤ → Bool
+inWindow d x p k t z = inTime d x (arrives d t p x) && leZ (pos (arrives d t p x + d .service x + d .seconds x k)) z
+
+-- nothing is taken away
+abbrev pub inMetres : Day → ℕ → ℕ → ℕ → ℕ → ℕ → Bool
+inMetres d limit x p k total = leb (total + d .metres p x + d .metres x k) (limit + d .metres p k)
+
+unfoldable pub stands : Day → ℕ → ℕ → ℕ → ℕ → ℕ → ℤ → ℕ → Bool
+stands d limit x p k t z total = inWindow d x p k t z && inMetres d limit x p k total
+
+-- the place of x in the i-th leg, with E and L in arrays
+abbrev pub standsAt : Day → ℕ → List ℕ → List ℕ → List ℤ → ℕ → ℕ → ℕ → Bool
+standsAt d limit l e z total x i = stands d limit x (getD l i 0) (getD l (i + 1) 0) (getD e i 0) (getD z (i + 1) (pos 0)) total
+
+-- ---- the load tests by the case of the job
+
+-- a load that rides to the end of the route, and one that rides to its partner y with the places w
+abbrev pub through : ℕ → ℕ → Ride
+through cap load = record { capacity = cap; load = load; partner = 64; places = 0; through = true }
+
+abbrev pub between : ℕ → ℕ → ℕ → ℕ → Ride
+between cap load y w = record { capacity = cap; load = load; partner = y; places = w; through = false }
+
+unfoldable pub loadOk : Job → List ℕ → List ℕ → List ℕ → ℕ → ℕ → ℕ → ℕ → Bool
+loadOk (Clean a w) old l h legs cap y i = not (eqb a y) || ridesUp l h (through cap w) i
+loadOk (Soiled a w) old l h legs cap y i = not (eqb a y) || ridesDown l h (through cap w) legs i
+loadOk (Transfer a b w) old l h legs cap y i =
+    (not (eqb a y) || ridesDown l h (between cap w b (getD old b 0)) legs i) && (not (eqb b y) || ridesUp l h (between cap w a (getD old a 0)) i)
+
+pub job-clean : {l : List ℕ} {legs : ℕ} {ws vs : List ℕ} (old h : List ℕ) (cap a w : ℕ) → Kepts l legs (λ y i. not (eqb a y) || ridesUp l h (through cap w) i) ws vs
+    → Kepts l legs (loadOk (Clean a w) old l h legs cap) ws vs
+unfolding loadOk
+job-clean old h cap a w k = k
+
+pub job-soiled : {l : List ℕ} {legs : ℕ} {ws vs : List ℕ} (old h : List ℕ) (cap a w : ℕ) → Kepts l legs (λ y i. not (eqb a y) || ridesDown l h (through cap w) legs i) ws vs
+    → Kepts l legs (loadOk (Soiled a w) old l h legs cap) ws vs
+unfolding loadOk
+job-soiled old h cap a w k = k
+
+pub job-transfer : {l : List ℕ} {legs : ℕ} {ws us vs : List ℕ} (old h : List ℕ) (cap a b w : ℕ) {u v : ℕ} → u ≡ getD old b 0 → v ≡ getD old a 0
+    → Kepts l legs (λ y i. not (eqb a y) || ridesDown l h (between cap w b u) legs i) ws us
+    → Kepts l legs (λ y i. not (eqb b y) || ridesUp l h (between cap w a v) i) us vs
+    → Kepts l legs (loadOk (Transfer a b w) old l h legs cap) ws vs
+unfolding loadOk
+job-transfer {l} {legs} old h cap a b w e f j k =
+    kepts-same (λ y i n. λ z. (not (eqb a y) || ridesDown l h (between cap w b (e z)) legs i) && (not (eqb b y) || ridesUp l h (between cap w a (f z)) i)) (kepts-both j k)
+
+-- the first m of the jobs g
+unfoldable pub loadsOk : (ℕ → Job) → List ℕ → List ℕ → List ℕ → ℕ → ℕ → ℕ → ℕ → ℕ → Bool
+loadsOk g old l h legs cap m y i = allBelow m (λ k. loadOk (g k) old l h legs cap y i)
+
+pub loads-none : {l : List ℕ} {legs : ℕ} {ws : List ℕ} (g : ℕ → Job) (old h : List ℕ) (cap : ℕ) → length ws ≡ 64 → Kepts l legs (loadsOk g old l h legs cap 0) ws ws
+unfolding loadsOk allBelow
+loads-none g old h cap n = kepts-all n (λ y i. refl)
+
+pub loads-more : {l : List ℕ} {legs : ℕ} {ws us vs : List ℕ} (g : ℕ → Job) (old h : List ℕ) (cap j : ℕ) {q : Job} → q ≡ g j
+    → Kepts l legs (loadsOk g old l h legs cap j) ws us → Kepts l legs (loadOk q old l h legs cap) us vs → Kepts l legs (loadsOk g old l h legs cap (j + 1)) ws vs
+unfolding loadsOk allBelow
+loads-more {l} {legs} g old h cap j {q} e a b =
+    rw (add-one j) (kepts-same (λ y i n. λ u. allBelow j (λ k. loadOk (g k) old l h legs cap y i) && loadOk (e u) old l h legs cap y i) (kepts-both a b))
+
+-- both: what a round leaves, from arrays
+abbrev pub placeOk : Day → (ℕ → Job) → ℕ → ℕ → ℕ → List ℕ → List ℕ → List ℕ → List ℤ → List ℕ → ℕ → ℕ → ℕ → ℕ → Bool
+placeOk d g m cap limit old l e z h legs total y i = standsAt d limit l e z total y i && loadsOk g old l h legs cap m y i

@@ -1,0 +1,1 @@
+// Settling and the verdict.
