@@ -15,7 +15,7 @@ use Rattle.bits.specs.Places.{has, within}
 use Rattle.bits.specs.Members.{false-true, within-has, within-none}
 use Rattle.bits.specs.Number.{members, members-lt}
 use Rattle.board.specs.Route.{indexOf, wordOf}
-use Rattle.board.specs.RouteLaws.{index-hit, mem-at, mem-none, mem-absent, mem-index, word-not, word-find, word-has, word-members}
+use Rattle.board.specs.RouteLaws.{index-hit, mem-at, mem-none, mem-absent, mem-index, word-mem, word-not, word-find, word-has, word-members}
 use Rattle.board.specs.Board.{Board, boardOf, routeOf, onRoute, legsOf, setOf, openAt, inner, legNode}
 use Rattle.board.specs.Form.{stopOk, setOk, markOk, nodeOk, boardOk, levelOk, levelsOk, inForm, formWith}
 use Rattle.board.specs.declared.State.{State}
@@ -27,6 +27,11 @@ inner-in n x e = let a = and-true (leb 1 x) (ltb (x + 1) n) e in (leb-true 1 x (
 pub leg-in : (n p : ℕ) → legNode n p ≡ true → p + 1 < n
 unfolding legNode
 leg-in n p e = ltb-true (p + 1) n e
+
+-- one bit tells whether a node is on the route
+pub on-word : (b : Board) (x : ℕ) → x < 64 → b .stops ≤ length (b .route) → has (wordOf (b .stops) (b .route)) x ≡ onRoute b x
+unfolding onRoute routeOf
+on-word b x l h = word-mem (b .stops) (b .route) x l h
 
 -- ---- a board in form, fact by fact; the arrays are of 64 entries
 
@@ -217,6 +222,15 @@ module _ (n : ℕ) (b : Board) (small : n ≤ 64) (wide : Wide b) (f : Formed n 
       go true e = e
       go false e = rw (eqb-true (setOf b y) 0 e) (within-none (legsOf b))
 
+  -- for an inner node the legs tell whether it is on the route
+  pub on-leg : (x : ℕ) → inner n x ≡ true → has (legsOf b) x ≡ onRoute b x
+  on-leg x e =
+      decided (onRoute b x)
+      (λ m. leg-make n b small wide (f .route) x (indexOf x (routeOf b)) (inner-inside n b small wide (f .route) x e m .1) (place-at n b small wide (f .route) x m) ∙ sym m)
+      (λ m. decided (has (legsOf b) x)
+      (λ h. let r = leg-at n b small wide (f .route) x h in absurd (off-at n b small wide (f .route) x m (r .0) (omega (arith, r .1)) (r .2)))
+      (λ h. h ∙ sym m))
+
   -- no set names a node off the route
   pub no-leg : (x y : ℕ) → x < 64 → onRoute b x ≡ false → y < 64 → has (setOf b y) x ≡ false
   no-leg x y l o h =
@@ -224,6 +238,12 @@ module _ (n : ℕ) (b : Board) (small : n ≤ 64) (wide : Wide b) (f : Formed n 
       (λ q. let r = leg-at n b small wide (f .route) x (within-has (setOf b y) (legsOf b) (set-within y h) x l q) in
       absurd (off-at n b small wide (f .route) x o (r .0) (omega (arith, r .1)) (r .2)))
       (λ q. q)
+
+-- a board of a state in form, with arrays of 64 entries
+pub record Sound (n : ℕ) (b : Board) : Type 0 where
+  pub small : n ≤ 64
+  pub wide : Wide b
+  pub form : Formed n b
 
 -- ---- the levels
 
@@ -271,3 +291,7 @@ in-form n s small wide e =
 pub in-form-of : (n : ℕ) (s : State) → n ≤ 64 → Wide (boardOf s) → InForm n s → inForm n s ≡ true
 unfolding inForm
 in-form-of n s small wide f = rw (form-of n (boardOf s) small wide (f .board)) (levels-of (s .depth) (s .records) (s .levels) (f .levels))
+
+pub form-with : (n : ℕ) (s : State) (room : ℕ) → formWith n s room ≡ true → (inForm n s ≡ true) × (s .records ≤ room)
+unfolding formWith
+form-with n s room e = let a = and-true (inForm n s) (leb (s .records) room) e in (a .0, leb-true (s .records) room (a .1))

@@ -10,6 +10,7 @@ pub mod RouteLaws
 pub mod Shift
 pub mod Tests
 pub mod FormLaws
+pub mod Held
 pub mod Keep
 pub mod Inverse
 pub mod FreshForm
