@@ -9,8 +9,8 @@ use lib.Dec.{T, leb, ltb, eqb, eqb→eq, eqb-refl, leb→le, ltb→lt}
 use lib.ListN.{length, getD}
 use Rattle.laws.specs.Logic.{T→true, true→T, and-l, and-r, or-e, imp-e, neqb}
 use Rattle.laws.specs.Below.{allBelow, below-at}
-use Rattle.laws.specs.Lists.{mem, hd, all, In, here, there, mem-in, all-in}
-use Rattle.laws.specs.Once.{in-none}
+use Rattle.laws.specs.Lists.{mem, hd, all, In, mem-in, all-in}
+use Rattle.laws.specs.Once.{in-none, in-cons}
 use Rattle.rules.specs.Day.{Day, inner}
 use Rattle.rules.specs.Leg.{legStops}
 use Rattle.rules.specs.Plan.{Plan, fresh}
@@ -50,10 +50,6 @@ proper-of d h = record { ends = λ a b w i. ends a b (all-in (properJob d) h i) 
         let mb : T (mem b (inner d)) = search (and-l, and-r) in
         let n : T (not (eqb a b)) = search (and-l, and-r) in
         (mem-in a (inner d) ma, mem-in b (inner d) mb, neqb a b n)
-
-in-cons : {x y : Job} {l : List Job} → In y (x ∷ l) → (y ≡ x) ⊎ In y l
-in-cons here = inl refl
-in-cons (there i) = inr i
 
 -- two transfers of the list are one, or share no node
 abbrev Alike : ℕ → ℕ → ℕ → ℕ → ℕ → ℕ → Type 0

@@ -17,3 +17,4 @@ pub mod Longer
 pub mod Monotone
 pub mod Forms
 pub mod Runs
+pub mod EveryRound

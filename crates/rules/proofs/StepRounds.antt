@@ -22,7 +22,7 @@ use Rattle.rules.proofs.Placing.{Ins, at, on, put-ins, ins-mem, split-n
 -- ---- which place a round uses, along the round
 
 -- a node between two stops of the route is not the second of them
-between : {n y k : ℕ} {r R : List ℕ} → Distinct n (y ∷ R) → Sub (k ∷ r) R → T (not (eqb y k))
+pub between : {n y k : ℕ} {r R : List ℕ} → Distinct n (y ∷ R) → Sub (k ∷ r) R → T (not (eqb y k))
 between {y = y} {k = k} {r = r} {R = R} g u = mem-ne y k R (distinct-off g) (mem-sub k u (mem-hd k r))
 
 -- with more open, the round stays within
