@@ -73,7 +73,7 @@ module _ {A : Type 0} where
 
   -- ---- the entries that pass f
 
-  pub only : (A → Bool) → List A → List A
+  unfoldable pub only : (A → Bool) → List A → List A
   only f [] = []
   only f (x ∷ l) = cond (f x) (x ∷ only f l) (only f l)
 

@@ -136,7 +136,7 @@ module _ (e : ℕ) where
 
 -- ---- such orders and rounds
 
-ends-cons : (e x : ℕ) (t : List ℕ) → T (endsWith e t) → T (endsWith e (x ∷ t))
+pub ends-cons : (e x : ℕ) (t : List ℕ) → T (endsWith e t) → T (endsWith e (x ∷ t))
 ends-cons e x [] h = absurd h
 ends-cons e x (y ∷ t) h = h
 

@@ -18,3 +18,4 @@ pub mod Monotone
 pub mod Forms
 pub mod Runs
 pub mod EveryRound
+pub mod Counted
