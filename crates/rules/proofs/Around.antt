@@ -1,11 +1,11 @@
 -- A round around a route, on a triangle day: what the rules say of the round they say of the route.
-use mathlib.Core.Path.{_≡_, subst, sym}
-use Prim.Native.Nat.{ℕ, _≤_}
+use mathlib.Core.Path.{subst, sym}
+use Prim.Native.Nat.{ℕ}
 use native.Mathlib.Omega.{arith}
-use mathlib.Core.Bool.{Bool, true, false, cond, not, _&&_, _||_}
+use mathlib.Core.Bool.{not, _&&_}
 use mathlib.Core.List.{List, [], _∷_}
 use mathlib.Core.Logic.{_⊎_, inl, inr}
-use lib.Dec.{T, T-not, leb, eqb, eqb→eq, leb→le, le→leb}
+use lib.Dec.{T, T-not, eqb, eqb→eq, leb→le, le→leb}
 use Rattle.laws.specs.Logic.{and-l, and-r, and-mono, or-l, or-r, tf, not-or-l, not-or-r, cond-yes, cond-no}
 use Rattle.laws.specs.Lists.{mem, any, Sub, nil, keep, skip, mem-sub}
 use Rattle.rules.specs.Day.{Day, Van}

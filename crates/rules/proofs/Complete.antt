@@ -1,21 +1,21 @@
 -- The verdict. With no place open, an alive plan's route is a round of it that keeps the rules; and on a triangle day a dead plan has no
 -- round that keeps the rules.
 use mathlib.Core.Path.{_≡_, subst, sym, _∙_}
-use Prim.Native.Nat.{ℕ, _≤_}
+use Prim.Native.Nat.{ℕ}
 use native.Mathlib.Omega.{arith}
-use mathlib.Core.Bool.{Bool, true, false, cond, not, _&&_, _||_}
+use mathlib.Core.Bool.{Bool, not, _&&_, _||_}
 use mathlib.Core.List.{List, [], _∷_}
 use mathlib.Core.Logic.{_⊎_, inl, inr, ⊎-elim, _≢_}
-use lib.Dec.{T, T-not, not-T, leb, eqb, eqb→eq, eqb-refl, leb→le, le→leb}
-use Rattle.laws.specs.Logic.{and-i, and-l, and-r, and-mono, or-l, or-r, or-e, tf, imp-i, imp-e, not-or-l, not-or-r, contra, cond-yes, cond-no, cond-yes-i, cond-no-i}
-use Rattle.laws.specs.Lists.{mem, all, any, In, Sub, nil, keep, skip, mem-sub, all-in, all-i, any-i, any-none, any-e}
+use lib.Dec.{T, T-not, not-T, leb, eqb, eqb→eq, eqb-refl, le→leb}
+use Rattle.laws.specs.Logic.{and-i, and-l, and-r, and-mono, or-l, or-r, or-e, tf, imp-i, imp-e, not-or-l, not-or-r, contra, cond-yes-i, cond-no-i}
+use Rattle.laws.specs.Lists.{mem, all, any, In, Sub, nil, keep, mem-sub, all-in, all-i, any-i, any-none, any-e}
 use Rattle.rules.specs.Day.{Day, Van, inner}
-use Rattle.rules.specs.Leg.{legsAhead, everyLeg}
+use Rattle.rules.specs.Leg.{everyLeg}
 use Rattle.rules.specs.Time.{start, inTime, onTime}
 use Rattle.rules.specs.Metres.{driven}
-use Rattle.rules.specs.Load.{load, carries}
+use Rattle.rules.specs.Load.{carries}
 use Rattle.rules.specs.Plan.{Plan, Places}
-use Rattle.rules.specs.Rounds.{Distinct, Within, done, stop, extra, Inside, Belongs, ordered, inOrder, keeps}
+use Rattle.rules.specs.Rounds.{Distinct, Within, done, stop, Inside, Belongs, ordered, inOrder, keeps}
 use Rattle.rules.specs.Verdict.{partnered, owed, hasPlace, wrong, wrongWay, alive}
 use Rattle.rules.specs.Asked.{Triangle, Proper, Formed}
 use Rattle.rules.specs.declared.Job.{Job}

@@ -1,17 +1,17 @@
 -- A leg of the route z ∷ r is a cut (A, B) of it, at or after the first cut (z ∷ [], r). Which leg a stop names, what is reached along
 -- legs with room, and what every leg of a route passes.
 use mathlib.Core.Path.{_≡_, refl, subst, sym, _∙_, ap}
-use Prim.Native.Nat.{ℕ, _<_}
-use mathlib.Core.Bool.{Bool, true, false, cond, not, _&&_, _||_}
+use Prim.Native.Nat.{ℕ}
+use mathlib.Core.Bool.{Bool, true, false, cond, not, _||_}
 use mathlib.Core.List.{List, [], _∷_, head-eq-of-cons-eq, tail-eq-of-cons-eq, nil≢cons}
 use mathlib.Core.Logic.{_⊎_, inl, inr, ⊎-elim}
 use lib.Dec.{T, T-not, eqb, eqb→eq, eqb-refl}
-use Rattle.laws.specs.Logic.{and-i, and-l, and-r, or-l, or-r, or-e, tf, T→true, N→false, contra}
+use Rattle.laws.specs.Logic.{and-i, and-l, and-r, or-l, or-r, or-e, T→true, N→false, contra}
 use Rattle.laws.specs.Lists.{mem, hd}
 use Rattle.rules.specs.Day.{Day, Van}
 use Rattle.rules.specs.Leg.{OfLeg, legsAhead, legsBehind, legFrom}
 use Rattle.rules.specs.Load.{room, reachAhead, reachBack}
-use Rattle.rules.specs.Rounds.{Distinct, none, more}
+use Rattle.rules.specs.Rounds.{Distinct, more}
 
 -- (A′, B′) is a cut at or after the cut (A, B)
 pub data Cut : List ℕ → List ℕ → List ℕ → List ℕ → Type 0 where

@@ -1,23 +1,21 @@
 -- `everyRound` has every round of the day exactly once, and `belongs` is `Belongs` as a test: so a count over it is a count of rounds.
 use mathlib.Core.Path.{_≡_, refl, subst, sym, ap, _∙_}
-use Prim.Native.Nat.{ℕ, zero, suc, _+_, _-_, _≤_, _<_}
+use Prim.Native.Nat.{ℕ, zero, suc, _-_, _≤_, _<_}
 use native.Mathlib.Omega.{arith}
-use mathlib.Core.Bool.{Bool, true, false, cond, not, _&&_, _||_}
-use mathlib.Core.List.{List, [], _∷_, _++_, map, head-eq-of-cons-eq, tail-eq-of-cons-eq}
+use mathlib.Core.Bool.{Bool, true, false, cond, not, _||_}
+use mathlib.Core.List.{List, [], _∷_, map, head-eq-of-cons-eq, tail-eq-of-cons-eq}
 use mathlib.Core.Logic.{_⊎_, inl, inr, ⊎-elim, _↔_, _≢_}
 use lib.Dec.{T, T-not, not-T, eqb, eqb→eq, eqb-refl}
 use lib.ListN.{length}
-use Rattle.laws.specs.Logic.{T→true, N→false, and-i, and-l, and-r, or-l, or-e, tf, imp-i, imp-e, not-or-i, not-or-l, contra, neqb, cond-yes, cond-no, cond-yes-i, cond-no-i}
-use Rattle.laws.specs.Lists.{mem, hd, all, In, here, there, mem-in, in-mem, all-in, all-i, Sub, nil, keep, skip, sub-refl, mem-sub}
-use Rattle.laws.specs.Once.{Once, clear, new, in-none, in-cons, once-length, append-in, in-append-l, in-append-r, once-append, only, only-in, in-only, once-only, Image, in-map, map-in, once-map}
+use Rattle.laws.specs.Logic.{T→true, N→false, or-l, or-e, tf, not-or-i, neqb}
+use Rattle.laws.specs.Lists.{mem, In, here, there, mem-in, in-mem, Sub, nil, keep, skip, sub-refl, mem-sub}
+use Rattle.laws.specs.Once.{Once, clear, new, in-none, in-cons, append-in, in-append-l, in-append-r, once-append, Image, in-map, map-in, once-map}
 use Rattle.rules.specs.Day.{Day, downFrom, inner}
-use Rattle.rules.specs.Plan.{Plan, Places}
-use Rattle.rules.specs.Rounds.{Distinct, none, more, Within, done, stop, extra, Inside, start, Belongs}
-use Rattle.rules.specs.Asked.{Formed, endsWith}
-use Rattle.rules.specs.Every.{Round, less, concatMap, tails, everyRound, count, within, inside, belongs}
+use Rattle.rules.specs.Rounds.{Distinct, none, more}
+use Rattle.rules.specs.Asked.{endsWith}
+use Rattle.rules.specs.Every.{Round, less, concatMap, tails, everyRound}
 use Rattle.rules.proofs.Cuts.{mem-hd, mem-tl, mem-ne, mem-rest}
-use Rattle.rules.proofs.Grows.{distinct-tail, distinct-off, distinct-low, distinct-skip, off-sub, distinct-sub, within-sub}
-use Rattle.rules.proofs.StepRounds.{between}
+use Rattle.rules.proofs.Grows.{distinct-tail, distinct-off, off-sub, distinct-sub}
 
 -- ---- the inner nodes
 

@@ -1,8 +1,8 @@
 -- From the tests that compute to what the theorems ask of a day and a plan; and 01's own sheet, which passes them all.
 use mathlib.Core.Path.{_≡_, refl, subst, sym}
-use Prim.Native.Nat.{ℕ, zero, suc, _+_, _-_, _≤_, _<_}
+use Prim.Native.Nat.{ℕ, zero, suc, _+_, _-_, _<_}
 use native.Mathlib.Omega.{arith}
-use mathlib.Core.Bool.{Bool, true, false, not, _&&_, _||_}
+use mathlib.Core.Bool.{false, not, _&&_, _||_}
 use mathlib.Core.List.{List, [], _∷_}
 use mathlib.Core.Logic.{_⊎_, inl, inr, ⊎-elim, _≢_}
 use lib.Dec.{T, leb, ltb, eqb, eqb→eq, eqb-refl, leb→le, ltb→lt}
@@ -18,7 +18,7 @@ use Rattle.rules.specs.Rounds.{Distinct, none, more}
 use Rattle.rules.specs.Asked.{Shortest, Triangle, OneEnd, Proper, Formed, endsWith, shortestAt, shortestTest, triangleTest, noClash, oneEndTest, properJob, properTest, distinctTest, placeTest, formedTest}
 use Rattle.rules.specs.Examples.{day}
 use Rattle.rules.specs.declared.Job.{Job}
-use Rattle.rules.specs.declared.Job.the-variants.{Clean, Soiled, Transfer}
+use Rattle.rules.specs.declared.Job.the-variants.{Transfer}
 
 -- ---- the triangle rule
 

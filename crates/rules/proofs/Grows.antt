@@ -1,6 +1,6 @@
 -- A route with more stops, on a triangle day: starts grow, the time left ahead shrinks, metres and loads grow.
 use mathlib.Core.Path.{_≡_, refl, subst, sym}
-use Prim.Native.Nat.{ℕ, zero, suc, _+_, _-_, _≤_, _<_, max}
+use Prim.Native.Nat.{ℕ, zero, suc, _+_, _-_, _≤_, _<_}
 use native.Mathlib.Omega.{arith}
 use mathlib.Core.Bool.{Bool, true, false, cond, not, _&&_, _||_}
 use mathlib.Core.List.{List, [], _∷_}
@@ -9,18 +9,18 @@ use lib.Dec.{T, leb, ltb, eqb, leb→le, le→leb, ltb→lt, nltb→le, nleb→l
 use lib.IntN.{ℤ, pos, negsuc, subℕ, _-ℤ_}
 use lib.Signed.{leZ}
 use Rattle.laws.specs.Logic.{and-i, and-l, and-r, and-mono, not-or-l, not-or-r, neqb, contra, cond-mono}
-use Rattle.laws.specs.Lists.{mem, hd, In, here, there, Sub, nil, keep, skip, mem-sub}
+use Rattle.laws.specs.Lists.{mem, In, here, there, Sub, nil, keep, skip, mem-sub}
 use Rattle.rules.specs.Day.{Day, Van}
 use Rattle.rules.specs.Time.{start, lastMoment, inTime, minZ, lastStart, onTime}
 use Rattle.rules.specs.Metres.{driven}
 use Rattle.rules.specs.Load.{aboard, sum, load, carries, room}
 use Rattle.rules.specs.Plan.{Places}
-use Rattle.rules.specs.Rounds.{Distinct, none, more, Within, done, stop, extra}
+use Rattle.rules.specs.Rounds.{Distinct, more, Within, done, stop, extra}
 use Rattle.rules.specs.Tests.{window, short}
 use Rattle.rules.specs.Asked.{Shortest, Triangle}
 use Rattle.rules.specs.declared.Job.{Job}
 use Rattle.rules.specs.declared.Job.the-variants.{Clean, Soiled, Transfer}
-use Rattle.rules.proofs.Cuts.{Cut, same, move, mem-tl}
+use Rattle.rules.proofs.Cuts.{Cut, same, move}
 
 -- ---- distinct nodes and subsequences
 

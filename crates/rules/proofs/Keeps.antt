@@ -1,10 +1,9 @@
 -- What keeping the rules says, rule by rule, and what a round's distinct nodes and a transfer's order say at a cut of it.
-use mathlib.Core.Path.{_≡_, subst, sym}
 use Prim.Native.Nat.{ℕ, _≤_}
-use mathlib.Core.Bool.{Bool, true, false, cond, not, _&&_, _||_}
+use mathlib.Core.Bool.{false, not, _&&_}
 use mathlib.Core.List.{List, [], _∷_}
 use mathlib.Core.Logic.{_⊎_, inl, inr, ⊎-elim}
-use lib.Dec.{T, T-not, leb, eqb, eqb→eq, eqb-refl, leb→le}
+use lib.Dec.{T, T-not, leb, eqb, eqb-refl, leb→le}
 use Rattle.laws.specs.Logic.{and-l, and-r, or-l, tf, not-or-i, cond-yes, cond-no}
 use Rattle.laws.specs.Lists.{mem, all, In, all-in}
 use Rattle.rules.specs.Day.{Day, Van}
@@ -14,8 +13,7 @@ use Rattle.rules.specs.Metres.{driven}
 use Rattle.rules.specs.Load.{carries}
 use Rattle.rules.specs.Rounds.{Distinct, none, more, ordered, inOrder, keeps}
 use Rattle.rules.specs.declared.Job.the-variants.{Transfer}
-use Rattle.rules.proofs.Cuts.{Cut, same, move, cut-next, mem-hd, mem-tl, mem-ne}
-use Rattle.rules.proofs.Grows.{distinct-off}
+use Rattle.rules.proofs.Cuts.{Cut, same, move, mem-hd, mem-tl, mem-ne}
 
 -- ---- the four rules
 

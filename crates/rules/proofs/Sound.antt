@@ -1,21 +1,21 @@
 -- Sound: no test strikes a place that a rule-keeping round of the plan uses. The tests have this law one by one; the theorems read
 -- `all-sound` only.
-use mathlib.Core.Path.{_≡_, subst, sym}
-use Prim.Native.Nat.{ℕ, _+_, _≤_}
+use mathlib.Core.Path.{subst}
+use Prim.Native.Nat.{ℕ}
 use native.Mathlib.Omega.{arith}
-use mathlib.Core.Bool.{Bool, true, false, cond, not, _&&_, _||_}
+use mathlib.Core.Bool.{not, _&&_, _||_}
 use mathlib.Core.List.{List, [], _∷_}
 use mathlib.Core.Logic.{_⊎_, inl, inr, ⊎-elim}
 use lib.Dec.{T, T-not, eqb, eqb→eq}
-use Rattle.laws.specs.Logic.{and-i, and-l, and-r, or-l, or-r, or-e, or-mono, tf, not-or-i, not-or-l, not-or-r, contra, imp-i, cond-new}
-use Rattle.laws.specs.Lists.{mem, hd, all, In, Each, end, also, each-in, Sub, nil, keep, skip, mem-sub, all-i}
+use Rattle.laws.specs.Logic.{and-i, and-l, and-r, or-l, or-r, or-mono, tf, not-or-i, not-or-l, not-or-r, contra, imp-i, cond-new}
+use Rattle.laws.specs.Lists.{mem, hd, In, end, also, each-in, Sub, nil, keep, skip, mem-sub, all-i}
 use Rattle.rules.specs.Day.{Day, Van}
 use Rattle.rules.specs.Leg.{legsAhead, legsBehind}
 use Rattle.rules.specs.Time.{start}
 use Rattle.rules.specs.Load.{carries, room, reachAhead, reachBack}
 use Rattle.rules.specs.Plan.{Places}
-use Rattle.rules.specs.Rounds.{Distinct, Within, done, stop, extra, ordered, keeps}
-use Rattle.rules.specs.Tests.{Test, window, short, cleanFits, clean, soiledFits, soiled, meetsPartner, partnerPlaced, hasSupport, neitherPlaced, tests, stays}
+use Rattle.rules.specs.Rounds.{Distinct, Within, done, stop, extra, keeps}
+use Rattle.rules.specs.Tests.{Test, window, short, cleanFits, clean, soiledFits, soiled, partnerPlaced, neitherPlaced, tests}
 use Rattle.rules.specs.Asked.{Triangle}
 use Rattle.rules.specs.declared.Job.{Job}
 use Rattle.rules.specs.declared.Job.the-variants.{Clean, Soiled, Transfer}

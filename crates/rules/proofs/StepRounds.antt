@@ -2,8 +2,8 @@
 -- the node, requiring those with it.
 use mathlib.Core.Path.{_≡_, subst, sym}
 use Prim.Native.Nat.{ℕ}
-use mathlib.Core.Bool.{Bool, true, false, cond, not, _&&_, _||_}
-use mathlib.Core.List.{List, [], _∷_}
+use mathlib.Core.Bool.{Bool, cond, not, _&&_}
+use mathlib.Core.List.{List, _∷_}
 use mathlib.Core.Logic.{_⊎_, inl, inr, ⊎-elim, _↔_}
 use lib.Dec.{T, T-not, not-T, eqb, eqb→eq, eqb-refl}
 use Rattle.laws.specs.Logic.{and-i, and-l, and-r, or-l, or-r, or-e, tf, not-or-i, not-or-l, not-or-r, contra, cond-yes, cond-no, cond-yes-i, cond-no-i}
