@@ -27,9 +27,6 @@ use Rattle.rules.proofs.Cuts.{Cut, same, move}
 pub distinct-tail : {n x : ℕ} {l : List ℕ} → Distinct n (x ∷ l) → Distinct n l
 distinct-tail (more a b g) = g
 
-pub distinct-low : {n x : ℕ} {l : List ℕ} → Distinct n (x ∷ l) → x < n
-distinct-low (more a b g) = a
-
 pub distinct-off : {n x : ℕ} {l : List ℕ} → Distinct n (x ∷ l) → T (not (mem x l))
 distinct-off (more a b g) = b
 

@@ -31,6 +31,9 @@ within-more f done = done
 within-more f (stop w) = stop (within-more f w)
 within-more {p = p} f (extra {x = x} t w) = extra (f x p t) (within-more f w)
 
+pub inside-more : {o o′ : Places} {rt R : List ℕ} → o ⊆ o′ → Inside o rt R → Inside o′ rt R
+inside-more f (start w) = start (within-more f w)
+
 module _ (p x c k : ℕ) (r R : List ℕ) where
   abbrev elsewhere : ℕ → Bool
   elsewhere y = cond (eqb y x) (eqb c p) (usesAfter p x c (k ∷ r) R)
@@ -75,6 +78,19 @@ module _ (o : Places) (p x : ℕ) where
       go : T (eqb y x) ⊎ T (not (eqb y x)) → (T (usesAfter p x c (k ∷ r) R) → T (mem x R)) → T (mem x (y ∷ R))
       go (inl e) f = or-l (eqb y x) (mem x R) e
       go (inr m) f = mem-tl x y R (f (uses-past p x c k r R y (between (distinct-tail g) (within-sub w)) m .0 t))
+
+  -- and the place is open
+  pub uses-open : {n c : ℕ} {r R : List ℕ} → Distinct n (c ∷ R) → Within o c r R → T (usesAfter p x c r R) → T (o x p)
+  uses-open g done t = absurd t
+  uses-open {c = c} g (stop {k = k} {r = r} {R = R} w) t = uses-open (distinct-tail g) w (uses-stop p x c k r R .0 t)
+  uses-open {c = c} g (extra {x = y} {k = k} {r = r} {R = R} v w) t = go (tf (eqb y x)) (uses-open (distinct-skip g) w)
+    where
+      n : T (not (eqb y k))
+      n = between (distinct-tail g) (within-sub w)
+
+      go : T (eqb y x) ⊎ T (not (eqb y x)) → (T (usesAfter p x c (k ∷ r) R) → T (o x p)) → T (o x p)
+      go (inl e) f = subst (λ (m : ℕ). T (o m p)) (eqb→eq y x e) (subst (λ (m : ℕ). T (o y m)) (eqb→eq c p (uses-here p x c k r R y n e .0 t)) v)
+      go (inr m) f = f (uses-past p x c k r R y n m .0 t)
 
   -- ---- placing: the rounds of the new plan are rounds of the old one
 
