@@ -152,7 +152,7 @@ module _ (v : Van) (d : Day) (one : OneEnd (d .jobs)) (rt : List ℕ) (g : Disti
       fuel : T (o x p) → 2 ≤ d .n * d .n
       fuel t = let l = inner-low d (seen x p t .0) in let m : 2 ≤ d .n = omega arith in omega (arith, mul-le-mul m m)
 
-  settle-fixed : settle v d rt o ⊆ round v d rt (settle v d rt o)
+  pub settle-fixed : settle v d rt o ⊆ round v d rt (settle v d rt o)
   settle-fixed x p t = round-wider v d rt o₂ (settle v d rt o) (two-out (d .n * d .n)) x p (third v d one rt g o x p (subst (λ (b : Bool). T b) (settle-twice x p) t))
 
   -- settling goes on until a round strikes nothing

@@ -19,3 +19,4 @@ pub mod Forms
 pub mod Runs
 pub mod EveryRound
 pub mod Counted
+pub mod Alike
