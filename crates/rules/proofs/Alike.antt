@@ -1,14 +1,14 @@
 -- Demand 3. The end of a run, settled, has the open places and the verdict of the plan that 01 works out from the start, settled. So two
 -- runs that end alike settle alike.
 use mathlib.Core.Path.{_≡_, refl, subst, sym, ap, _∙_}
-use Prim.Native.Nat.{ℕ, suc, _<_}
+use Prim.Native.Nat.{ℕ}
 use native.Mathlib.Omega.{arith}
-use mathlib.Core.Bool.{Bool, true, false, cond, not, _&&_, _||_, and-true, or-true}
+use mathlib.Core.Bool.{Bool, cond, not, _&&_, _||_, and-true, or-true}
 use mathlib.Core.List.{List, [], _∷_}
-use mathlib.Core.Logic.{_⊎_, inl, inr, ⊎-elim}
+use mathlib.Core.Logic.{⊎-elim}
 use lib.Dec.{T, leb, eqb, eqb→eq, eqb-refl}
 use Rattle.laws.specs.Logic.{T→true, N→false, false→N, T-ext, decided, and-i, and-l, and-r, or-e}
-use Rattle.laws.specs.Lists.{mem, hd, all, any, In, Sub, nil, keep, skip}
+use Rattle.laws.specs.Lists.{mem, hd, all, any, Sub, nil, keep, skip}
 use Rattle.rules.specs.Day.{Day, Van, inner}
 use Rattle.rules.specs.Leg.{legStops, everyLeg}
 use Rattle.rules.specs.Time.{onTime}
@@ -17,14 +17,14 @@ use Rattle.rules.specs.Load.{carries}
 use Rattle.rules.specs.Plan.{Plan, Places, Marks}
 use Rattle.rules.specs.Rounds.{Distinct, more, Within, stop, extra}
 use Rattle.rules.specs.Settle.{round, settle, settled}
-use Rattle.rules.specs.Verdict.{partnered, owed, hasPlace, wrongWay, alive}
+use Rattle.rules.specs.Verdict.{partnered, owed, wrongWay, alive}
 use Rattle.rules.specs.Worked.{Run, origin, workedPlaces, worked}
 use Rattle.rules.specs.Asked.{Triangle, OneEnd, Formed}
-use Rattle.rules.proofs.Cuts.{Cut, same, move, cut-trans, cut-next, cut-ahead, cut-name, cut-nil, mem-hd, mem-ne}
+use Rattle.rules.proofs.Cuts.{Cut, same, move, cut-next, cut-name, mem-hd, mem-ne}
 use Rattle.rules.proofs.Grows.{within-sub}
 use Rattle.rules.proofs.Left.{_⊆_}
 use Rattle.rules.proofs.Fixpoint.{Seen, inner-low, settle-less, settle-fixed, settle-greatest, settle-wider}
-use Rattle.rules.proofs.Longer.{Lies, lies-one, lies-same, entered-on, left-on, Ancestor, Comes, within-self}
+use Rattle.rules.proofs.Longer.{lies-one, lies-same, entered-on, left-on, Ancestor, Comes, within-self}
 use Rattle.rules.proofs.Forms.{Laid, formed-laid}
 use Rattle.rules.proofs.Runs.{Course, course-laid, coursed, course-within, course-from, course-shut, course-kept}
 

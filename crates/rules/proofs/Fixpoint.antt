@@ -1,6 +1,6 @@
 -- What settling leaves: the greatest part of the open places that a round strikes nothing of. It is two rounds, whatever the fuel.
 use mathlib.Core.Path.{_≡_, subst}
-use Prim.Native.Nat.{ℕ, zero, suc, _+_, _-_, _*_, _≤_, _<_}
+use Prim.Native.Nat.{ℕ, zero, suc, _-_, _*_, _≤_, _<_}
 use native.Mathlib.Omega.{arith}
 use native.Mathlib.Nat.{mul-le-mul}
 use mathlib.Core.Bool.{Bool, true, false, cond, not, _&&_, _||_}
@@ -8,12 +8,12 @@ use mathlib.Core.List.{List, [], _∷_}
 use mathlib.Core.Logic.{⊎-elim, _↔_}
 use lib.Dec.{T, not-T, eqb, eqb→eq, eqb-refl}
 use Rattle.laws.specs.Logic.{T-ext, tf, N→false, and-i, and-l, and-r, or-l, or-r, or-e}
-use Rattle.laws.specs.Lists.{mem, hd, any, In, here, there, Each, each-in, mem-in, any-i}
+use Rattle.laws.specs.Lists.{mem, hd, any, In, here, there, each-in, mem-in, any-i}
 use Rattle.rules.specs.Day.{Day, Van, downFrom, inner}
 use Rattle.rules.specs.Leg.{OfLeg, legFrom, onLeg}
 use Rattle.rules.specs.Plan.{Places}
 use Rattle.rules.specs.Rounds.{Distinct}
-use Rattle.rules.specs.Tests.{Test, tests, neitherPlaced, stays}
+use Rattle.rules.specs.Tests.{Test, neitherPlaced, stays}
 use Rattle.rules.specs.Settle.{round, strikes, settleIn, settle}
 use Rattle.rules.specs.Asked.{OneEnd}
 use Rattle.rules.proofs.Cuts.{reach-way, way-reach, back-way, way-from}

@@ -1,13 +1,13 @@
 -- The steps keep the form.
-use mathlib.Core.Path.{_≡_, refl, subst, sym, ap, _∙_}
+use mathlib.Core.Path.{_≡_, ap, _∙_}
 use Prim.Native.Nat.{ℕ, _-_, _<_}
 use native.Mathlib.Omega.{arith}
-use mathlib.Core.Bool.{Bool, true, false, cond, not, _&&_, _||_}
-use mathlib.Core.List.{List, [], _∷_}
-use mathlib.Core.Logic.{_⊎_, inl, inr, ⊎-elim}
+use mathlib.Core.Bool.{not, _&&_}
+use mathlib.Core.List.{List, _∷_}
+use mathlib.Core.Logic.{⊎-elim}
 use lib.Dec.{T, eqb, eqb→eq}
 use Rattle.laws.specs.Logic.{tf, and-l, or-e, or-mono, not-or-i, not-or-l, not-or-r, ne-sym}
-use Rattle.laws.specs.Lists.{mem, In, Sub, nil, keep, skip, sub-refl, mem-sub}
+use Rattle.laws.specs.Lists.{mem, In, Sub, keep, skip, sub-refl}
 use Rattle.rules.specs.Day.{Day, Van, inner}
 use Rattle.rules.specs.Leg.{legStops}
 use Rattle.rules.specs.Plan.{Plan, Places}
@@ -15,7 +15,7 @@ use Rattle.rules.specs.Rounds.{Distinct, more}
 use Rattle.rules.specs.Steps.{putAfter, split, placed, closed, excluded, required}
 use Rattle.rules.specs.Settle.{settled}
 use Rattle.rules.specs.Asked.{endsWith, Formed}
-use Rattle.rules.proofs.Cuts.{mem-hd, mem-tl, mem-ne}
+use Rattle.rules.proofs.Cuts.{mem-hd, mem-tl}
 use Rattle.rules.proofs.Left.{_⊆_}
 use Rattle.rules.proofs.Placing.{Ins, at, on, Put, put-ins, split-ne, split-e, split-half}
 use Rattle.rules.proofs.Fixpoint.{inner-low, settle-less}

@@ -1,14 +1,14 @@
 -- MONOTONE: struck stays struck on every longer route. A place that passes every test on the longer route passes each test, on a triangle
 -- day, in the leg of the shorter route that it comes from.
 use mathlib.Core.Path.{_≡_, refl, sym, _∙_}
-use Prim.Native.Nat.{ℕ, _≤_, _<_}
+use Prim.Native.Nat.{ℕ, _<_}
 use native.Mathlib.Omega.{arith}
-use mathlib.Core.Bool.{Bool, true, false, not, _&&_, _||_}
+use mathlib.Core.Bool.{Bool, false, not, _||_}
 use mathlib.Core.List.{List, [], _∷_}
 use mathlib.Core.Logic.{⊎-elim, _⊎_, inl, inr}
 use lib.Dec.{T, T-not, eqb, eqb→eq}
 use Rattle.laws.specs.Logic.{tf, and-i, and-l, and-r, and-mono, or-l, or-e, or-mono}
-use Rattle.laws.specs.Lists.{mem, hd, all, In, here, there, Each, end, also, each-in, all-mono, Sub, nil, keep, skip, mem-sub}
+use Rattle.laws.specs.Lists.{mem, In, here, there, Each, end, also, each-in, all-mono, Sub, nil, keep, skip, mem-sub}
 use Rattle.rules.specs.Day.{Day, Van}
 use Rattle.rules.specs.Leg.{legsAhead, legsBehind}
 use Rattle.rules.specs.Time.{start}
