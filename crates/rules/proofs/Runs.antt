@@ -19,7 +19,7 @@ use Rattle.rules.proofs.Grows.{within-sub}
 use Rattle.rules.proofs.Left.{_⊆_, round-less, round-stays, round-i}
 use Rattle.rules.proofs.Placing.{Ins, at, on, put-ins, split-e, split-i, split-half, split-half-i}
 use Rattle.rules.proofs.StepRounds.{within-more, place-old}
-use Rattle.rules.proofs.Longer.{Lies, lies-one, lies-same, lies-trans, left-on, Comes, within-self, ancestor, Past, first, halt, between, follow}
+use Rattle.rules.proofs.Longer.{Lies, lies-one, lies-same, lies-trans, left-on, Comes, within-self, ancestor, Past, begun, halt, between, follow}
 use Rattle.rules.proofs.Monotone.{Over, stays-grows}
 use Rattle.rules.proofs.Forms.{Laid, laid-fewer, laid-placed, ins-new}
 
@@ -82,7 +82,7 @@ ins-within (on i) = stop (ins-within i)
 
 -- a leg of the new route has the name of the leg in which it lies, or it is the half that x names
 half : {p x z p₀ q : ℕ} {A A′ : List ℕ} → Past (only p x) z (p₀ ∷ A) (q ∷ A′) → (q ≡ p₀) ⊎ ((q ≡ x) × (p₀ ≡ p))
-half first = inl refl
+half begun = inl refl
 half (halt u) = inl refl
 half {p} {x} (between {y = y} {p = p₀} t u) = inr (eqb→eq y x (and-l (eqb y x) (eqb p₀ p) t), eqb→eq p₀ p (and-r (eqb y x) (eqb p₀ p) t))
 
