@@ -21,9 +21,10 @@ use Rattle.rules.specs.Verdict.{partnered, owed, wrongWay, alive}
 use Rattle.rules.specs.Worked.{Run, origin, workedPlaces, worked}
 use Rattle.rules.specs.Asked.{Triangle, OneEnd, Formed}
 use Rattle.rules.proofs.Cuts.{Cut, same, move, cut-next, cut-name, mem-hd, mem-ne}
+use Rattle.rules.proofs.Inner.{inner-low}
 use Rattle.rules.proofs.Grows.{within-sub}
 use Rattle.rules.proofs.Left.{_⊆_}
-use Rattle.rules.proofs.Fixpoint.{Seen, inner-low, settle-less, settle-fixed, settle-greatest, settle-wider}
+use Rattle.rules.proofs.Fixpoint.{Seen, settle-less, settle-fixed, settle-greatest, settle-wider}
 use Rattle.rules.proofs.Longer.{lies-one, lies-same, entered-on, left-on, Ancestor, Comes, within-self}
 use Rattle.rules.proofs.Forms.{Laid, formed-laid}
 use Rattle.rules.proofs.Runs.{Course, course-laid, coursed, course-within, course-from, course-shut, course-kept}

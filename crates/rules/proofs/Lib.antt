@@ -20,10 +20,11 @@
 -- Sound `all-sound` (no place is struck that a rule-keeping round uses), Monotone `all-monotone` (struck stays struck on every longer route),
 -- Twice `all-rest` (the test does not look at the places, or it is 'neither placed').
 --
--- What they ask of a day and a plan comes from tests that compute, and 01's own sheet meets it: Given. The steps keep the form: Forms.
+-- What they ask of a day and a plan comes from tests that compute, and 01's own sheet meets it: Given. Fresh is in form and the steps keep it: Forms.
 -- All rounds of a day, each once, and counts over them: EveryRound, Counted. For code that keeps the route in an array: AlongLaws.
 
--- routes, their legs, and what grows with them
+-- nodes, routes, their legs, and what grows with them
+pub mod Inner
 pub mod Cuts
 pub mod Grows
 pub mod Longer
