@@ -80,7 +80,7 @@ cut-mem x {A = A} (move {k = k} {B = B} c) m =
 
 -- ---- the leg that a stop names
 
-cut-name : {A B A′ B′ : List ℕ} {k : ℕ} → Cut (k ∷ A) B A′ B′ → T (mem (hd A′) (k ∷ B))
+pub cut-name : {A B A′ B′ : List ℕ} {k : ℕ} → Cut (k ∷ A) B A′ B′ → T (mem (hd A′) (k ∷ B))
 cut-name {B = B} {k = k} same = mem-hd k B
 cut-name {A′ = A′} {k = k} (move {k = m} {B = B} c) = mem-tl (hd A′) k (m ∷ B) (cut-name c)
 

@@ -15,20 +15,10 @@ use Rattle.rules.specs.Rounds.{Distinct, none, more}
 use Rattle.rules.specs.Asked.{endsWith}
 use Rattle.rules.specs.Every.{Round, less, concatMap, tails, everyRound}
 use Rattle.rules.proofs.Cuts.{mem-hd, mem-tl, mem-ne, mem-rest}
+use Rattle.rules.proofs.Inner.{down-mem, mem-down}
 use Rattle.rules.proofs.Grows.{distinct-tail, distinct-off, off-sub, distinct-sub}
 
 -- ---- the inner nodes
-
-pub down-mem : (m y : ℕ) → T (mem y (downFrom m)) → (1 ≤ y) × (y ≤ m)
-down-mem zero y h = absurd h
-down-mem (suc m) y h =
-    ⊎-elim (λ e. let q = eqb→eq (suc m) y e in (omega (arith, q), omega (arith, q))) (λ k. let q = down-mem m y k in (q .0, omega (arith, q)))
-    (or-e (eqb (suc m) y) (mem y (downFrom m)) h)
-
-pub mem-down : (m y : ℕ) → 1 ≤ y → y ≤ m → T (mem y (downFrom m))
-mem-down zero y a b = absurd (omega arith)
-mem-down (suc m) y a b =
-    ⊎-elim (or-l (eqb (suc m) y) (mem y (downFrom m))) (λ n. let q = neqb (suc m) y n in mem-tl y (suc m) (downFrom m) (mem-down m y a (omega arith))) (tf (eqb (suc m) y))
 
 distinct-down : (n m : ℕ) → m < n → Distinct n (downFrom m)
 distinct-down n zero h = none

@@ -13,26 +13,27 @@ use Rattle.rules.specs.Settle.{round, strikes, settleIn, settled}
 use Rattle.rules.specs.Asked.{Triangle}
 use Rattle.rules.proofs.Cuts.{Cut, same, cut-next}
 use Rattle.rules.proofs.Grows.{distinct-sub, within-sub}
-use Rattle.rules.proofs.Sound.{Behind, begin, past, other, all-sound}
+use Rattle.rules.proofs.Longer.{Past, begun, halt, between}
+use Rattle.rules.proofs.Sound.{all-sound}
 use Rattle.rules.proofs.Left.{stays-i, round-i}
 use Rattle.rules.proofs.Fixpoint.{settle-less}
 use Rattle.rules.proofs.StepRounds.{inside-more, uses-open}
 
 module _ (v : Van) (d : Day) (tri : Triangle d) {z : ℕ} {r R : List ℕ} (nodes : Distinct (d .n) (z ∷ R)) (rules : T (keeps v d (z ∷ R))) where
   -- along the round: behind, what it has passed; ahead, what is to come
-  walk : (o : Places) {p q : ℕ} {A A′ B B′ : List ℕ} → Distinct (d .n) (z ∷ r) → Cut (z ∷ []) r (p ∷ A) B → Cut (z ∷ []) R (q ∷ A′) B′ → Behind o (p ∷ A) (q ∷ A′) → Within o p B B′
+  walk : (o : Places) {p q : ℕ} {A A′ B B′ : List ℕ} → Distinct (d .n) (z ∷ r) → Cut (z ∷ []) r (p ∷ A) B → Cut (z ∷ []) R (q ∷ A′) B′ → Past o z (p ∷ A) (q ∷ A′) → Within o p B B′
       → Within (round v d (z ∷ r) o) p B B′
   walk o g c at u done = done
-  walk o g c at u (stop w) = stop (walk o g (cut-next c) (cut-next at) (past u) w)
+  walk o g c at u (stop w) = stop (walk o g (cut-next c) (cut-next at) (halt u) w)
   walk o {p} {q} {A} {A′} g c at u (extra {x = x} {k = k} {r = B} {R = B′} t w) =
       extra
       (round-i v d z r o x g c t (stays-i v d (z ∷ r) o x (p ∷ A) (k ∷ B)
       (λ s i. all-sound s i v d tri o z x p k r R A B (record { nodes = nodes; rules = rules; leg = c; q = q; A′ = A′; B′ = B′; at = at; behind = u; ahead = w }))))
-      (walk o g c (cut-next at) (other t u) w)
+      (walk o g c (cut-next at) (between t u) w)
 
   -- one round of settling
   round-keeps : (o : Places) → Within o z r R → Within (round v d (z ∷ r) o) z r R
-  round-keeps o w = walk o (distinct-sub (keep (within-sub w)) nodes) same same begin w
+  round-keeps o w = walk o (distinct-sub (keep (within-sub w)) nodes) same same begun w
 
   settle-keeps : (f : ℕ) (o : Places) → Within o z r R → Within (settleIn f v d (z ∷ r) o) z r R
   unfolding settleIn

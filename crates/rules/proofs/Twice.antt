@@ -12,7 +12,7 @@ use Rattle.laws.specs.Lists.{hd, any, In, here, there, Each, end, also, each-in
 use Rattle.rules.specs.Day.{Day, Van, inner}
 use Rattle.rules.specs.Plan.{Places}
 use Rattle.rules.specs.Rounds.{Distinct}
-use Rattle.rules.specs.Tests.{Test, tests, window, short, clean, soiled, partnerPlaced, neitherPlaced, stays}
+use Rattle.rules.specs.Tests.{Test, tests, window, neitherPlaced, stays}
 use Rattle.rules.specs.Settle.{round, strikes, roundsIn, rounds}
 use Rattle.rules.specs.Asked.{OneEnd}
 use Rattle.rules.specs.declared.Job.the-variants.{Transfer}
