@@ -8,7 +8,7 @@ use mathlib.Core.List.{List, [], _∷_}
 use mathlib.Core.Logic.{⊎-elim}
 use lib.Dec.{T, leb, eqb, eqb→eq, eqb-refl}
 use Rattle.laws.specs.Logic.{T→true, N→false, false→N, T-ext, decided, and-i, and-l, and-r, or-e}
-use Rattle.laws.specs.Lists.{mem, hd, all, any, Sub, nil, keep, skip}
+use Rattle.laws.specs.Lists.{mem, hd, all, any, Sub, nil, keep, skip, mem-hd, mem-ne}
 use Rattle.rules.specs.Day.{Day, Van, inner}
 use Rattle.rules.specs.Leg.{legStops, everyLeg}
 use Rattle.rules.specs.Time.{onTime}
@@ -20,14 +20,14 @@ use Rattle.rules.specs.Settle.{round, settle, settled}
 use Rattle.rules.specs.Verdict.{partnered, owed, wrongWay, alive}
 use Rattle.rules.specs.Worked.{Run, origin, workedPlaces, worked}
 use Rattle.rules.specs.Asked.{Triangle, OneEnd, Formed}
-use Rattle.rules.proofs.Cuts.{Cut, same, move, cut-next, cut-name, mem-hd, mem-ne}
+use Rattle.rules.proofs.Cuts.{Cut, same, move, cut-next, cut-name}
 use Rattle.rules.proofs.Inner.{inner-low}
-use Rattle.rules.proofs.Grows.{within-sub}
 use Rattle.rules.proofs.Left.{_⊆_}
 use Rattle.rules.proofs.Fixpoint.{Seen, settle-less, settle-fixed, settle-greatest, settle-wider}
 use Rattle.rules.proofs.Longer.{lies-one, lies-same, entered-on, left-on, Ancestor, Comes, within-self}
 use Rattle.rules.proofs.Forms.{Laid, formed-laid}
 use Rattle.rules.proofs.Runs.{Course, course-laid, coursed, course-within, course-from, course-shut, course-kept}
+use Rattle.rules.proofs.Nodes.{within-sub}
 
 -- ---- the last starting stop at or before a stop of the end route
 

@@ -7,7 +7,7 @@ use mathlib.Core.List.{List, [], _∷_}
 use mathlib.Core.Logic.{_⊎_, inl, inr}
 use lib.Dec.{T, T-not, eqb, eqb→eq, leb→le, le→leb}
 use Rattle.laws.specs.Logic.{and-l, and-r, and-mono, or-l, or-r, tf, not-or-l, not-or-r, cond-yes, cond-no}
-use Rattle.laws.specs.Lists.{mem, any, Sub, nil, keep, skip, mem-sub}
+use Rattle.laws.specs.Lists.{mem, any, Sub, nil, keep, skip, mem-sub, mem-tl, mem-rest}
 use Rattle.rules.specs.Day.{Day, Van}
 use Rattle.rules.specs.Leg.{legsAhead}
 use Rattle.rules.specs.Time.{start, inTime, onTime}
@@ -16,9 +16,10 @@ use Rattle.rules.specs.Plan.{Places}
 use Rattle.rules.specs.Rounds.{Distinct, Within, done, stop, extra, ordered}
 use Rattle.rules.specs.Verdict.{wrong}
 use Rattle.rules.specs.Asked.{Triangle}
-use Rattle.rules.proofs.Cuts.{Cut, cut-next, mem-tl, mem-rest}
-use Rattle.rules.proofs.Grows.{distinct-off, distinct-tail, in-time-sooner, start-grows, load-grows}
-use Rattle.rules.proofs.Keeps.{distinct-behind}
+use Rattle.rules.proofs.Cuts.{Cut, cut-next}
+use Rattle.rules.proofs.Grows.{start-grows, load-grows}
+use Rattle.rules.proofs.Nodes.{distinct-off, distinct-tail, distinct-behind}
+use Rattle.rules.proofs.Windows.{in-time-sooner}
 
 module _ (d : Day) (tri : Triangle d) {z : ℕ} {R : List ℕ} (nodes : Distinct (d .n) (z ∷ R)) where
   pub time-grows : {A A′ B B′ : List ℕ} → Cut (z ∷ []) R A′ B′ → Sub A A′ → Sub B B′ → T (onTime d A′ B′) → T (onTime d A B)

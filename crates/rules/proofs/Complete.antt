@@ -8,7 +8,7 @@ use mathlib.Core.List.{List, [], _∷_}
 use mathlib.Core.Logic.{_⊎_, inl, inr, ⊎-elim, _≢_}
 use lib.Dec.{T, T-not, not-T, leb, eqb, eqb→eq, eqb-refl, le→leb}
 use Rattle.laws.specs.Logic.{and-i, and-l, and-r, and-mono, or-l, or-r, or-e, tf, imp-i, imp-e, not-or-l, not-or-r, contra, cond-yes-i, cond-no-i}
-use Rattle.laws.specs.Lists.{mem, all, any, In, Sub, nil, keep, mem-sub, all-in, all-i, any-i, any-none, any-e}
+use Rattle.laws.specs.Lists.{mem, all, any, In, Sub, nil, keep, mem-sub, all-in, all-i, any-i, any-none, any-e, mem-tl, mem-rest}
 use Rattle.rules.specs.Day.{Day, Van, inner}
 use Rattle.rules.specs.Leg.{everyLeg}
 use Rattle.rules.specs.Time.{start, inTime, onTime}
@@ -20,10 +20,11 @@ use Rattle.rules.specs.Verdict.{partnered, owed, hasPlace, wrong, wrongW
 use Rattle.rules.specs.Asked.{Triangle, Proper, Formed}
 use Rattle.rules.specs.declared.Job.{Job}
 use Rattle.rules.specs.declared.Job.the-variants.{Clean, Soiled, Transfer}
-use Rattle.rules.proofs.Cuts.{same, mem-tl, mem-rest}
-use Rattle.rules.proofs.Grows.{within-sub, driven-grows}
+use Rattle.rules.proofs.Cuts.{same}
+use Rattle.rules.proofs.Grows.{driven-grows}
 use Rattle.rules.proofs.Keeps.{keeps-time, keeps-metres, keeps-order, keeps-loads}
 use Rattle.rules.proofs.Around.{time-grows, loads-grow, not-wrong, ordered-both, within-place}
+use Rattle.rules.proofs.Nodes.{within-sub}
 
 -- ---- no place open and alive
 

@@ -15,9 +15,9 @@ use Rattle.rules.specs.Plan.{Plan, Places}
 use Rattle.rules.specs.Rounds.{Distinct, Within, done, stop, extra, Inside, start, Belongs}
 use Rattle.rules.specs.Asked.{Formed, endsWith}
 use Rattle.rules.specs.Every.{Round, everyRound, count, within, inside, belongs}
-use Rattle.rules.proofs.Grows.{distinct-tail, distinct-skip, within-sub}
-use Rattle.rules.proofs.StepRounds.{between}
 use Rattle.rules.proofs.EveryRound.{ends-cons, every-round, every-once}
+use Rattle.rules.proofs.Nodes.{distinct-tail, distinct-skip, within-sub}
+use Rattle.rules.proofs.Using.{between}
 
 -- ---- belonging as a test
 

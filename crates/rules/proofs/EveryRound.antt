@@ -8,15 +8,14 @@ use mathlib.Core.Logic.{_⊎_, inl, inr, ⊎-elim, _↔_, _≢_}
 use lib.Dec.{T, T-not, not-T, eqb, eqb→eq, eqb-refl}
 use lib.ListN.{length}
 use Rattle.laws.specs.Logic.{T→true, N→false, or-l, or-e, tf, not-or-i, neqb}
-use Rattle.laws.specs.Lists.{mem, In, here, there, mem-in, in-mem, Sub, nil, keep, skip, sub-refl, mem-sub}
+use Rattle.laws.specs.Lists.{mem, In, here, there, mem-in, in-mem, Sub, nil, keep, skip, sub-refl, mem-sub, mem-hd, mem-tl, mem-ne, mem-rest}
 use Rattle.laws.specs.Once.{Once, clear, new, in-none, in-cons, append-in, in-append-l, in-append-r, once-append, Image, in-map, map-in, once-map}
 use Rattle.rules.specs.Day.{Day, downFrom, inner}
 use Rattle.rules.specs.Rounds.{Distinct, none, more}
 use Rattle.rules.specs.Asked.{endsWith}
 use Rattle.rules.specs.Every.{Round, less, concatMap, tails, everyRound}
-use Rattle.rules.proofs.Cuts.{mem-hd, mem-tl, mem-ne, mem-rest}
 use Rattle.rules.proofs.Inner.{down-mem, mem-down}
-use Rattle.rules.proofs.Grows.{distinct-tail, distinct-off, off-sub, distinct-sub}
+use Rattle.rules.proofs.Nodes.{distinct-tail, distinct-off, off-sub, distinct-sub}
 
 -- ---- the inner nodes
 

@@ -16,11 +16,11 @@ use Rattle.rules.specs.Rounds.{Distinct}
 use Rattle.rules.specs.Tests.{Test, neitherPlaced, stays}
 use Rattle.rules.specs.Settle.{round, strikes, settleIn, settle}
 use Rattle.rules.specs.Asked.{OneEnd}
-use Rattle.rules.proofs.Cuts.{reach-way, way-reach, back-way, way-from}
 use Rattle.rules.proofs.Inner.{inner-low}
 use Rattle.rules.proofs.Transfers.{supports-e, supports-i}
 use Rattle.rules.proofs.Left.{_⊆_, stays-e, stays-i, round-less, round-leg, round-left}
 use Rattle.rules.proofs.Twice.{Rests, steady, paired, all-rest, third, calm}
+use Rattle.rules.proofs.Ways.{reach-way, way-reach, back-way, way-from}
 
 -- ---- more places open, more places stay
 

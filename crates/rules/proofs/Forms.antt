@@ -7,7 +7,7 @@ use mathlib.Core.List.{List, [], _∷_}
 use mathlib.Core.Logic.{⊎-elim}
 use lib.Dec.{T, not-T, eqb, eqb→eq, eqb-refl}
 use Rattle.laws.specs.Logic.{tf, and-l, and-r, or-e, or-mono, not-or-i, not-or-l, not-or-r, ne-sym}
-use Rattle.laws.specs.Lists.{mem, In, mem-in, Sub, keep, skip, sub-refl}
+use Rattle.laws.specs.Lists.{mem, In, mem-in, Sub, keep, skip, sub-refl, mem-hd, mem-tl}
 use Rattle.rules.specs.Day.{Day, Van, inner}
 use Rattle.rules.specs.Leg.{legStops}
 use Rattle.rules.specs.Plan.{Plan, Places, fresh}
@@ -16,7 +16,6 @@ use Rattle.rules.specs.Steps.{putAfter, split, placed, closed, excluded,
 use Rattle.rules.specs.Settle.{settled}
 use Rattle.rules.specs.Asked.{endsWith, Formed}
 use Rattle.rules.proofs.Inner.{inner-low}
-use Rattle.rules.proofs.Cuts.{mem-hd, mem-tl}
 use Rattle.rules.proofs.Left.{_⊆_}
 use Rattle.rules.proofs.Placing.{Ins, at, on, Put, put-ins, split-ne, split-e, split-half}
 use Rattle.rules.proofs.Fixpoint.{settle-less}

@@ -26,6 +26,9 @@
 -- nodes, routes, their legs, and what grows with them
 pub mod Inner
 pub mod Cuts
+pub mod Nodes
+pub mod Ways
+pub mod Windows
 pub mod Grows
 pub mod Longer
 pub mod AlongLaws
@@ -44,6 +47,7 @@ pub mod EveryRound
 pub mod Counted
 -- the steps
 pub mod Placing
+pub mod Using
 pub mod StepRounds
 pub mod Forms
 pub mod Given

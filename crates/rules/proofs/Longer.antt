@@ -7,12 +7,12 @@ use mathlib.Core.List.{List, [], _∷_}
 use mathlib.Core.Logic.{⊎-elim}
 use lib.Dec.{T, T-not, eqb}
 use Rattle.laws.specs.Logic.{or-l, or-e, not-or-i, not-or-l, not-or-r}
-use Rattle.laws.specs.Lists.{mem, hd, Sub, nil, keep, skip, sub-refl, sub-trans, mem-sub}
+use Rattle.laws.specs.Lists.{mem, hd, Sub, nil, keep, skip, sub-refl, sub-trans, mem-sub, mem-hd, mem-tl}
 use Rattle.rules.specs.Plan.{Places}
 use Rattle.rules.specs.Rounds.{Distinct, Within, done, stop, extra}
-use Rattle.rules.proofs.Cuts.{Cut, same, move, mem-hd, mem-tl, cut-next, cut-ahead, cut-behind}
-use Rattle.rules.proofs.Grows.{within-sub}
-use Rattle.rules.proofs.Keeps.{distinct-behind, stays-behind}
+use Rattle.rules.proofs.Cuts.{Cut, same, move, cut-next, cut-ahead, cut-behind}
+use Rattle.rules.proofs.Keeps.{stays-behind}
+use Rattle.rules.proofs.Nodes.{within-sub, distinct-behind}
 
 -- ---- a node off the route
 

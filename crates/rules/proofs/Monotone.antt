@@ -20,11 +20,12 @@ use Rattle.rules.specs.Asked.{Triangle}
 use Rattle.rules.specs.declared.Job.{Job}
 use Rattle.rules.specs.declared.Job.the-variants.{Clean, Soiled, Transfer}
 use Rattle.rules.proofs.Cuts.{Cut, cut-next, cut-pred}
-use Rattle.rules.proofs.Grows.{distinct-tail, within-sub, window-fits, fits-sooner, start-grows, fits-grows, short-around, around-grows, room-grows}
+use Rattle.rules.proofs.Grows.{start-grows, fits-grows, short-around, around-grows, room-grows}
 use Rattle.rules.proofs.Transfers.{Meets, meets-e, meets-i, Supports, supports-e, supports-i}
 use Rattle.rules.proofs.Left.{stays-e, stays-i}
-use Rattle.rules.proofs.Keeps.{distinct-behind, distinct-ahead}
 use Rattle.rules.proofs.Longer.{off-sides, Lies, entered-on, left-on, Comes, Past, begun, halt, between, past-sub, follow}
+use Rattle.rules.proofs.Nodes.{distinct-tail, within-sub, distinct-behind, distinct-ahead}
+use Rattle.rules.proofs.Windows.{window-fits, fits-sooner}
 
 -- the route z ∷ e with the places W is longer than z ∷ r with the places o: its further stops stand in open places of o, and each place of W
 -- comes from one of o

@@ -12,12 +12,12 @@ use Rattle.rules.specs.Steps.{uses}
 use Rattle.rules.specs.Settle.{round, strikes, settleIn, settled}
 use Rattle.rules.specs.Asked.{Triangle}
 use Rattle.rules.proofs.Cuts.{Cut, same, cut-next}
-use Rattle.rules.proofs.Grows.{distinct-sub, within-sub}
 use Rattle.rules.proofs.Longer.{Past, begun, halt, between}
 use Rattle.rules.proofs.Sound.{all-sound}
 use Rattle.rules.proofs.Left.{stays-i, round-i}
 use Rattle.rules.proofs.Fixpoint.{settle-less}
-use Rattle.rules.proofs.StepRounds.{inside-more, uses-open}
+use Rattle.rules.proofs.Nodes.{distinct-sub, within-sub}
+use Rattle.rules.proofs.Using.{inside-more, uses-open}
 
 module _ (v : Van) (d : Day) (tri : Triangle d) {z : ℕ} {r R : List ℕ} (nodes : Distinct (d .n) (z ∷ R)) (rules : T (keeps v d (z ∷ R))) where
   -- along the round: behind, what it has passed; ahead, what is to come
@@ -60,7 +60,7 @@ settled-rounds v d a R tri h = (
 )
 
 inside-uses : (v : Van) (d : Day) (p x : ℕ) {o : Places} {rt R : List ℕ} → Triangle d → Distinct (d .n) R → T (keeps v d R) → Inside o rt R → T (uses p x rt R) → T (round v d rt o x p)
-inside-uses v d p x {o} tri g h (start {z = z} {r = r} {R = R} w) t = uses-open (round v d (z ∷ r) o) p x g (round-keeps v d tri g h o w) t
+inside-uses v d p x {o} tri g h (start {z = z} {r = r} {R = R} w) t = uses-open p x g (round-keeps v d tri g h o w) t
 
 -- no test strikes a place that a rule-keeping round of the plan uses
 pub used-stays : (v : Van) (d : Day) (a : Plan) (R : List ℕ) (p x : ℕ) → Triangle d → T (keeps v d R) → Belongs d a R → T (uses p x (a .route) R) → T (round v d (a .route) (a .places) x p)

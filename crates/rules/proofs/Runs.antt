@@ -6,7 +6,7 @@ use mathlib.Core.List.{List, [], _∷_}
 use mathlib.Core.Logic.{_⊎_, inl, inr, ⊎-elim}
 use lib.Dec.{T, eqb, eqb→eq, eqb-refl}
 use Rattle.laws.specs.Logic.{tf, and-i, and-l, and-r, not-or-i, not-or-l, not-or-r, ne-sym}
-use Rattle.laws.specs.Lists.{mem, hd, mem-sub}
+use Rattle.laws.specs.Lists.{mem, hd, mem-sub, mem-tl, mem-ne}
 use Rattle.rules.specs.Day.{Day, Van}
 use Rattle.rules.specs.Plan.{Plan, Places}
 use Rattle.rules.specs.Rounds.{Distinct, Within, stop, extra}
@@ -14,14 +14,14 @@ use Rattle.rules.specs.Steps.{putAfter, split}
 use Rattle.rules.specs.Settle.{round, strikes, settleIn, settle}
 use Rattle.rules.specs.Asked.{Triangle}
 use Rattle.rules.specs.Worked.{Run, begin, place, exclude, require, settling}
-use Rattle.rules.proofs.Cuts.{mem-tl, mem-ne}
-use Rattle.rules.proofs.Grows.{within-sub}
 use Rattle.rules.proofs.Left.{_⊆_, round-less, round-stays, round-i}
 use Rattle.rules.proofs.Placing.{Ins, at, on, put-ins, split-e, split-i, split-half, split-half-i}
-use Rattle.rules.proofs.StepRounds.{within-more, place-old}
+use Rattle.rules.proofs.StepRounds.{place-old}
 use Rattle.rules.proofs.Longer.{Lies, lies-one, lies-same, lies-trans, left-on, Comes, within-self, ancestor, Past, begun, halt, between, follow}
 use Rattle.rules.proofs.Monotone.{Over, stays-grows}
 use Rattle.rules.proofs.Forms.{Laid, laid-fewer, laid-placed, ins-new}
+use Rattle.rules.proofs.Nodes.{within-sub}
+use Rattle.rules.proofs.Using.{within-more}
 
 -- ---- small steps
 

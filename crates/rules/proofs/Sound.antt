@@ -8,7 +8,7 @@ use mathlib.Core.List.{List, [], _∷_}
 use mathlib.Core.Logic.{_⊎_, inl, inr, ⊎-elim}
 use lib.Dec.{T, T-not, eqb, eqb→eq}
 use Rattle.laws.specs.Logic.{and-i, and-l, and-r, or-l, or-r, or-mono, tf, not-or-i, not-or-l, not-or-r, contra, imp-i, cond-new}
-use Rattle.laws.specs.Lists.{mem, hd, In, end, also, each-in, Sub, nil, keep, skip, mem-sub, all-i}
+use Rattle.laws.specs.Lists.{mem, hd, In, end, also, each-in, Sub, nil, keep, skip, mem-sub, all-i, mem-hd, mem-tl, mem-rest}
 use Rattle.rules.specs.Day.{Day, Van}
 use Rattle.rules.specs.Leg.{legsAhead, legsBehind}
 use Rattle.rules.specs.Time.{start}
@@ -19,11 +19,13 @@ use Rattle.rules.specs.Tests.{Test, window, short, cleanFits, clean, soi
 use Rattle.rules.specs.Asked.{Triangle}
 use Rattle.rules.specs.declared.Job.{Job}
 use Rattle.rules.specs.declared.Job.the-variants.{Clean, Soiled, Transfer}
-use Rattle.rules.proofs.Cuts.{Cut, move, cut-next, cut-ahead, cut-behind, cut-mem, mem-hd, mem-tl, mem-rest, legs-ahead, legs-behind}
-use Rattle.rules.proofs.Grows.{distinct-tail, distinct-off, off-sub, within-sub, window-fits, fits-sooner, time-fits, time-cut, start-grows, fits-grows, around-grows, cut-driven, short-around, room-new}
+use Rattle.rules.proofs.Cuts.{Cut, move, cut-next, cut-ahead, cut-behind, cut-mem, legs-ahead, legs-behind}
+use Rattle.rules.proofs.Grows.{start-grows, fits-grows, around-grows, cut-driven, short-around, room-new}
 use Rattle.rules.proofs.Longer.{Past, begun, halt, between, past-sub}
 use Rattle.rules.proofs.Transfers.{meets-i, supports-i}
-use Rattle.rules.proofs.Keeps.{keeps-time, keeps-metres, keeps-order, keeps-loads, distinct-behind, distinct-ahead, second-ahead, first-behind}
+use Rattle.rules.proofs.Keeps.{keeps-time, keeps-metres, keeps-order, keeps-loads, second-ahead, first-behind}
+use Rattle.rules.proofs.Nodes.{distinct-tail, distinct-off, off-sub, within-sub, distinct-behind, distinct-ahead}
+use Rattle.rules.proofs.Windows.{window-fits, fits-sooner, time-fits, time-cut}
 
 -- a rule-keeping round z ∷ R of the plan with route z ∷ r and places o uses a place of x: x stands in the leg (p ∷ A, k ∷ B)
 pub record Uses (v : Van) (d : Day) (o : Places) (z : ℕ) (r R : List ℕ) (x p : ℕ) (A : List ℕ) (k : ℕ) (B : List ℕ) : Type 0 where
