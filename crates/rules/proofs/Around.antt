@@ -66,7 +66,8 @@ pub ordered-both : (a b : ℕ) (R : List ℕ) → T (ordered a b R) → (T (mem 
 ordered-both a b [] h = (λ m. m, λ m. m)
 ordered-both a b (x ∷ R) h = go (tf (eqb x a)) (ordered-both a b R)
   where
-    go : T (eqb x a) ⊎ T (not (eqb x a)) → (T (ordered a b R) → (T (mem a R) → T (mem b R)) × (T (mem b R) → T (mem a R))) → (T (mem a (x ∷ R)) → T (mem b (x ∷ R))) × (T (mem b (x ∷ R)) → T (mem a (x ∷ R)))
+    go : T (eqb x a) ⊎ T (not (eqb x a)) → (T (ordered a b R) → (T (mem a R) → T (mem b R)) × (T (mem b R) → T (mem a R)))
+        → (T (mem a (x ∷ R)) → T (mem b (x ∷ R))) × (T (mem b (x ∷ R)) → T (mem a (x ∷ R)))
     go (inl e) f = (λ m. mem-tl b x R (cond-yes (eqb x a) (mem b R) (not (eqb x b) && ordered a b R) e h), λ m. or-l (eqb x a) (mem a R) e)
     go (inr n) f =
         let u = cond-no (eqb x a) (mem b R) (not (eqb x b) && ordered a b R) n h in

@@ -33,7 +33,8 @@ ordered-i : (a b : ℕ) (R : List ℕ) → a ≢ b → (T (mem a R) → T (mem b
 ordered-i a b [] ne f g w = tt
 ordered-i a b (x ∷ R) ne f g w = go (tf (eqb x a)) (tf (eqb x b)) (ordered-i a b R ne)
   where
-    go : T (eqb x a) ⊎ T (not (eqb x a)) → T (eqb x b) ⊎ T (not (eqb x b)) → ((T (mem a R) → T (mem b R)) → (T (mem b R) → T (mem a R)) → T (not (wrong a b R)) → T (ordered a b R)) → T (ordered a b (x ∷ R))
+    go : T (eqb x a) ⊎ T (not (eqb x a)) → T (eqb x b) ⊎ T (not (eqb x b))
+        → ((T (mem a R) → T (mem b R)) → (T (mem b R) → T (mem a R)) → T (not (wrong a b R)) → T (ordered a b R)) → T (ordered a b (x ∷ R))
     go (inl e) (inl e′) k = absurd (ne (sym (eqb→eq x a e) ∙ eqb→eq x b e′))
     go (inl e) (inr n) k = cond-yes-i (eqb x a) (mem b R) (not (eqb x b) && ordered a b R) e (mem-rest b x R n (f (or-l (eqb x a) (mem a R) e)))
     go (inr n) (inl e) k = absurd (T-not (wrong a b (x ∷ R)) w (cond-yes-i (eqb x b) (mem a R) (not (eqb x a) && wrong a b R) e (mem-rest a x R n (g (or-l (eqb x b) (mem b R) e)))))
@@ -92,7 +93,8 @@ inside-self o {z} {l} rt e = subst (λ (m : List ℕ). Inside o m m) (sym e) (Ra
     self p (k ∷ l) = stop (self k l)
 
 -- with no place open, an alive plan's route is a round of it that keeps the rules
-pub no-gap-alive : (v : Van) (d : Day) (a : Plan) → Proper d → Formed d a → ((x p : ℕ) → T (not (a .places x p))) → T (alive v d a) → T (keeps v d (a .route)) × Belongs d a (a .route)
+pub no-gap-alive : (v : Van) (d : Day) (a : Plan) → Proper d → Formed d a → ((x p : ℕ) → T (not (a .places x p))) → T (alive v d a)
+    → T (keeps v d (a .route)) × Belongs d a (a .route)
 no-gap-alive v d a proper form shut h = (
   route-keeps v d a shut proper h,
   record {
@@ -160,7 +162,8 @@ module _ (v : Van) (d : Day) (o : Places) (marks : ℕ → Bool) {z : ℕ} {r R 
       (and-i owing time (all-i (λ x. not (owed d (z ∷ r) marks x) || any (o x) (z ∷ r)) (inner d) (λ x i. imp-i (owed d (z ∷ r) marks x) (any (o x) (z ∷ r)) (owed-open x))) route-time)
       route-metres) route-loads) (all-i (λ j. not (wrongWay (z ∷ r) j)) (d .jobs) right-way)
 
-inside-alive : (v : Van) (d : Day) (marks : ℕ → Bool) {o : Places} {rt R : List ℕ} → Triangle d → Distinct (d .n) R → Inside o rt R → ((x : ℕ) → T (marks x) → T (mem x R)) → T (keeps v d R)
+inside-alive : (v : Van) (d : Day) (marks : ℕ → Bool) {o : Places} {rt R : List ℕ} → Triangle d → Distinct (d .n) R → Inside o rt R
+    → ((x : ℕ) → T (marks x) → T (mem x R)) → T (keeps v d R)
     → T (alive v d (record { route = rt; places = o; marks = marks }))
 inside-alive v d marks {o} tri nodes (Rattle.rules.specs.Rounds.start w) needed h = plan-alive v d o marks tri nodes w needed h
 

@@ -97,7 +97,8 @@ pub legs-ahead : (f : OfLeg) {A B A′ B′ : List ℕ} → Cut A B A′ B′ �
 legs-ahead f same h = h
 legs-ahead f {A = A} (move {k = k} {B = B} c) h = legs-ahead f c (and-r (f A (k ∷ B)) (legsAhead f (k ∷ A) B) h)
 
-legs-behind-from : (f : OfLeg) {p : ℕ} {A B A′ B′ : List ℕ} {k : ℕ} → Cut (p ∷ A) B A′ (k ∷ B′) → T (legsAhead f (p ∷ A) B) → T (legsBehind f A (p ∷ B)) → T (legsBehind f A′ (k ∷ B′))
+legs-behind-from : (f : OfLeg) {p : ℕ} {A B A′ B′ : List ℕ} {k : ℕ} → Cut (p ∷ A) B A′ (k ∷ B′) → T (legsAhead f (p ∷ A) B) → T (legsBehind f A (p ∷ B))
+    → T (legsBehind f A′ (k ∷ B′))
 legs-behind-from f {p} {A} {B′ = B′} {k = k} same h g =
     and-i (f (p ∷ A) (k ∷ B′)) (legsBehind f A (p ∷ k ∷ B′)) (and-l (f (p ∷ A) (k ∷ B′)) (legsAhead f (k ∷ p ∷ A) B′) h) g
 legs-behind-from f {p} {A} (move {k = k} {B = B} c) h g =

@@ -70,7 +70,8 @@ alike (x ∷ js) a b w c e u h i j = go (in-cons i) (in-cons j) (alike js a b w 
     clear : {k : Job} → In k js → T (noClash x k)
     clear k = all-in (noClash x) (and-l (all (noClash x) js) (oneEndTest js) h) k
 
-    go : (Transfer a b w ≡ x) ⊎ In (Transfer a b w) js → (Transfer c e u ≡ x) ⊎ In (Transfer c e u) js → (In (Transfer a b w) js → In (Transfer c e u) js → Alike a b w c e u) → Alike a b w c e u
+    go : (Transfer a b w ≡ x) ⊎ In (Transfer a b w) js → (Transfer c e u ≡ x) ⊎ In (Transfer c e u) js
+        → (In (Transfer a b w) js → In (Transfer c e u) js → Alike a b w c e u) → Alike a b w c e u
     go (inl p) (inl q) f = inl (cc, cc, cc)
     go (inl p) (inr j′) f = inr (no-clash a b w c e u (subst (λ (k : Job). T (noClash k (Transfer c e u))) (sym p) (clear j′)))
     go (inr i′) (inl q) f =

@@ -91,7 +91,8 @@ module _ (d : Day) (tri : Triangle d) where
 
 -- ---- the metres of a route, a leg apart
 
-cut-driven-from : (d : Day) {q p : ℕ} {A₀ B₀ A B : List ℕ} → Cut (q ∷ A₀) B₀ (p ∷ A) B → drivenBack d (q ∷ A₀) + driven d (q ∷ B₀) ≡ drivenBack d (p ∷ A) + driven d (p ∷ B)
+cut-driven-from : (d : Day) {q p : ℕ} {A₀ B₀ A B : List ℕ} → Cut (q ∷ A₀) B₀ (p ∷ A) B
+    → drivenBack d (q ∷ A₀) + driven d (q ∷ B₀) ≡ drivenBack d (p ∷ A) + driven d (p ∷ B)
 cut-driven-from d same = refl
 cut-driven-from d (move c) = omega (arith, cut-driven-from d c)
 
@@ -132,6 +133,7 @@ pub room-grows : (v : Van) (d : Day) (w : ℕ) {A A′ B B′ : List ℕ} → Su
 room-grows v d w {A} {A′} {B} {B′} s t h = le→leb (load d A B + w) (v .capacity) (omega (arith, leb→le (load d A′ B′ + w) (v .capacity) h, load-grows d s t))
 
 -- a job that comes aboard only there leaves room for its load
-pub room-new : (v : Van) (d : Day) (w : ℕ) {A A′ B B′ : List ℕ} {j : Job} → In j (d .jobs) → Sub A A′ → Sub B B′ → aboard A B j + w ≤ aboard A′ B′ j → T (carries v d A′ B′) → T (room v d w A B)
+pub room-new : (v : Van) (d : Day) (w : ℕ) {A A′ B B′ : List ℕ} {j : Job} → In j (d .jobs) → Sub A A′ → Sub B B′ → aboard A B j + w ≤ aboard A′ B′ j
+    → T (carries v d A′ B′) → T (room v d w A B)
 room-new v d w {A} {A′} {B} {B′} i s t e h =
     le→leb (load d A B + w) (v .capacity) (omega (arith, leb→le (load d A′ B′) (v .capacity) h, sum-new (aboard A B) (aboard A′ B′) w (aboard-grows s t) i e))

@@ -21,7 +21,8 @@ use Rattle.rules.proofs.Using.{inside-more, uses-open}
 
 module _ (v : Van) (d : Day) (tri : Triangle d) {z : ℕ} {r R : List ℕ} (nodes : Distinct (d .n) (z ∷ R)) (rules : T (keeps v d (z ∷ R))) where
   -- along the round: behind, what it has passed; ahead, what is to come
-  walk : (o : Places) {p q : ℕ} {A A′ B B′ : List ℕ} → Distinct (d .n) (z ∷ r) → Cut (z ∷ []) r (p ∷ A) B → Cut (z ∷ []) R (q ∷ A′) B′ → Past o z (p ∷ A) (q ∷ A′) → Within o p B B′
+  walk : (o : Places) {p q : ℕ} {A A′ B B′ : List ℕ} → Distinct (d .n) (z ∷ r) → Cut (z ∷ []) r (p ∷ A) B → Cut (z ∷ []) R (q ∷ A′) B′ → Past o z (p ∷ A) (q ∷ A′)
+      → Within o p B B′
       → Within (round v d (z ∷ r) o) p B B′
   walk o g c at u done = done
   walk o g c at u (stop w) = stop (walk o g (cut-next c) (cut-next at) (halt u) w)
@@ -45,7 +46,8 @@ module _ (v : Van) (d : Day) (tri : Triangle d) {z : ℕ} {r R : List ℕ} (node
       go true u = u
       go false u = w
 
-settling-inside : (v : Van) (d : Day) (f : ℕ) {o : Places} {rt R : List ℕ} → Triangle d → Distinct (d .n) R → T (keeps v d R) → Inside o rt R → Inside (settleIn f v d rt o) rt R
+settling-inside : (v : Van) (d : Day) (f : ℕ) {o : Places} {rt R : List ℕ} → Triangle d → Distinct (d .n) R → T (keeps v d R) → Inside o rt R
+    → Inside (settleIn f v d rt o) rt R
 settling-inside v d f {o} tri g h (start w) = start (settle-keeps v d tri g h f o w)
 
 -- every rule-keeping round that belongs to a plan belongs to the settled plan
@@ -59,9 +61,11 @@ settled-rounds v d a R tri h = (
   settling-keeps v d a R tri h,
 )
 
-inside-uses : (v : Van) (d : Day) (p x : ℕ) {o : Places} {rt R : List ℕ} → Triangle d → Distinct (d .n) R → T (keeps v d R) → Inside o rt R → T (uses p x rt R) → T (round v d rt o x p)
+inside-uses : (v : Van) (d : Day) (p x : ℕ) {o : Places} {rt R : List ℕ} → Triangle d → Distinct (d .n) R → T (keeps v d R) → Inside o rt R → T (uses p x rt R)
+    → T (round v d rt o x p)
 inside-uses v d p x {o} tri g h (start {z = z} {r = r} {R = R} w) t = uses-open p x g (round-keeps v d tri g h o w) t
 
 -- no test strikes a place that a rule-keeping round of the plan uses
-pub used-stays : (v : Van) (d : Day) (a : Plan) (R : List ℕ) (p x : ℕ) → Triangle d → T (keeps v d R) → Belongs d a R → T (uses p x (a .route) R) → T (round v d (a .route) (a .places) x p)
+pub used-stays : (v : Van) (d : Day) (a : Plan) (R : List ℕ) (p x : ℕ) → Triangle d → T (keeps v d R) → Belongs d a R → T (uses p x (a .route) R)
+    → T (round v d (a .route) (a .places) x p)
 used-stays v d a R p x tri h b t = inside-uses v d p x tri (b .nodes) h (b .inside) t

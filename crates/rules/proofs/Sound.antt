@@ -74,7 +74,8 @@ module _ (v : Van) (d : Day) where
       clean-back i s (skip t) (mem-tl x y B′ m) b (not-or-r (eqb y x) (mem x A′) a) (and-r (carries v d (y ∷ A′) B′) (legsBehind (carries v d) A′ (y ∷ B′)) h)
 
   -- the first node at x, the second on the route ahead
-  placed-ahead : {x b w : ℕ} {A A′ B B′ : List ℕ} → In (Transfer x b w) (d .jobs) → Sub A A′ → Sub B B′ → T (mem x A′) → T (not (mem x A)) → T (not (mem x B′)) → T (mem b B)
+  placed-ahead : {x b w : ℕ} {A A′ B B′ : List ℕ} → In (Transfer x b w) (d .jobs) → Sub A A′ → Sub B B′ → T (mem x A′) → T (not (mem x A)) → T (not (mem x B′))
+      → T (mem b B)
       → T (legsAhead (carries v d) A′ B′) → T (reachAhead v d (λ p k. eqb k b) w A B)
   placed-ahead i s nil m a n mb h = absurd mb
   placed-ahead {x} {b} {w} {A} {A′} i s (keep {x = k} {l = B} {m = B′} t) m a n mb h =
@@ -88,7 +89,8 @@ module _ (v : Van) (d : Day) where
       placed-ahead i (skip s) t (mem-tl x y A′ m) a (not-or-r (eqb y x) (mem x B′) n) mb (and-r (carries v d A′ (y ∷ B′)) (legsAhead (carries v d) (y ∷ A′) B′) h)
 
   -- the first node at x, the second open in a leg ahead
-  open-ahead : {x b w : ℕ} {o : Places} {A A′ B B′ : List ℕ} → In (Transfer x b w) (d .jobs) → Sub A A′ → Within o (hd A) B B′ → T (mem x A′) → T (not (mem x A)) → T (not (mem x B′))
+  open-ahead : {x b w : ℕ} {o : Places} {A A′ B B′ : List ℕ} → In (Transfer x b w) (d .jobs) → Sub A A′ → Within o (hd A) B B′ → T (mem x A′) → T (not (mem x A))
+      → T (not (mem x B′))
       → T (not (mem b B)) → T (mem b B′) → T (legsAhead (carries v d) A′ B′) → T (reachAhead v d (λ p k. o b p) w A B)
   open-ahead i s done m a n nb mb h = absurd mb
   open-ahead {x} {b} {w} {o} {A} {A′} i s (stop {k = k} {r = B} {R = B′} u) m a n nb mb h =
@@ -109,7 +111,8 @@ module _ (v : Van) (d : Day) where
           (or-l (o b (hd A)) (reachAhead v d (λ p k. o b p) w (k ∷ A) B) (subst (λ (c : ℕ). T (o c (hd A))) (eqb→eq y b e) t))
 
   -- the second node at x, the first on the route behind
-  placed-back : {a x w : ℕ} {A A′ B B′ : List ℕ} → In (Transfer a x w) (d .jobs) → Sub A A′ → Sub B B′ → T (mem x B′) → T (not (mem x B)) → T (not (mem x A′)) → T (mem a A)
+  placed-back : {a x w : ℕ} {A A′ B B′ : List ℕ} → In (Transfer a x w) (d .jobs) → Sub A A′ → Sub B B′ → T (mem x B′) → T (not (mem x B)) → T (not (mem x A′))
+      → T (mem a A)
       → T (legsBehind (carries v d) A′ B′) → T (reachBack v d (λ p k. eqb p a) w A B)
   placed-back i nil t m b n ma h = absurd ma
   placed-back {a} {x} {w} {B = B} {B′ = B′} i (keep {x = p} {l = A} {m = A′} s) t m b n ma h =
@@ -123,7 +126,8 @@ module _ (v : Van) (d : Day) where
       placed-back i s (skip t) (mem-tl x y B′ m) b (not-or-r (eqb y x) (mem x A′) n) ma (and-r (carries v d (y ∷ A′) B′) (legsBehind (carries v d) A′ (y ∷ B′)) h)
 
   -- the second node at x, the first open in a leg behind
-  open-back : {a x w z : ℕ} {o : Places} {A A′ B B′ : List ℕ} → In (Transfer a x w) (d .jobs) → Past o z A A′ → Sub B B′ → T (mem x B′) → T (not (mem x B)) → T (not (mem x A′))
+  open-back : {a x w z : ℕ} {o : Places} {A A′ B B′ : List ℕ} → In (Transfer a x w) (d .jobs) → Past o z A A′ → Sub B B′ → T (mem x B′) → T (not (mem x B))
+      → T (not (mem x A′))
       → T (not (mem a A)) → T (mem a A′) → T (legsBehind (carries v d) A′ B′) → T (reachBack v d (λ p k. o a p) w A B)
   open-back {a} {z = z} i begun t m b n na ma h = absurd (T-not (mem a (z ∷ [])) na ma)
   open-back {a} {x} {w} {o = o} {B = B} {B′ = B′} i (halt {k = k} {p = p} {q = q} {A = A} {A′ = A′} u) t m b n na ma h =

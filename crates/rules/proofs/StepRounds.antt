@@ -59,7 +59,8 @@ module _ (o : Places) (p x : ℕ) where
   half-new h (stop w) = stop (after-new h w)
   half-new h (extra {x = y} {R = R} t w) = extra (split-half-i p x o y (not-or-l (eqb y x) (mem x R) h) t) (half-new (not-or-r (eqb y x) (mem x R) h) w)
 
-  place-new : {n c : ℕ} {r r′ R : List ℕ} → Distinct n (c ∷ R) → T (not (mem x (c ∷ r))) → Ins p x c r r′ → Within o c r R → T (usesAfter p x c r R) → Within (split p x o) c r′ R
+  place-new : {n c : ℕ} {r r′ R : List ℕ} → Distinct n (c ∷ R) → T (not (mem x (c ∷ r))) → Ins p x c r r′ → Within o c r R → T (usesAfter p x c r R)
+      → Within (split p x o) c r′ R
   place-new g h (at {k = k} {r = r}) (stop {R = R} w) t =
       absurd (uses-none p x (distinct-tail g) w (off-sub p (keep (within-sub w)) (distinct-off g)) (uses-stop p x p k r R .0 t))
   place-new g h (at {k = k} {r = r}) (extra {x = y} {R = R} v w) t = go (tf (eqb y x)) (place-new (distinct-skip g) h at w)
