@@ -7,7 +7,8 @@
 --   passes every test against what it leaves; the greatest such set (`settle-greatest`); a further round strikes nothing (`settle-rests`,
 --   `settle-again`). It is two rounds, whatever the fuel (`settle-twice`, `fuel-enough`).
 -- * The number of rounds that strike something is never above 2: Twice `at-most-two`.
--- * On a triangle day settling loses no round that keeps the rules: NoneLost `settling-keeps`.
+-- * On a triangle day settling loses no round that keeps the rules: NoneLost `settling-keeps`. It adds none (`settled-rounds`), and no place
+--   that such a round uses is struck (`used-stays`).
 -- * No place open and alive: the route keeps the rules and belongs: Complete `no-gap-alive`. Beyond 01, on a triangle day a dead plan has no
 --   round that keeps the rules: Complete `dead-none`.
 -- (Stepping back is the board's.)
