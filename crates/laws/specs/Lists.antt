@@ -1,11 +1,11 @@
 -- Lists: membership as a test and as a derivation, a test of all or any of the entries, subsequences.
-use mathlib.Core.Path.{subst}
+use mathlib.Core.Path.{subst, sym}
 use Prim.Native.Nat.{ℕ}
-use mathlib.Core.Bool.{Bool, true, false, _&&_, _||_}
+use mathlib.Core.Bool.{Bool, true, false, not, _&&_, _||_}
 use mathlib.Core.List.{List, [], _∷_}
 use mathlib.Core.Logic.{⊎-elim}
-use lib.Dec.{T, eqb, eqb→eq, eqb-refl}
-use Rattle.laws.specs.Logic.{and-i, and-l, and-r, and-mono, or-l, or-r, or-e, or-mono}
+use lib.Dec.{T, T-not, eqb, eqb→eq, eqb-refl}
+use Rattle.laws.specs.Logic.{and-i, and-l, and-r, and-mono, or-l, or-r, or-e, or-mono, contra}
 
 -- whether x is in the list
 abbrev pub mem : ℕ → List ℕ → Bool
@@ -52,6 +52,20 @@ mem-in x (y ∷ l) h = ⊎-elim (λ e. subst (λ (v : ℕ). In v (y ∷ l)) (eqb
 pub in-mem : {x : ℕ} {l : List ℕ} → In x l → T (mem x l)
 in-mem {x} (here {l = l}) = or-l (eqb x x) (mem x l) (eqb-refl x)
 in-mem {x} (there {b = b} {l = l} i) = or-r (eqb b x) (mem x l) (in-mem i)
+
+pub mem-hd : (x : ℕ) (l : List ℕ) → T (mem x (x ∷ l))
+mem-hd x l = or-l (eqb x x) (mem x l) (eqb-refl x)
+
+pub mem-tl : (x y : ℕ) (l : List ℕ) → T (mem x l) → T (mem x (y ∷ l))
+mem-tl x y l = or-r (eqb y x) (mem x l)
+
+-- one node in the list and one off it are two
+pub mem-ne : (y x : ℕ) (l : List ℕ) → T (not (mem y l)) → T (mem x l) → T (not (eqb y x))
+mem-ne y x l h m = contra (eqb y x) (mem y l) (λ e. subst (λ (v : ℕ). T (mem v l)) (sym (eqb→eq y x e)) m) h
+
+-- in a list, and not its first entry
+pub mem-rest : (x y : ℕ) (l : List ℕ) → T (not (eqb y x)) → T (mem x (y ∷ l)) → T (mem x l)
+mem-rest x y l n m = ⊎-elim (λ e. absurd (T-not (eqb y x) n e)) (λ h. h) (or-e (eqb y x) (mem x l) m)
 
 pub each-in : {A : Type 0} {P : A → Type 0} {a : A} {l : List A} → In a l → Each P l → P a
 each-in here (also p e) = p

@@ -1,24 +1,24 @@
 -- The steps keep the form.
-use mathlib.Core.Path.{_≡_, refl, subst, sym, ap, _∙_}
-use Prim.Native.Nat.{ℕ, _-_, _<_}
+use mathlib.Core.Path.{_≡_, refl, ap, _∙_}
+use Prim.Native.Nat.{ℕ, _-_, _≤_, _<_}
 use native.Mathlib.Omega.{arith}
-use mathlib.Core.Bool.{Bool, true, false, cond, not, _&&_, _||_}
+use mathlib.Core.Bool.{false, not, _&&_}
 use mathlib.Core.List.{List, [], _∷_}
-use mathlib.Core.Logic.{_⊎_, inl, inr, ⊎-elim}
-use lib.Dec.{T, eqb, eqb→eq}
-use Rattle.laws.specs.Logic.{tf, and-l, or-e, or-mono, not-or-i, not-or-l, not-or-r, ne-sym}
-use Rattle.laws.specs.Lists.{mem, In, Sub, nil, keep, skip, sub-refl, mem-sub}
+use mathlib.Core.Logic.{⊎-elim}
+use lib.Dec.{T, not-T, eqb, eqb→eq, eqb-refl}
+use Rattle.laws.specs.Logic.{tf, and-l, and-r, or-e, or-mono, not-or-i, not-or-l, not-or-r, ne-sym}
+use Rattle.laws.specs.Lists.{mem, In, mem-in, Sub, keep, skip, sub-refl, mem-hd, mem-tl}
 use Rattle.rules.specs.Day.{Day, Van, inner}
 use Rattle.rules.specs.Leg.{legStops}
-use Rattle.rules.specs.Plan.{Plan, Places}
-use Rattle.rules.specs.Rounds.{Distinct, more}
+use Rattle.rules.specs.Plan.{Plan, Places, fresh}
+use Rattle.rules.specs.Rounds.{Distinct, none, more}
 use Rattle.rules.specs.Steps.{putAfter, split, placed, closed, excluded, required}
 use Rattle.rules.specs.Settle.{settled}
 use Rattle.rules.specs.Asked.{endsWith, Formed}
-use Rattle.rules.proofs.Cuts.{mem-hd, mem-tl, mem-ne}
+use Rattle.rules.proofs.Inner.{inner-low}
 use Rattle.rules.proofs.Left.{_⊆_}
 use Rattle.rules.proofs.Placing.{Ins, at, on, Put, put-ins, split-ne, split-e, split-half}
-use Rattle.rules.proofs.Fixpoint.{inner-low, settle-less}
+use Rattle.rules.proofs.Fixpoint.{settle-less}
 
 -- the route z ∷ r and the places o are in form
 pub record Laid (d : Day) (z : ℕ) (r : List ℕ) (o : Places) : Type 0 where
@@ -90,7 +90,23 @@ laid-placed {d} {z} {p} {x} {r} {r′} {o} i t l = record {
     old : (y q : ℕ) → T (split p x o y q) → (q′ : ℕ) × T (o y q′)
     old y q h = ⊎-elim (λ e. (p, split-half p x o y (rw (eqb→eq q x e) at h))) (λ n. (q, split-e p x o y q n h)) (tf (eqb q x))
 
--- ---- each step keeps the form
+-- ---- fresh is in form, and each step keeps the form
+
+pub fresh-in-form : (d : Day) → 2 ≤ d .n → Formed d (fresh d)
+fresh-in-form d h = record {
+  tail = (d .n - 1) ∷ [];
+  starts = refl;
+  ends = eqb-refl (d .n - 1);
+  nodes = more {x = 0} (omega arith) (not-or-i (eqb (d .n - 1) 0) false (apart (d .n - 1) 0 (λ e. omega (arith, e))) tt) (more {x = d .n - 1} (omega arith) tt none);
+  inside = λ y q t. mem-in y (inner d) (and-l (mem y (inner d)) (eqb q 0) t);
+  off = λ y q t. let u = inner-low d (mem-in y (inner d) (and-l (mem y (inner d)) (eqb q 0) t)) in
+      not-or-i (eqb 0 y) (mem y ((d .n - 1) ∷ [])) (apart 0 y (λ e. omega (arith, u, e))) (not-or-i (eqb (d .n - 1) y) false (apart (d .n - 1) y (λ e. omega (arith, u, e))) tt);
+  leg = λ y q t. rw (eqb→eq q 0 (and-r (mem y (inner d)) (eqb q 0) t)) tt;
+  marked = λ y t. absurd t;
+}
+  where
+    apart : (a b : ℕ) → (a ≡ b → ⊥) → T (not (eqb a b))
+    apart a b f = not-T (eqb a b) (λ t. f (eqb→eq a b t))
 
 pub placed-formed : (d : Day) (a : Plan) (p x : ℕ) → Formed d a → T (a .places x p) → Formed d (placed p x a)
 placed-formed d a p x f t = record {

@@ -1,16 +1,16 @@
 -- From the tests that compute to what the theorems ask of a day and a plan; and 01's own sheet, which passes them all.
 use mathlib.Core.Path.{_≡_, refl, subst, sym}
-use Prim.Native.Nat.{ℕ, zero, suc, _+_, _-_, _≤_, _<_}
+use Prim.Native.Nat.{ℕ, zero, suc, _+_, _-_, _<_}
 use native.Mathlib.Omega.{arith}
-use mathlib.Core.Bool.{Bool, true, false, not, _&&_, _||_}
+use mathlib.Core.Bool.{false, not, _&&_, _||_}
 use mathlib.Core.List.{List, [], _∷_}
 use mathlib.Core.Logic.{_⊎_, inl, inr, ⊎-elim, _≢_}
 use lib.Dec.{T, leb, ltb, eqb, eqb→eq, eqb-refl, leb→le, ltb→lt}
 use lib.ListN.{length, getD}
 use Rattle.laws.specs.Logic.{T→true, true→T, and-l, and-r, or-e, imp-e, neqb}
 use Rattle.laws.specs.Below.{allBelow, below-at}
-use Rattle.laws.specs.Lists.{mem, hd, all, In, here, there, mem-in, all-in}
-use Rattle.laws.specs.Once.{in-none}
+use Rattle.laws.specs.Lists.{mem, hd, all, In, mem-in, all-in}
+use Rattle.laws.specs.Once.{in-none, in-cons}
 use Rattle.rules.specs.Day.{Day, inner}
 use Rattle.rules.specs.Leg.{legStops}
 use Rattle.rules.specs.Plan.{Plan, fresh}
@@ -18,7 +18,7 @@ use Rattle.rules.specs.Rounds.{Distinct, none, more}
 use Rattle.rules.specs.Asked.{Shortest, Triangle, OneEnd, Proper, Formed, endsWith, shortestAt, shortestTest, triangleTest, noClash, oneEndTest, properJob, properTest, distinctTest, placeTest, formedTest}
 use Rattle.rules.specs.Examples.{day}
 use Rattle.rules.specs.declared.Job.{Job}
-use Rattle.rules.specs.declared.Job.the-variants.{Clean, Soiled, Transfer}
+use Rattle.rules.specs.declared.Job.the-variants.{Transfer}
 
 -- ---- the triangle rule
 
@@ -51,10 +51,6 @@ proper-of d h = record { ends = λ a b w i. ends a b (all-in (properJob d) h i) 
         let n : T (not (eqb a b)) = search (and-l, and-r) in
         (mem-in a (inner d) ma, mem-in b (inner d) mb, neqb a b n)
 
-in-cons : {x y : Job} {l : List Job} → In y (x ∷ l) → (y ≡ x) ⊎ In y l
-in-cons here = inl refl
-in-cons (there i) = inr i
-
 -- two transfers of the list are one, or share no node
 abbrev Alike : ℕ → ℕ → ℕ → ℕ → ℕ → ℕ → Type 0
 Alike a b w c e u = ((a ≡ c) × (b ≡ e) × (w ≡ u)) ⊎ ((a ≢ c) × (a ≢ e) × (b ≢ c) × (b ≢ e))
@@ -74,7 +70,8 @@ alike (x ∷ js) a b w c e u h i j = go (in-cons i) (in-cons j) (alike js a b w 
     clear : {k : Job} → In k js → T (noClash x k)
     clear k = all-in (noClash x) (and-l (all (noClash x) js) (oneEndTest js) h) k
 
-    go : (Transfer a b w ≡ x) ⊎ In (Transfer a b w) js → (Transfer c e u ≡ x) ⊎ In (Transfer c e u) js → (In (Transfer a b w) js → In (Transfer c e u) js → Alike a b w c e u) → Alike a b w c e u
+    go : (Transfer a b w ≡ x) ⊎ In (Transfer a b w) js → (Transfer c e u ≡ x) ⊎ In (Transfer c e u) js
+        → (In (Transfer a b w) js → In (Transfer c e u) js → Alike a b w c e u) → Alike a b w c e u
     go (inl p) (inl q) f = inl (cc, cc, cc)
     go (inl p) (inr j′) f = inr (no-clash a b w c e u (subst (λ (k : Job). T (noClash k (Transfer c e u))) (sym p) (clear j′)))
     go (inr i′) (inl q) f =

@@ -7,12 +7,12 @@ use mathlib.Core.List.{List, [], _∷_}
 use mathlib.Core.Logic.{⊎-elim}
 use lib.Dec.{T, T-not, eqb}
 use Rattle.laws.specs.Logic.{or-l, or-e, not-or-i, not-or-l, not-or-r}
-use Rattle.laws.specs.Lists.{mem, hd, Sub, nil, keep, skip, sub-refl, sub-trans, mem-sub}
+use Rattle.laws.specs.Lists.{mem, hd, Sub, nil, keep, skip, sub-refl, sub-trans, mem-sub, mem-hd, mem-tl}
 use Rattle.rules.specs.Plan.{Places}
 use Rattle.rules.specs.Rounds.{Distinct, Within, done, stop, extra}
-use Rattle.rules.proofs.Cuts.{Cut, same, move, mem-hd, mem-tl, cut-next, cut-ahead, cut-behind}
-use Rattle.rules.proofs.Grows.{within-sub}
-use Rattle.rules.proofs.Keeps.{distinct-behind, stays-behind}
+use Rattle.rules.proofs.Cuts.{Cut, same, move, cut-next, cut-ahead, cut-behind}
+use Rattle.rules.proofs.Keeps.{stays-behind}
+use Rattle.rules.proofs.Nodes.{within-sub, distinct-behind}
 
 -- ---- a node off the route
 
@@ -72,12 +72,12 @@ within-self o p (k ∷ l) = stop (within-self o k l)
 
 -- the stops A′ behind run through the stops A; each other one has an open place at the stop before it of the shorter route
 pub data Past (o : Places) (z : ℕ) : List ℕ → List ℕ → Type 0 where
-  first : Past o z (z ∷ []) (z ∷ [])
+  begun : Past o z (z ∷ []) (z ∷ [])
   halt : {k p q : ℕ} {A A′ : List ℕ} → Past o z (p ∷ A) (q ∷ A′) → Past o z (k ∷ p ∷ A) (k ∷ q ∷ A′)
   between : {y p q : ℕ} {A A′ : List ℕ} → T (o y p) → Past o z (p ∷ A) (q ∷ A′) → Past o z (p ∷ A) (y ∷ q ∷ A′)
 
 pub past-sub : {o : Places} {z : ℕ} {A A′ : List ℕ} → Past o z A A′ → Sub A A′
-past-sub first = keep nil
+past-sub begun = keep nil
 past-sub (halt u) = keep (past-sub u)
 past-sub (between t u) = skip (past-sub u)
 
@@ -106,14 +106,14 @@ pub record Ancestor (z : ℕ) (e r A′ : List ℕ) (k′ : ℕ) (B′ : List �
   pub lies : Lies z e r A′ (k′ ∷ B′) (p ∷ A) (k ∷ B)
 
 pub ancestor : {o : Places} {z k′ : ℕ} {e r A′ B′ : List ℕ} → Within o z r e → Cut (z ∷ []) e A′ (k′ ∷ B′) → Ancestor z e r A′ k′ B′
-ancestor w c = let s = stands c w same first in
+ancestor w c = let s = stands c w same begun in
     record { p = s .p; A = s .A; k = s .k; B = s .B; lies = record { long = c; short = s .cut; behind = past-sub (s .past); ahead = within-sub (s .rest) } }
 
 -- the stops in between, behind and ahead of a leg that lies in another
 pub follow : {n z p k k′ : ℕ} {o : Places} {e r A′ B′ A B : List ℕ} → Distinct n (z ∷ e) → Within o z r e → Lies z e r A′ (k′ ∷ B′) (p ∷ A) (k ∷ B)
     → Past o z (p ∷ A) A′ × Within o p (k ∷ B) (k′ ∷ B′)
 follow {z = z} {p = p} {k = k} {k′ = k′} {o = o} {A′ = A′} {B′ = B′} {B = B} g w l =
-    let s = stands (l .long) w same first in
+    let s = stands (l .long) w same begun in
     let q = cut-one (s .cut) (l .short) (distinct-behind g (l .long) .1) (past-sub (s .past)) (within-sub (s .rest)) (l .behind) (l .ahead) in (
       subst (λ (m : List ℕ). Past o z m A′) (q .0) (s .past),
       subst (λ (m : ℕ). Within o m (k ∷ B) (k′ ∷ B′)) (ap hd (q .0)) (subst (λ (m : List ℕ). Within o (s .p) m (k′ ∷ B′)) (q .1) (s .rest)),

@@ -1,14 +1,14 @@
 -- MONOTONE: struck stays struck on every longer route. A place that passes every test on the longer route passes each test, on a triangle
 -- day, in the leg of the shorter route that it comes from.
 use mathlib.Core.Path.{_≡_, refl, sym, _∙_}
-use Prim.Native.Nat.{ℕ, _≤_, _<_}
+use Prim.Native.Nat.{ℕ, _<_}
 use native.Mathlib.Omega.{arith}
-use mathlib.Core.Bool.{Bool, true, false, not, _&&_, _||_}
+use mathlib.Core.Bool.{Bool, false, not, _||_}
 use mathlib.Core.List.{List, [], _∷_}
 use mathlib.Core.Logic.{⊎-elim, _⊎_, inl, inr}
 use lib.Dec.{T, T-not, eqb, eqb→eq}
 use Rattle.laws.specs.Logic.{tf, and-i, and-l, and-r, and-mono, or-l, or-e, or-mono}
-use Rattle.laws.specs.Lists.{mem, hd, all, In, here, there, Each, end, also, each-in, all-mono, Sub, nil, keep, skip, mem-sub}
+use Rattle.laws.specs.Lists.{mem, In, here, there, Each, end, also, each-in, all-mono, Sub, nil, keep, skip, mem-sub}
 use Rattle.rules.specs.Day.{Day, Van}
 use Rattle.rules.specs.Leg.{legsAhead, legsBehind}
 use Rattle.rules.specs.Time.{start}
@@ -20,11 +20,12 @@ use Rattle.rules.specs.Asked.{Triangle}
 use Rattle.rules.specs.declared.Job.{Job}
 use Rattle.rules.specs.declared.Job.the-variants.{Clean, Soiled, Transfer}
 use Rattle.rules.proofs.Cuts.{Cut, cut-next, cut-pred}
-use Rattle.rules.proofs.Grows.{distinct-tail, within-sub, window-fits, fits-sooner, start-grows, fits-grows, short-around, around-grows, room-grows}
+use Rattle.rules.proofs.Grows.{start-grows, fits-grows, short-around, around-grows, room-grows}
 use Rattle.rules.proofs.Transfers.{Meets, meets-e, meets-i, Supports, supports-e, supports-i}
 use Rattle.rules.proofs.Left.{stays-e, stays-i}
-use Rattle.rules.proofs.Keeps.{distinct-behind, distinct-ahead}
-use Rattle.rules.proofs.Longer.{off-sides, Lies, entered-on, left-on, Comes, Past, first, halt, between, past-sub, follow}
+use Rattle.rules.proofs.Longer.{off-sides, Lies, entered-on, left-on, Comes, Past, begun, halt, between, past-sub, follow}
+use Rattle.rules.proofs.Nodes.{distinct-tail, within-sub, distinct-behind, distinct-ahead}
+use Rattle.rules.proofs.Windows.{window-fits, fits-sooner}
 
 -- the route z ∷ e with the places W is longer than z ∷ r with the places o: its further stops stand in open places of o, and each place of W
 -- comes from one of o
@@ -85,7 +86,7 @@ module _ (v : Van) (d : Day) (z : ℕ) (r e : List ℕ) (o : Places) (g g′ : �
 
   reach-back : Left → {p k k′ : ℕ} {A A′ B B′ : List ℕ} → Past o z (p ∷ A) A′ → Sub (k ∷ B) (k′ ∷ B′) → Cut (z ∷ []) r (p ∷ A) (k ∷ B) → Cut (z ∷ []) e A′ (k′ ∷ B′)
       → T (reachBack v d g′ w A′ (k′ ∷ B′)) → T (reachBack v d g w (p ∷ A) (k ∷ B))
-  reach-back f {k = k} {k′ = k′} {B = B} {B′ = B′} first s c c′ h =
+  reach-back f {k = k} {k′ = k′} {B = B} {B′ = B′} begun s c c′ h =
       and-mono (room v d w (z ∷ []) (k′ ∷ B′)) (g′ z k′ || false) (room v d w (z ∷ []) (k ∷ B)) (g z k || false) (room-grows v d w (keep nil) s)
       (or-mono (g′ z k′) false (g z k) false (f z k′ z k [] B′ [] B (record { long = c′; short = c; behind = keep nil; ahead = s }) (inl refl)) (λ t. t)) h
   reach-back f {k = k} {k′ = k′} {B = B} {B′ = B′} (halt {k = m} {p = p} {q = q} {A = A} {A′ = A′} u) s c c′ h =

@@ -1,16 +1,15 @@
 -- Placing as a relation, and what is open in the two halves of the split leg.
-use mathlib.Core.Path.{_≡_, refl, subst, sym, ap, _∙_}
+use mathlib.Core.Path.{_≡_, subst, sym, ap, _∙_}
 use Prim.Native.Nat.{ℕ}
-use mathlib.Core.Bool.{Bool, true, false, cond, not, _&&_, _||_}
+use mathlib.Core.Bool.{Bool, cond, not}
 use mathlib.Core.List.{List, [], _∷_}
 use mathlib.Core.Logic.{_⊎_, inl, inr}
 use lib.Dec.{T, eqb, eqb→eq, eqb-refl}
 use Rattle.laws.specs.Logic.{and-i, and-l, and-r, tf, T→true, N→false, cond-yes, cond-no, cond-yes-i, cond-no-i}
-use Rattle.laws.specs.Lists.{mem}
+use Rattle.laws.specs.Lists.{mem, mem-hd, mem-tl, mem-rest}
 use Rattle.rules.specs.Leg.{legStops}
 use Rattle.rules.specs.Plan.{Places}
 use Rattle.rules.specs.Steps.{putAfter, split}
-use Rattle.rules.proofs.Cuts.{mem-hd, mem-tl, mem-rest}
 
 -- after the stop c the route goes on with r; with x placed after p it goes on with r′
 pub data Ins (p x : ℕ) : ℕ → List ℕ → List ℕ → Type 0 where

@@ -1,28 +1,27 @@
 -- A run in small steps, a settling as its single rounds, and where its places come from.
 use mathlib.Core.Path.{_≡_, refl, subst, sym, ap, _∙_}
 use Prim.Native.Nat.{ℕ, zero, suc, _*_, _<_}
-use mathlib.Core.Bool.{Bool, true, false, cond, not, _&&_, _||_}
+use mathlib.Core.Bool.{Bool, true, false, not, _&&_}
 use mathlib.Core.List.{List, [], _∷_}
-use mathlib.Core.Logic.{_⊎_, inl, inr, ⊎-elim, _↔_}
-use lib.Dec.{T, T-not, eqb, eqb→eq, eqb-refl}
+use mathlib.Core.Logic.{_⊎_, inl, inr, ⊎-elim}
+use lib.Dec.{T, eqb, eqb→eq, eqb-refl}
 use Rattle.laws.specs.Logic.{tf, and-i, and-l, and-r, not-or-i, not-or-l, not-or-r, ne-sym}
-use Rattle.laws.specs.Lists.{mem, hd, Sub, nil, keep, skip, sub-refl, mem-sub}
-use Rattle.rules.specs.Day.{Day, Van, inner}
-use Rattle.rules.specs.Leg.{legStops}
+use Rattle.laws.specs.Lists.{mem, hd, mem-sub, mem-tl, mem-ne}
+use Rattle.rules.specs.Day.{Day, Van}
 use Rattle.rules.specs.Plan.{Plan, Places}
-use Rattle.rules.specs.Rounds.{Distinct, Within, done, stop, extra}
+use Rattle.rules.specs.Rounds.{Distinct, Within, stop, extra}
 use Rattle.rules.specs.Steps.{putAfter, split}
 use Rattle.rules.specs.Settle.{round, strikes, settleIn, settle}
 use Rattle.rules.specs.Asked.{Triangle}
 use Rattle.rules.specs.Worked.{Run, begin, place, exclude, require, settling}
-use Rattle.rules.proofs.Cuts.{Cut, same, mem-hd, mem-tl, mem-ne}
-use Rattle.rules.proofs.Grows.{within-sub}
 use Rattle.rules.proofs.Left.{_⊆_, round-less, round-stays, round-i}
-use Rattle.rules.proofs.Placing.{Ins, at, on, Put, put-ins, split-ne, split-e, split-i, split-half, split-half-i}
-use Rattle.rules.proofs.StepRounds.{within-more, place-old}
-use Rattle.rules.proofs.Longer.{Lies, lies-one, lies-same, lies-trans, left-on, Comes, within-self, ancestor, Past, first, halt, between, follow}
+use Rattle.rules.proofs.Placing.{Ins, at, on, put-ins, split-e, split-i, split-half, split-half-i}
+use Rattle.rules.proofs.StepRounds.{place-old}
+use Rattle.rules.proofs.Longer.{Lies, lies-one, lies-same, lies-trans, left-on, Comes, within-self, ancestor, Past, begun, halt, between, follow}
 use Rattle.rules.proofs.Monotone.{Over, stays-grows}
-use Rattle.rules.proofs.Forms.{Laid, laid-fewer, laid-placed, ins-sub, ins-new}
+use Rattle.rules.proofs.Forms.{Laid, laid-fewer, laid-placed, ins-new}
+use Rattle.rules.proofs.Nodes.{within-sub}
+use Rattle.rules.proofs.Using.{within-more}
 
 -- ---- small steps
 
@@ -83,7 +82,7 @@ ins-within (on i) = stop (ins-within i)
 
 -- a leg of the new route has the name of the leg in which it lies, or it is the half that x names
 half : {p x z p₀ q : ℕ} {A A′ : List ℕ} → Past (only p x) z (p₀ ∷ A) (q ∷ A′) → (q ≡ p₀) ⊎ ((q ≡ x) × (p₀ ≡ p))
-half first = inl refl
+half begun = inl refl
 half (halt u) = inl refl
 half {p} {x} (between {y = y} {p = p₀} t u) = inr (eqb→eq y x (and-l (eqb y x) (eqb p₀ p) t), eqb→eq p₀ p (and-r (eqb y x) (eqb p₀ p) t))
 

@@ -2,80 +2,23 @@
 -- the node, requiring those with it.
 use mathlib.Core.Path.{_≡_, subst, sym}
 use Prim.Native.Nat.{ℕ}
-use mathlib.Core.Bool.{Bool, true, false, cond, not, _&&_, _||_}
-use mathlib.Core.List.{List, [], _∷_}
+use mathlib.Core.Bool.{not, _&&_}
+use mathlib.Core.List.{List, _∷_}
 use mathlib.Core.Logic.{_⊎_, inl, inr, ⊎-elim, _↔_}
 use lib.Dec.{T, T-not, not-T, eqb, eqb→eq, eqb-refl}
-use Rattle.laws.specs.Logic.{and-i, and-l, and-r, or-l, or-r, or-e, tf, not-or-i, not-or-l, not-or-r, contra, cond-yes, cond-no, cond-yes-i, cond-no-i}
-use Rattle.laws.specs.Lists.{mem, Sub, keep, mem-sub}
+use Rattle.laws.specs.Logic.{and-i, and-l, and-r, or-l, or-r, or-e, tf, not-or-i, not-or-l, not-or-r, contra}
+use Rattle.laws.specs.Lists.{mem, keep, mem-sub, mem-hd, mem-tl, mem-ne}
 use Rattle.rules.specs.Day.{Day}
 use Rattle.rules.specs.Leg.{legStops}
 use Rattle.rules.specs.Plan.{Plan, Places}
 use Rattle.rules.specs.Rounds.{Distinct, Within, done, stop, extra, Inside, start, Belongs}
 use Rattle.rules.specs.Steps.{putAfter, split, placed, closed, excluded, required, usesAfter, uses}
 use Rattle.rules.specs.Asked.{Formed}
-use Rattle.rules.proofs.Cuts.{mem-hd, mem-tl, mem-ne}
-use Rattle.rules.proofs.Grows.{distinct-tail, distinct-off, distinct-skip, off-sub, within-sub}
-use Rattle.rules.proofs.Left.{_⊆_}
 use Rattle.rules.proofs.Placing.{Ins, at, on, put-ins, ins-mem, split-ne, split-e, split-i, split-half, split-half-i}
-
--- ---- which place a round uses, along the round
-
--- a node between two stops of the route is not the second of them
-between : {n y k : ℕ} {r R : List ℕ} → Distinct n (y ∷ R) → Sub (k ∷ r) R → T (not (eqb y k))
-between {y = y} {k = k} {r = r} {R = R} g u = mem-ne y k R (distinct-off g) (mem-sub k u (mem-hd k r))
-
--- with more open, the round stays within
-pub within-more : {o o′ : Places} {p : ℕ} {r R : List ℕ} → o ⊆ o′ → Within o p r R → Within o′ p r R
-within-more f done = done
-within-more f (stop w) = stop (within-more f w)
-within-more {p = p} f (extra {x = x} t w) = extra (f x p t) (within-more f w)
-
-module _ (p x c k : ℕ) (r R : List ℕ) where
-  abbrev elsewhere : ℕ → Bool
-  elsewhere y = cond (eqb y x) (eqb c p) (usesAfter p x c (k ∷ r) R)
-
-  -- at a stop, at x, at another node
-  uses-stop : T (usesAfter p x c (k ∷ r) (k ∷ R)) ↔ T (usesAfter p x k r R)
-  uses-stop = (cond-yes (eqb k k) (usesAfter p x k r R) (elsewhere k) (eqb-refl k), cond-yes-i (eqb k k) (usesAfter p x k r R) (elsewhere k) (eqb-refl k))
-
-  module _ (y : ℕ) (n : T (not (eqb y k))) where
-    uses-here : T (eqb y x) → T (usesAfter p x c (k ∷ r) (y ∷ R)) ↔ T (eqb c p)
-    uses-here e = (
-      λ t. cond-yes (eqb y x) (eqb c p) (usesAfter p x c (k ∷ r) R) e (cond-no (eqb y k) (usesAfter p x k r R) (elsewhere y) n t),
-      λ t. cond-no-i (eqb y k) (usesAfter p x k r R) (elsewhere y) n (cond-yes-i (eqb y x) (eqb c p) (usesAfter p x c (k ∷ r) R) e t),
-    )
-
-    uses-past : T (not (eqb y x)) → T (usesAfter p x c (k ∷ r) (y ∷ R)) ↔ T (usesAfter p x c (k ∷ r) R)
-    uses-past m = (
-      λ t. cond-no (eqb y x) (eqb c p) (usesAfter p x c (k ∷ r) R) m (cond-no (eqb y k) (usesAfter p x k r R) (elsewhere y) n t),
-      λ t. cond-no-i (eqb y k) (usesAfter p x k r R) (elsewhere y) n (cond-no-i (eqb y x) (eqb c p) (usesAfter p x c (k ∷ r) R) m t),
-    )
+use Rattle.rules.proofs.Nodes.{distinct-tail, distinct-off, distinct-skip, off-sub, within-sub}
+use Rattle.rules.proofs.Using.{between, within-more, uses-stop, uses-here, uses-past, uses-none, uses-mem}
 
 module _ (o : Places) (p x : ℕ) where
-  -- a place that is no leg of the rest is not used there
-  uses-none : {n c : ℕ} {r R : List ℕ} → Distinct n (c ∷ R) → Within o c r R → T (not (mem p (c ∷ r))) → T (usesAfter p x c r R) → ⊥
-  uses-none g done h t = t
-  uses-none {c = c} g (stop {k = k} {r = r} {R = R} w) h t = uses-none (distinct-tail g) w (not-or-r (eqb c p) (mem p (k ∷ r)) h) (uses-stop p x c k r R .0 t)
-  uses-none {c = c} g (extra {x = y} {k = k} {r = r} {R = R} v w) h t = go (tf (eqb y x)) (uses-none (distinct-skip g) w h)
-    where
-      n : T (not (eqb y k))
-      n = between (distinct-tail g) (within-sub w)
-
-      go : T (eqb y x) ⊎ T (not (eqb y x)) → (T (usesAfter p x c (k ∷ r) R) → ⊥) → ⊥
-      go (inl e) f = T-not (eqb c p) (not-or-l (eqb c p) (mem p (k ∷ r)) h) (uses-here p x c k r R y n e .0 t)
-      go (inr m) f = f (uses-past p x c k r R y n m .0 t)
-
-  -- the node of a place that is used is in the round
-  uses-mem : {n c : ℕ} {r R : List ℕ} → Distinct n (c ∷ R) → Within o c r R → T (usesAfter p x c r R) → T (mem x R)
-  uses-mem g done t = t
-  uses-mem {c = c} g (stop {k = k} {r = r} {R = R} w) t = mem-tl x k R (uses-mem (distinct-tail g) w (uses-stop p x c k r R .0 t))
-  uses-mem {c = c} g (extra {x = y} {k = k} {r = r} {R = R} v w) t = go (tf (eqb y x)) (uses-mem (distinct-skip g) w)
-    where
-      go : T (eqb y x) ⊎ T (not (eqb y x)) → (T (usesAfter p x c (k ∷ r) R) → T (mem x R)) → T (mem x (y ∷ R))
-      go (inl e) f = or-l (eqb y x) (mem x R) e
-      go (inr m) f = mem-tl x y R (f (uses-past p x c k r R y (between (distinct-tail g) (within-sub w)) m .0 t))
-
   -- ---- placing: the rounds of the new plan are rounds of the old one
 
   after-old : {c : ℕ} {r R : List ℕ} → T (not (mem x (c ∷ r))) → Within (split p x o) c r R → Within o c r R
@@ -116,9 +59,10 @@ module _ (o : Places) (p x : ℕ) where
   half-new h (stop w) = stop (after-new h w)
   half-new h (extra {x = y} {R = R} t w) = extra (split-half-i p x o y (not-or-l (eqb y x) (mem x R) h) t) (half-new (not-or-r (eqb y x) (mem x R) h) w)
 
-  place-new : {n c : ℕ} {r r′ R : List ℕ} → Distinct n (c ∷ R) → T (not (mem x (c ∷ r))) → Ins p x c r r′ → Within o c r R → T (usesAfter p x c r R) → Within (split p x o) c r′ R
+  place-new : {n c : ℕ} {r r′ R : List ℕ} → Distinct n (c ∷ R) → T (not (mem x (c ∷ r))) → Ins p x c r r′ → Within o c r R → T (usesAfter p x c r R)
+      → Within (split p x o) c r′ R
   place-new g h (at {k = k} {r = r}) (stop {R = R} w) t =
-      absurd (uses-none (distinct-tail g) w (off-sub p (keep (within-sub w)) (distinct-off g)) (uses-stop p x p k r R .0 t))
+      absurd (uses-none p x (distinct-tail g) w (off-sub p (keep (within-sub w)) (distinct-off g)) (uses-stop p x p k r R .0 t))
   place-new g h (at {k = k} {r = r}) (extra {x = y} {R = R} v w) t = go (tf (eqb y x)) (place-new (distinct-skip g) h at w)
     where
       go : T (eqb y x) ⊎ T (not (eqb y x)) → (T (usesAfter p x p (k ∷ r) R) → Within (split p x o) p (x ∷ k ∷ r) R) → Within (split p x o) p (x ∷ k ∷ r) (y ∷ R)
@@ -164,7 +108,7 @@ module _ (o : Places) (p x : ℕ) where
       n = between (distinct-tail g) (within-sub w)
 
       gone : T (eqb y x) → T (usesAfter p x c (k ∷ r) R) → ⊥
-      gone e u = T-not (mem x R) (subst (λ (m : ℕ). T (not (mem m R))) (eqb→eq y x e) (distinct-off (distinct-tail g))) (uses-mem (distinct-skip g) w u)
+      gone e u = T-not (mem x R) (subst (λ (m : ℕ). T (not (mem m R))) (eqb→eq y x e) (distinct-off (distinct-tail g))) (uses-mem p x (distinct-skip g) w u)
 
       go : T (eqb y x) ⊎ T (not (eqb y x)) → ((T (usesAfter p x c (k ∷ r) R) → ⊥) → Within shut c (k ∷ r) R) → Within shut c (k ∷ r) (y ∷ R)
       go (inl e) f = extra (and-i (o y c) (not (eqb y x && eqb c p)) v (not-T (eqb y x && eqb c p) (λ u. t (uses-here p x c k r R y n e .1 (and-r (eqb y x) (eqb c p) u))))) (f (gone e))
