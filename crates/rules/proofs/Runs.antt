@@ -16,13 +16,8 @@ use Rattle.rules.specs.Asked.{Triangle}
 use Rattle.rules.specs.Worked.{Run, begin, place, exclude, require, settling}
 use Rattle.rules.proofs.Left.{_⊆_, round-less, round-stays, round-i}
 use Rattle.rules.proofs.Placing.{Ins, at, on, put-ins, split-e, split-i, split-half, split-half-i}
-<<<<<<< HEAD
 use Rattle.rules.proofs.StepRounds.{place-old}
-use Rattle.rules.proofs.Longer.{Lies, lies-one, lies-same, lies-trans, left-on, Comes, within-self, ancestor, Past, begun, halt, between, follow}
-=======
-use Rattle.rules.proofs.StepRounds.{within-more, place-old}
 use Rattle.rules.proofs.Longer.{Lies, lies-one, lies-same, lies-trans, left-on, Comes, within-self, ancestor, leaves, follow}
->>>>>>> 2e9d0c9475f8a7023b79a2bf50465fa1466e01cb
 use Rattle.rules.proofs.Monotone.{Over, stays-grows}
 use Rattle.rules.proofs.Forms.{Laid, laid-fewer, laid-placed, ins-new}
 use Rattle.rules.proofs.Nodes.{within-sub}
