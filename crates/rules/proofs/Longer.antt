@@ -4,7 +4,7 @@ use mathlib.Core.Path.{_≡_, refl, subst, ap}
 use Prim.Native.Nat.{ℕ}
 use mathlib.Core.Bool.{false, not}
 use mathlib.Core.List.{List, [], _∷_}
-use mathlib.Core.Logic.{⊎-elim}
+use mathlib.Core.Logic.{_⊎_, inl, inr, ⊎-elim}
 use lib.Dec.{T, T-not, eqb}
 use Rattle.laws.specs.Logic.{or-l, or-e, not-or-i, not-or-l, not-or-r}
 use Rattle.laws.specs.Lists.{mem, hd, Sub, nil, keep, skip, sub-refl, sub-trans, mem-sub, mem-hd, mem-tl}
@@ -80,6 +80,16 @@ pub past-sub : {o : Places} {z : ℕ} {A A′ : List ℕ} → Past o z A A′ �
 past-sub begun = keep nil
 past-sub (halt u) = keep (past-sub u)
 past-sub (between t u) = skip (past-sub u)
+
+-- the leg enters the stop that the leg of the shorter route enters, or one in between; it leaves the same stop, or one in between
+pub enters : {o : Places} {p k k′ : ℕ} {B B′ : List ℕ} → Within o p (k ∷ B) (k′ ∷ B′) → (k′ ≡ k) ⊎ T (o k′ p)
+enters (stop w) = inl refl
+enters (extra t w) = inr t
+
+pub leaves : {o : Places} {z p q : ℕ} {A A′ : List ℕ} → Past o z (p ∷ A) (q ∷ A′) → (q ≡ p) ⊎ T (o q p)
+leaves begun = inl refl
+leaves (halt u) = inl refl
+leaves (between t u) = inr t
 
 -- what stands behind and ahead of the leg (A′, k′ ∷ B′) of the longer route, and the leg of the shorter one in which it lies
 record Stands (o : Places) (z : ℕ) (r A′ : List ℕ) (k′ : ℕ) (B′ : List ℕ) : Type 0 where

@@ -1,31 +1,32 @@
 -- MONOTONE: struck stays struck on every longer route. A place that passes every test on the longer route passes each test, on a triangle
 -- day, in the leg of the shorter route that it comes from.
-use mathlib.Core.Path.{_≡_, refl, sym, _∙_}
+use mathlib.Core.Path.{_≡_, sym, _∙_}
 use Prim.Native.Nat.{ℕ, _<_}
 use native.Mathlib.Omega.{arith}
-use mathlib.Core.Bool.{Bool, false, not, _||_}
+use mathlib.Core.Bool.{Bool, not}
 use mathlib.Core.List.{List, [], _∷_}
 use mathlib.Core.Logic.{⊎-elim, _⊎_, inl, inr}
 use lib.Dec.{T, T-not, eqb, eqb→eq}
-use Rattle.laws.specs.Logic.{tf, and-i, and-l, and-r, and-mono, or-l, or-e, or-mono}
-use Rattle.laws.specs.Lists.{mem, In, here, there, Each, end, also, each-in, all-mono, Sub, nil, keep, skip, mem-sub}
+use Rattle.laws.specs.Logic.{tf, and-r, and-mono, or-mono}
+use Rattle.laws.specs.Lists.{mem, hd, In, here, there, Each, end, also, each-in, all-mono, Sub, nil, keep, skip, mem-sub}
 use Rattle.rules.specs.Day.{Day, Van}
 use Rattle.rules.specs.Leg.{legsAhead, legsBehind}
 use Rattle.rules.specs.Time.{start}
 use Rattle.rules.specs.Load.{room, reachAhead, reachBack}
 use Rattle.rules.specs.Plan.{Places}
-use Rattle.rules.specs.Rounds.{Distinct, more, Within, done, stop, extra}
+use Rattle.rules.specs.Rounds.{Distinct, more, Within, stop, extra}
 use Rattle.rules.specs.Tests.{Test, tests, window, short, clean, cleanFits, soiled, soiledFits, partnerPlaced, neitherPlaced, stays}
 use Rattle.rules.specs.Asked.{Triangle}
 use Rattle.rules.specs.declared.Job.{Job}
 use Rattle.rules.specs.declared.Job.the-variants.{Clean, Soiled, Transfer}
-use Rattle.rules.proofs.Cuts.{Cut, cut-next, cut-pred}
+use Rattle.rules.proofs.Nodes.{distinct-tail, within-sub, distinct-behind, distinct-ahead}
+use Rattle.rules.proofs.Cuts.{Cut, cut-next, cut-nil, cut-trans}
+use Rattle.rules.proofs.Ways.{Way, next, way-cut, reach-way, way-reach, back-way, way-from, way-source}
+use Rattle.rules.proofs.Windows.{window-fits, fits-sooner}
 use Rattle.rules.proofs.Grows.{start-grows, fits-grows, short-around, around-grows, room-grows}
 use Rattle.rules.proofs.Transfers.{Meets, meets-e, meets-i, Supports, supports-e, supports-i}
 use Rattle.rules.proofs.Left.{stays-e, stays-i}
-use Rattle.rules.proofs.Longer.{off-sides, Lies, entered-on, left-on, Comes, Past, begun, halt, between, past-sub, follow}
-use Rattle.rules.proofs.Nodes.{distinct-tail, within-sub, distinct-behind, distinct-ahead}
-use Rattle.rules.proofs.Windows.{window-fits, fits-sooner}
+use Rattle.rules.proofs.Longer.{off-sides, Lies, entered-on, left-on, lies-one, Comes, ancestor, enters, leaves, follow}
 
 -- the route z ∷ e with the places W is longer than z ∷ r with the places o: its further stops stand in open places of o, and each place of W
 -- comes from one of o
@@ -58,50 +59,64 @@ rooms-behind v d w {B} {B′} (skip {x = p} {m = A′} s) u h = rooms-behind v d
 
 -- ---- how far a load reaches
 
-module _ (v : Van) (d : Day) (z : ℕ) (r e : List ℕ) (o : Places) (g g′ : ℕ → ℕ → Bool) (w : ℕ) where
-  -- a leg with g′ lies in a leg with g; it enters the same stop, or one in between
-  abbrev Entered : Type 0
-  Entered = (q k′ p k : ℕ) (A′ B′ A B : List ℕ) → Lies z e r (q ∷ A′) (k′ ∷ B′) (p ∷ A) (k ∷ B) → (k′ ≡ k) ⊎ T (o k′ p) → T (g′ q k′) → T (g p k)
+module _ (v : Van) (d : Day) (z : ℕ) (r e : List ℕ) (o W : Places) (over : Over d z r e o W) where
+  way-end : {w k k′ : ℕ} {A A′ B B′ A₁ B₁ : List ℕ} → Lies z e r A′ (k′ ∷ B′) A (k ∷ B) → T (room v d w A′ (k′ ∷ B′)) → Lies z e r A′ (k′ ∷ B′) A₁ B₁ → Way v d w A (k ∷ B) A₁ B₁
+  way-end {w} m t l = let q = lies-one (over .nodes) m l in rw (← q .0, ← q .1) (Way.here (room-grows v d w (m .behind) (m .ahead) t))
 
-  -- the same; it leaves the same stop, or one in between
-  abbrev Left : Type 0
-  Left = (q k′ p k : ℕ) (A′ B′ A B : List ℕ) → Lies z e r (q ∷ A′) (k′ ∷ B′) (p ∷ A) (k ∷ B) → (q ≡ p) ⊎ T (o q p) → T (g′ q k′) → T (g p k)
+  -- a way along the longer route is a way along the shorter one, from the leg in which it begins to the leg in which it ends
+  way-grows : {w p q : ℕ} {A A′ B B′ A₁ B₁ A₂ B₂ : List ℕ} → Within o p B B′ → Cut (z ∷ []) r (p ∷ A) B → Cut (z ∷ []) e (q ∷ A′) B′ → Sub (p ∷ A) (q ∷ A′)
+      → Way v d w (q ∷ A′) B′ A₂ B₂ → Lies z e r A₂ B₂ A₁ B₁ → Way v d w (p ∷ A) B A₁ B₁
+  way-grows (stop s) c c′ u (Way.here t) l = way-end (record { long = c′; short = c; behind = u; ahead = keep (within-sub s) }) t l
+  way-grows {w} (stop s) c c′ u (next t y) l = next (room-grows v d w u (keep (within-sub s)) t) (way-grows s (cut-next c) (cut-next c′) (keep u) y l)
+  way-grows (extra x s) c c′ u (Way.here t) l = way-end (record { long = c′; short = c; behind = u; ahead = skip (within-sub s) }) t l
+  way-grows (extra x s) c c′ u (next t y) l = way-grows s c (cut-next c′) (skip u) y l
 
-  reach-ahead : Entered → {p q : ℕ} {A A′ B B′ : List ℕ} → Within o p B B′ → Cut (z ∷ []) r (p ∷ A) B → Cut (z ∷ []) e (q ∷ A′) B′ → Sub (p ∷ A) (q ∷ A′)
-      → T (reachAhead v d g′ w (q ∷ A′) B′) → T (reachAhead v d g w (p ∷ A) B)
-  reach-ahead f done c c′ u h = absurd h
-  reach-ahead f {p} {q} {A} {A′} (stop {k = k} {r = B} {R = B′} s) c c′ u h =
-      and-mono (room v d w (q ∷ A′) (k ∷ B′)) (g′ q k || reachAhead v d g′ w (k ∷ q ∷ A′) B′) (room v d w (p ∷ A) (k ∷ B)) (g p k || reachAhead v d g w (k ∷ p ∷ A) B)
-      (room-grows v d w u (keep (within-sub s)))
-      (or-mono (g′ q k) (reachAhead v d g′ w (k ∷ q ∷ A′) B′) (g p k) (reachAhead v d g w (k ∷ p ∷ A) B)
-      (f q k p k A′ B′ A B (record { long = c′; short = c; behind = u; ahead = keep (within-sub s) }) (inl refl))
-      (reach-ahead f s (cut-next c) (cut-next c′) (keep u))) h
-  reach-ahead f {p} {q} {A} {A′} (extra {x = y} {k = k} {r = B} {R = B′} t s) c c′ u h =
-      ⊎-elim
-      (λ m. and-i (room v d w (p ∷ A) (k ∷ B)) (g p k || reachAhead v d g w (k ∷ p ∷ A) B)
-      (room-grows v d w u (skip (within-sub s)) (and-l (room v d w (q ∷ A′) (y ∷ B′)) (g′ q y || reachAhead v d g′ w (y ∷ q ∷ A′) B′) h))
-      (or-l (g p k) (reachAhead v d g w (k ∷ p ∷ A) B) (f q y p k A′ B′ A B (record { long = c′; short = c; behind = u; ahead = skip (within-sub s) }) (inr t) m)))
-      (reach-ahead f s c (cut-next c′) (skip u))
-      (or-e (g′ q y) (reachAhead v d g′ w (y ∷ q ∷ A′) B′) (and-r (room v d w (q ∷ A′) (y ∷ B′)) (g′ q y || reachAhead v d g′ w (y ∷ q ∷ A′) B′) h))
+  -- a leg with g′ lies in a leg with g
+  abbrev Goes : (ℕ → ℕ → Bool) → (ℕ → ℕ → Bool) → Type 0
+  Goes g′ g = (q k′ p k : ℕ) (A′ B′ A B : List ℕ) → Lies z e r (q ∷ A′) (k′ ∷ B′) (p ∷ A) (k ∷ B) → T (g′ q k′) → T (g p k)
 
-  reach-back : Left → {p k k′ : ℕ} {A A′ B B′ : List ℕ} → Past o z (p ∷ A) A′ → Sub (k ∷ B) (k′ ∷ B′) → Cut (z ∷ []) r (p ∷ A) (k ∷ B) → Cut (z ∷ []) e A′ (k′ ∷ B′)
-      → T (reachBack v d g′ w A′ (k′ ∷ B′)) → T (reachBack v d g w (p ∷ A) (k ∷ B))
-  reach-back f {k = k} {k′ = k′} {B = B} {B′ = B′} begun s c c′ h =
-      and-mono (room v d w (z ∷ []) (k′ ∷ B′)) (g′ z k′ || false) (room v d w (z ∷ []) (k ∷ B)) (g z k || false) (room-grows v d w (keep nil) s)
-      (or-mono (g′ z k′) false (g z k) false (f z k′ z k [] B′ [] B (record { long = c′; short = c; behind = keep nil; ahead = s }) (inl refl)) (λ t. t)) h
-  reach-back f {k = k} {k′ = k′} {B = B} {B′ = B′} (halt {k = m} {p = p} {q = q} {A = A} {A′ = A′} u) s c c′ h =
-      and-mono (room v d w (m ∷ q ∷ A′) (k′ ∷ B′)) (g′ m k′ || reachBack v d g′ w (q ∷ A′) (m ∷ k′ ∷ B′)) (room v d w (m ∷ p ∷ A) (k ∷ B)) (g m k || reachBack v d g w (p ∷ A) (m ∷ k ∷ B))
-      (room-grows v d w (keep (past-sub u)) s)
-      (or-mono (g′ m k′) (reachBack v d g′ w (q ∷ A′) (m ∷ k′ ∷ B′)) (g m k) (reachBack v d g w (p ∷ A) (m ∷ k ∷ B))
-      (f m k′ m k (q ∷ A′) B′ (p ∷ A) B (record { long = c′; short = c; behind = keep (past-sub u); ahead = s }) (inl refl))
-      (λ t. reach-back f u (keep s) (cut-pred c) (cut-pred c′) t)) h
-  reach-back f {k = k} {k′ = k′} {B = B} {B′ = B′} (between {y = y} {p = p} {q = q} {A = A} {A′ = A′} t u) s c c′ h =
-      ⊎-elim
-      (λ m. and-i (room v d w (p ∷ A) (k ∷ B)) (g p k || reachBack v d g w A (p ∷ k ∷ B))
-      (room-grows v d w (skip (past-sub u)) s (and-l (room v d w (y ∷ q ∷ A′) (k′ ∷ B′)) (g′ y k′ || reachBack v d g′ w (q ∷ A′) (y ∷ k′ ∷ B′)) h))
-      (or-l (g p k) (reachBack v d g w A (p ∷ k ∷ B)) (f y k′ p k (q ∷ A′) B′ A B (record { long = c′; short = c; behind = skip (past-sub u); ahead = s }) (inr t) m)))
-      (λ m. reach-back f u (skip s) c (cut-pred c′) m)
-      (or-e (g′ y k′) (reachBack v d g′ w (q ∷ A′) (y ∷ k′ ∷ B′)) (and-r (room v d w (y ∷ q ∷ A′) (k′ ∷ B′)) (g′ y k′ || reachBack v d g′ w (q ∷ A′) (y ∷ k′ ∷ B′)) h))
+  module _ (g′ g : ℕ → ℕ → Bool) (f : Goes g′ g) (w : ℕ) {q k′ p k : ℕ} {A′ B′ A B : List ℕ} (l : Lies z e r (q ∷ A′) (k′ ∷ B′) (p ∷ A) (k ∷ B)) where
+    reach-grows : T (reachAhead v d g′ w (q ∷ A′) (k′ ∷ B′)) → T (reachAhead v d g w (p ∷ A) (k ∷ B))
+    reach-grows h = let u = reach-way v d g′ w (q ∷ A′) (k′ ∷ B′) h in go (u .A′) (u .way) (u .holds)
+      where
+        go : {k₂ : ℕ} {B₂ : List ℕ} (A₂ : List ℕ) → Way v d w (q ∷ A′) (k′ ∷ B′) A₂ (k₂ ∷ B₂) → T (g′ (hd A₂) k₂) → T (reachAhead v d g w (p ∷ A) (k ∷ B))
+        go [] y t = absurd (cut-nil (way-cut y))
+        go {k₂} {B₂} (q₂ ∷ A₂) y t = let a = ancestor (over .inside) (cut-trans (l .long) (way-cut y)) in
+            way-reach v d g w (way-grows (follow (over .nodes) (over .inside) l .1) (l .short) (l .long) (l .behind) y (a .lies))
+            (f q₂ k₂ (a .p) (a .k) A₂ B₂ (a .A) (a .B) (a .lies) t)
+
+    back-grows : T (reachBack v d g′ w (q ∷ A′) (k′ ∷ B′)) → T (reachBack v d g w (p ∷ A) (k ∷ B))
+    back-grows h =
+        let u = back-way v d g′ w (q ∷ A′) k′ B′ h in
+        let c = way-source (u .way) (l .long) in
+        let a = ancestor (over .inside) c in
+        way-from v d g w (way-grows (follow (over .nodes) (over .inside) (a .lies) .1) (a .lies .short) c (a .lies .behind) (u .way) l)
+        (f (u .p′) (u .k′) (a .p) (a .k) (u .A′) (u .B′) (a .A) (a .B) (a .lies) (u .holds))
+
+  -- a leg where x stands, entering or leaving it: if x is on the shorter route it stands there, and if not it had a place there
+  stands-at : (x : ℕ) → T (mem x (z ∷ r)) → (p : ℕ) {m′ m : ℕ} → (m′ ≡ m) ⊎ T (o m′ p) → T (eqb m′ x) → T (eqb m x)
+  stands-at x on p (inl c) t = rw c at t
+  stands-at x on p {m′} (inr c) t = absurd (T-not (mem x (z ∷ r)) (over .off x p (rw (eqb→eq m′ x t) at c)) on)
+
+  had-place : (x : ℕ) → T (not (mem x (z ∷ r))) → (p : ℕ) {m′ m : ℕ} → T (mem m (z ∷ r)) → (m′ ≡ m) ⊎ T (o m′ p) → T (eqb m′ x) → T (o x p)
+  had-place x out p {m′} {m} on (inl c) t = let q : m ≡ x = sym c ∙ eqb→eq m′ x t in absurd (T-not (mem x (z ∷ r)) out (rw q at on))
+  had-place x out p {m′} on (inr c) t = rw (eqb→eq m′ x t) at c
+
+  module _ (x : ℕ) where
+    entered-there : T (mem x (z ∷ r)) → Goes (λ p k. eqb k x) (λ p k. eqb k x)
+    entered-there on q k′ p k A′ B′ A B l t = stands-at x on p (enters (follow (over .nodes) (over .inside) l .1)) t
+
+    left-there : T (mem x (z ∷ r)) → Goes (λ p k. eqb p x) (λ p k. eqb p x)
+    left-there on q k′ p k A′ B′ A B l t = stands-at x on p (leaves (follow (over .nodes) (over .inside) l .0)) t
+
+    entered-open : T (not (mem x (z ∷ r))) → Goes (λ p k. eqb k x) (λ p k. o x p)
+    entered-open out q k′ p k A′ B′ A B l t = had-place x out p (entered-on (l .short)) (enters (follow (over .nodes) (over .inside) l .1)) t
+
+    left-open : T (not (mem x (z ∷ r))) → Goes (λ p k. eqb p x) (λ p k. o x p)
+    left-open out q k′ p k A′ B′ A B l t = had-place x out p (left-on (l .short)) (leaves (follow (over .nodes) (over .inside) l .0)) t
+
+    open-open : Goes (λ p k. W x p) (λ p k. o x p)
+    open-open q k′ p k A′ B′ A B l t = over .places q k′ p k A′ B′ A B l x t
 
 -- ---- the tests, one by one
 
@@ -144,9 +159,6 @@ module _ (v : Van) (d : Day) (tri : Triangle d) (z : ℕ) (r e : List ℕ) (o W 
 
   -- ---- the partner
 
-  between-stops : Past o z (p ∷ A) (q ∷ A′) × Within o p (k ∷ B) (k′ ∷ B′)
-  between-stops = follow (over .nodes) (over .inside) l
-
   longer : (x : ℕ) → T (mem x (z ∷ r)) → T (mem x (z ∷ e))
   longer x = mem-sub x (keep (within-sub (over .inside)))
 
@@ -156,36 +168,22 @@ module _ (v : Van) (d : Day) (tri : Triangle d) (z : ℕ) (r e : List ℕ) (o W 
   supported : Supports v d (z ∷ e) W y (q ∷ A′) (k′ ∷ B′)
   supported = supports-e v d (z ∷ e) W y (q ∷ A′) (k′ ∷ B′) (passes neitherPlaced (there (there (there (there (there here))))))
 
-  -- a partner on the shorter route stands at the stop, not in between
-  stands-at : (x : ℕ) → T (mem x (z ∷ r)) → (m′ m p : ℕ) → (m′ ≡ m) ⊎ T (o m′ p) → T (eqb m′ x) → T (eqb m x)
-  stands-at x on m′ m p (inl c) t = rw c at t
-  stands-at x on m′ m p (inr c) t = absurd (T-not (mem x (z ∷ r)) (over .off x p (rw (eqb→eq m′ x t) at c)) on)
-
-  -- a partner off the shorter route stands in between, where it had a place
-  stands-between : (x : ℕ) → T (not (mem x (z ∷ r))) → (m′ m p : ℕ) → T (mem m (z ∷ r)) → (m′ ≡ m) ⊎ T (o m′ p) → T (eqb m′ x) → T (o x p)
-  stands-between x out m′ m p on (inl c) t = let e : m ≡ x = sym c ∙ eqb→eq m′ x t in absurd (T-not (mem x (z ∷ r)) out (rw e at on))
-  stands-between x out m′ m p on (inr c) t = rw (eqb→eq m′ x t) at c
-
   partner-grows : T (partnerPlaced v d (z ∷ r) o y (p ∷ A) (k ∷ B))
   partner-grows = meets-i v d (z ∷ r) o y (p ∷ A) (k ∷ B) (record {
-    first = λ b w i on. reach-ahead v d z r e o (λ p k. eqb k b) (λ p k. eqb k b) w (λ q k′ p k A′ B′ A B l c t. stands-at b on k′ k p c t) (between-stops .1) (l .short) (l .long) (l .behind)
-        (met .first b w i (longer b on));
-    second = λ a w i on. reach-back v d z r e o (λ p k. eqb p a) (λ p k. eqb p a) w (λ q k′ p k A′ B′ A B l c t. stands-at a on q p p c t) (between-stops .0) (l .ahead) (l .short) (l .long)
-        (met .second a w i (longer a on));
+    first = λ b w i on. reach-grows v d z r e o W over (λ p k. eqb k b) (λ p k. eqb k b) (entered-there v d z r e o W over b on) w l (met .first b w i (longer b on));
+    second = λ a w i on. back-grows v d z r e o W over (λ p k. eqb p a) (λ p k. eqb p a) (left-there v d z r e o W over a on) w l (met .second a w i (longer a on));
   })
 
   neither-grows : T (neitherPlaced v d (z ∷ r) o y (p ∷ A) (k ∷ B))
   neither-grows = supports-i v d (z ∷ r) o y (p ∷ A) (k ∷ B) (record {
     first = λ b w i out. ⊎-elim
-        (λ on. reach-ahead v d z r e o (λ p k. o b p) (λ p k. eqb k b) w (λ q k′ p k A′ B′ A B l c t. stands-between b out k′ k p (entered-on (l .short)) c t) (between-stops .1) (l .short) (l .long) (l .behind)
-        (met .first b w i on))
-        (λ no. reach-ahead v d z r e o (λ p k. o b p) (λ p k. W b p) w (λ q k′ p k A′ B′ A B l c t. over .places q k′ p k A′ B′ A B l b t) (between-stops .1) (l .short) (l .long) (l .behind)
-        (supported .first b w i no)) (tf (mem b (z ∷ e)));
+        (λ on. reach-grows v d z r e o W over (λ p k. eqb k b) (λ p k. o b p) (entered-open v d z r e o W over b out) w l (met .first b w i on))
+        (λ no. reach-grows v d z r e o W over (λ p k. W b p) (λ p k. o b p) (open-open v d z r e o W over b) w l (supported .first b w i no))
+        (tf (mem b (z ∷ e)));
     second = λ a w i out. ⊎-elim
-        (λ on. reach-back v d z r e o (λ p k. o a p) (λ p k. eqb p a) w (λ q k′ p k A′ B′ A B l c t. stands-between a out q p p (left-on (l .short)) c t) (between-stops .0) (l .ahead) (l .short) (l .long)
-        (met .second a w i on))
-        (λ no. reach-back v d z r e o (λ p k. o a p) (λ p k. W a p) w (λ q k′ p k A′ B′ A B l c t. over .places q k′ p k A′ B′ A B l a t) (between-stops .0) (l .ahead) (l .short) (l .long)
-        (supported .second a w i no)) (tf (mem a (z ∷ e)));
+        (λ on. back-grows v d z r e o W over (λ p k. eqb p a) (λ p k. o a p) (left-open v d z r e o W over a out) w l (met .second a w i on))
+        (λ no. back-grows v d z r e o W over (λ p k. W a p) (λ p k. o a p) (open-open v d z r e o W over a) w l (supported .second a w i no))
+        (tf (mem a (z ∷ e)));
   })
 
 -- ---- the law, of every test

@@ -1,5 +1,5 @@
 -- A run in small steps, a settling as its single rounds, and where its places come from.
-use mathlib.Core.Path.{_≡_, refl, subst, sym, ap, _∙_}
+use mathlib.Core.Path.{_≡_, subst, sym, ap, _∙_}
 use Prim.Native.Nat.{ℕ, zero, suc, _*_, _<_}
 use mathlib.Core.Bool.{Bool, true, false, not, _&&_}
 use mathlib.Core.List.{List, [], _∷_}
@@ -17,7 +17,7 @@ use Rattle.rules.specs.Worked.{Run, begin, place, exclude, require, sett
 use Rattle.rules.proofs.Left.{_⊆_, round-less, round-stays, round-i}
 use Rattle.rules.proofs.Placing.{Ins, at, on, put-ins, split-e, split-i, split-half, split-half-i}
 use Rattle.rules.proofs.StepRounds.{place-old}
-use Rattle.rules.proofs.Longer.{Lies, lies-one, lies-same, lies-trans, left-on, Comes, within-self, ancestor, Past, begun, halt, between, follow}
+use Rattle.rules.proofs.Longer.{Lies, lies-one, lies-same, lies-trans, left-on, Comes, within-self, ancestor, leaves, follow}
 use Rattle.rules.proofs.Monotone.{Over, stays-grows}
 use Rattle.rules.proofs.Forms.{Laid, laid-fewer, laid-placed, ins-new}
 use Rattle.rules.proofs.Nodes.{within-sub}
@@ -80,16 +80,11 @@ ins-within : {p x c : ℕ} {r r′ : List ℕ} → Ins p x c r r′ → Within (
 ins-within {p} {x} (at {k = k} {r = r}) = extra (and-i (eqb x x) (eqb p p) (eqb-refl x) (eqb-refl p)) (within-self (only p x) p (k ∷ r))
 ins-within (on i) = stop (ins-within i)
 
--- a leg of the new route has the name of the leg in which it lies, or it is the half that x names
-half : {p x z p₀ q : ℕ} {A A′ : List ℕ} → Past (only p x) z (p₀ ∷ A) (q ∷ A′) → (q ≡ p₀) ⊎ ((q ≡ x) × (p₀ ≡ p))
-half begun = inl refl
-half (halt u) = inl refl
-half {p} {x} (between {y = y} {p = p₀} t u) = inr (eqb→eq y x (and-l (eqb y x) (eqb p₀ p) t), eqb→eq p₀ p (and-r (eqb y x) (eqb p₀ p) t))
-
 module _ {n p x z q k′ p₀ k : ℕ} {r r′ A′ B′ A B : List ℕ} (o : Places) (y : ℕ) (i : Ins p x z r r′) (g : Distinct n (z ∷ r′)) (off : T (not (mem x (z ∷ r))))
     (l : Lies z r′ r (q ∷ A′) (k′ ∷ B′) (p₀ ∷ A) (k ∷ B)) where
+  -- it has the name of the leg in which it lies, or it is the half that x names
   named : (q ≡ p₀) ⊎ ((q ≡ x) × (p₀ ≡ p))
-  named = half (follow g (ins-within i) l .0)
+  named = ⊎-elim inl (λ t. inr (eqb→eq q x (and-l (eqb q x) (eqb p₀ p) t), eqb→eq p₀ p (and-r (eqb q x) (eqb p₀ p) t))) (leaves (follow g (ins-within i) l .0))
 
   old-name : T (not (eqb p₀ x))
   old-name = ne-sym x p₀ (mem-ne x p₀ (z ∷ r) off (left-on (l .short)))
