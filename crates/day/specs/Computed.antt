@@ -1,7 +1,7 @@
 -- The sheet of document 01 is accepted, each refusal is met by one altered number, and its third section is its job.
 use Prim.Native.Nat.{ℕ}
 use mathlib.Core.Path.{_≡_, refl}
-use mathlib.Core.List.{List, [], _∷_}
+use mathlib.Core.List.{List, []}
 use Rattle.laws.specs.Below.{allBelow}
 use Rattle.laws.specs.Choice.{orElse}
 use Rattle.sheet.specs.Word.{wordAt}
