@@ -54,7 +54,7 @@ last-far d w (m ∷ B) k =
       w .seconds k m,
       last-far d w B m,
       mag-min (lastMoment d k) (lastStart d B m -ℤ pos (d .service k + d .seconds k m)) (mag (lastStart d B m) + (4294967296 + (d .service k + d .seconds k m))) (omega (arith, w .moment k))
-      (omega (arith, mag-sub (lastStart d B m) (d .service k + d .seconds k m))),
+          (omega (arith, mag-sub (lastStart d B m) (d .service k + d .seconds k m))),
     )
 
 -- L of a route of at most 64 stops is far from the ends of 64 bits

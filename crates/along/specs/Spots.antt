@@ -172,7 +172,7 @@ module _ (l : List ℕ) (n : ℕ) (most : n ≤ 64) (fits : n ≤ length l) {k :
   spot-behind x i h =
       T-ext (leb (spot l n x) i) (mem x (behind m (suc i)))
       (λ t. ⊎-elim (λ p. absurd (omega (arith, p .0, leb→le (spot l n x) i t)))
-        (λ p. found-behind x m (suc i) (record { i = spot l n x; low = omega arith; high = omega (arith, leb→le (spot l n x) i t); is = entry (spot l n x) (p .0) ∙ p .1 })) (spot-cases l n x))
+      (λ p. found-behind x m (suc i) (record { i = spot l n x; low = omega arith; high = omega (arith, leb→le (spot l n x) i t); is = entry (spot l n x) (p .0) ∙ p .1 })) (spot-cases l n x))
       (λ t. let f = behind-found x m (suc i) t in le→leb (spot l n x) i (omega (arith, f .high, spot-found x (f .i) (omega (arith, f .high)) (f .is))))
 
   pub spot-ahead : (x i : ℕ) → ltb i (till (spot l n x)) ≡ mem x (drop (suc i) m)
@@ -180,7 +180,7 @@ module _ (l : List ℕ) (n : ℕ) (most : n ≤ 64) (fits : n ≤ length l) {k :
       T-ext (ltb i (till (spot l n x))) (mem x (drop (suc i) m))
       (λ t. ⊎-elim (λ p. absurd (none-lt (p .0) t)) (λ p. found-drop x m (suc i) (record { i = spot l n x; low = some-lt (p .0) t; high = omega (arith, p .0, size); is = entry (spot l n x) (p .0) ∙ p .1 })) (spot-cases l n x))
       (λ t. let f = drop-found x m (suc i) t in let g : f .i < n = omega (arith, f .high, size) in
-          let e = spot-found x (f .i) g (f .is) in lt→ltb i (till (spot l n x)) (subst (λ (k : ℕ). i < till k) (sym e) (near (f .i) g (f .low))))
+      let e = spot-found x (f .i) g (f .is) in lt→ltb i (till (spot l n x)) (subst (λ (k : ℕ). i < till k) (sym e) (near (f .i) g (f .low))))
     where
       none-lt : spot l n x ≡ 64 → T (ltb i (till (spot l n x))) → ⊥
       none-lt e t = let q = ltb→lt i (till (spot l n x)) t in let z : till (spot l n x) ≡ 0 = ap till e in omega (arith, q, z)

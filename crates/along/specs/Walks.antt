@@ -43,9 +43,12 @@ pub kept-up : {l : List ℕ} {lo i : ℕ} {f : ℕ → Bool} {w r v : ℕ} {b : 
 kept-up {l} {lo} {i} {f} {w} {r} {v} {b} h g u k =
     rw u (record {
       at = λ q. let d = struck-has r (getD l i 0) q b in let o = k .at q in (
-        λ t. let a = d .0 t in let c = o .0 (a .0) in (c .0, λ j m n z. ⊎-elim
-            (λ y. subst (λ (y : ℕ). T (f y)) (sym y) (subst (λ (b : Bool). T b) g (a .1 (ap (λ (y : ℕ). getD l y 0) (sym y) ∙ z))))
-            (λ y. c .1 j m y z) (eq-or-lt-of-le (le-of-suc-le-suc (rw (add-one i) at n)))),
+        λ t. let a = d .0 t in let c = o .0 (a .0) in (
+          c .0,
+          λ j m n z. ⊎-elim
+              (λ y. subst (λ (y : ℕ). T (f y)) (sym y) (subst (λ (b : Bool). T b) g (a .1 (ap (λ (y : ℕ). getD l y 0) (sym y) ∙ z))))
+              (λ y. c .1 j m y z) (eq-or-lt-of-le (le-of-suc-le-suc (rw (add-one i) at n))),
+        ),
         λ t. d .1 (o .1 (t .0, λ j m n z. t .1 j m (omega arith) z), λ y. subst (λ (b : Bool). T b) (sym g) (t .1 i h (omega arith) y)),
       );
     })
@@ -55,9 +58,12 @@ pub kept-down : {l : List ℕ} {i hi : ℕ} {f : ℕ → Bool} {w r v : ℕ} {b 
 kept-down {l} {i} {hi} {f} {w} {r} {v} {b} s h g u k =
     rw u (record {
       at = λ q. let d = struck-has r (getD l (i - 1) 0) q b in let o = k .at q in (
-        λ t. let a = d .0 t in let c = o .0 (a .0) in (c .0, λ j m n z. ⊎-elim
-            (λ y. subst (λ (y : ℕ). T (f y)) y (subst (λ (b : Bool). T b) g (a .1 (ap (λ (y : ℕ). getD l y 0) y ∙ z))))
-            (λ y. c .1 j (omega arith) n z) (eq-or-lt-of-le m)),
+        λ t. let a = d .0 t in let c = o .0 (a .0) in (
+          c .0,
+          λ j m n z. ⊎-elim
+              (λ y. subst (λ (y : ℕ). T (f y)) y (subst (λ (b : Bool). T b) g (a .1 (ap (λ (y : ℕ). getD l y 0) y ∙ z))))
+              (λ y. c .1 j (omega arith) n z) (eq-or-lt-of-le m),
+        ),
         λ t. d .1 (o .1 (t .0, λ j m n z. t .1 j (omega arith) n z), λ y. subst (λ (b : Bool). T b) (sym g) (t .1 (i - 1) (omega arith) (omega arith) y)),
       );
     })

@@ -22,7 +22,11 @@ fn come(job: Job, at: &[usize; 64]) -> usize
     match job {
         Job::Clean { node: _, load: _ } => 0,
         Job::Soiled { node, load: _ } => spot(at, node),
-        Job::Transfer { from, to: _, load: _ } => spot(at, from),
+        Job::Transfer {
+            from,
+            to: _,
+            load: _,
+        } => spot(at, from),
     }
 }
 
@@ -34,7 +38,11 @@ fn go(job: Job, at: &[usize; 64], stops: usize) -> usize
     match job {
         Job::Clean { node, load: _ } => until(spot(at, node)),
         Job::Soiled { node: _, load: _ } => stops - 1,
-        Job::Transfer { from: _, to, load: _ } => until(spot(at, to)),
+        Job::Transfer {
+            from: _,
+            to,
+            load: _,
+        } => until(spot(at, to)),
     }
 }
 
@@ -44,7 +52,11 @@ pub fn load_of(job: Job) -> usize
     match job {
         Job::Clean { node: _, load } => load,
         Job::Soiled { node: _, load } => load,
-        Job::Transfer { from: _, to: _, load } => load,
+        Job::Transfer {
+            from: _,
+            to: _,
+            load,
+        } => load,
     }
 }
 
