@@ -1,7 +1,7 @@
 -- What the refusals give the theorems: the jobs of a sheet that 1 to 4 do not refuse, and the tables of one that 5 does not refuse either.
 use Prim.Native.Nat.{ℕ, zero, suc, _+_, _-_, _≤_, _<_}
 use mathlib.Core.Path.{_≡_, refl, sym, ap, _∙_, subst}
-use mathlib.Core.Bool.{Bool, true, false, not, _&&_, _||_}
+use mathlib.Core.Bool.{true, false, not, _&&_, _||_}
 use mathlib.Core.List.{List}
 use mathlib.Core.Logic.{⊎-elim, _⊎_, inl, inr, _≢_}
 use native.Mathlib.Omega.{arith}
@@ -9,20 +9,19 @@ use lib.Dec.{leb, ltb, eqb}
 use borrow.Author.Tests.{not-true, leb-true, ltb-true, ltb-false, eqb-true, eqb-false, ne-eqb}
 use Rattle.laws.specs.Logic.{decided, and-true, or-false}
 use Rattle.laws.specs.Lists.{In, here, there}
-use Rattle.laws.specs.Choice.{unless, or-else-zero, unless-zero}
+use Rattle.laws.specs.Choice.{or-else-zero, unless-zero}
 use Rattle.laws.specs.Below.{below-at}
 use Rattle.laws.specs.Table.{At, in-tab}
 use Rattle.sheet.specs.Rule.{isInner}
 use Rattle.sheet.specs.Section.{nOf, mOf}
 use Rattle.rules.specs.Day.{downFrom}
 use Rattle.rules.specs.Asked.{Shortest, Triangle, OneEnd, Proper}
-use Rattle.rules.specs.declared.Job.{Job}
-use Rattle.rules.specs.declared.Job.the-variants.{Clean, Soiled, Transfer}
+use Rattle.rules.specs.declared.Job.the-variants.{Transfer}
 use Rattle.day.specs.Jobs.{jobIn, loadOk, jobFine}
 use Rattle.day.specs.Twice.{clash, apartAt, apart}
 use Rattle.day.specs.Fit.{fine-job}
 use Rattle.day.specs.Tables.{shortest, shortestLine, shortestRow, triangle}
-use Rattle.day.specs.Refuse.{secondsOf, metresOf, refusal14, refusal15, zero14, fine14}
+use Rattle.day.specs.Refuse.{secondsOf, metresOf, refusal14, refusal15, fine14}
 use Rattle.day.specs.Tell.{dayOf}
 
 -- ---- the nodes of a transfer

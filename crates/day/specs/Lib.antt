@@ -12,3 +12,5 @@ pub mod Tell
 pub mod Range
 pub mod Section
 pub mod Asked
+pub mod Example
+pub mod Computed
