@@ -67,3 +67,7 @@ last-low d w l n i h = omega (arith, last-far d w (drop (suc i) (take n l)) (get
 -- what is stored of L is read back
 pub last-kept : (d : Day) → Low d → (l : List ℕ) (n i : ℕ) {z : ℤ} → n ≤ 64 → z ≡ lastAt d (take n l) i → toZ w64 (ofZ w64 z) ≡ lastAt d (take n l) i
 last-kept d w l n i {z} h e = rw e (back (lastAt d (take n l) i) (omega (arith, last-low d w l n i h)))
+
+-- and what is handed on of a last moment
+pub moment-kept : (d : Day) → Low d → (x : ℕ) {z : ℤ} → z ≡ lastMoment d x → toZ w64 (ofZ w64 z) ≡ lastMoment d x
+moment-kept d w x {z} e = rw e (back (lastMoment d x) (omega (arith, w .moment x)))

@@ -1,4 +1,5 @@
 pub mod Times
-pub mod Walks
 pub mod Spots
+pub mod Route
+pub mod Walks
 pub mod Loads

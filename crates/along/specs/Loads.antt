@@ -123,6 +123,14 @@ unfolding tab sumBelow
 sum-tab f zero g = refl
 sum-tab f (suc n) g = ap (λ (a : ℕ). f (g 0) + a) (sum-tab f n (λ k. g (suc k))) ∙ sym (sum-front n (λ k. f (g k)))
 
-pub load-all : (g : ℕ → Job) (m : List ℕ) (j i : ℕ) → loadSum g m j i ≡ sum (aboard (behind m (suc i)) (drop (suc i) m)) (tab j g)
+load-all : (g : ℕ → Job) (m : List ℕ) (j i : ℕ) → loadSum g m j i ≡ sum (aboard (behind m (suc i)) (drop (suc i) m)) (tab j g)
 unfolding loadSum
 load-all g m j i = sym (sum-tab (aboard (behind m (suc i)) (drop (suc i) m)) j g)
+
+pub load-done : (g : ℕ → Job) (m : List ℕ) (n j k : ℕ) {h : List ℕ} → j ≡ k → Filled 64 (loadSum g m j) 0 n h
+    → Filled 64 (λ i. sum (aboard (behind m (suc i)) (drop (suc i) m)) (tab k g)) 0 n h
+load-done g m n j k e p = record { long = p .long; at = λ i b. p .at i b ∙ load-all g m j i ∙ ap (λ (q : ℕ). sum (aboard (behind m (suc i)) (drop (suc i) m)) (tab q g)) e }
+
+-- H of the jobs g, of which there are at most 155
+pub load-at-low : (g : ℕ → Job) (m : List ℕ) (j i : ℕ) → ((k : ℕ) → loadOf (g k) < 4294967296) → j ≤ 155 → sum (aboard (behind m (suc i)) (drop (suc i) m)) (tab j g) < 1099511627776
+load-at-low g m j i f h = omega (arith, load-all g m j i, load-low g m j i f)

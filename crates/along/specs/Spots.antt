@@ -153,6 +153,15 @@ goes (Clean x w) a n = till (getD a x 64)
 goes (Soiled x w) a n = n - 1
 goes (Transfer x y w) a n = till (getD a y 64)
 
+till-low : (l : List ℕ) (n x : ℕ) → till (spot l n x) ≤ n - 1
+till-low l n x = decided (eqb (spot l n x) 64) (λ e. rw e (omega arith)) (λ e. rw e (⊎-elim (λ p. absurd (eqb-false (spot l n x) 64 e (p .0))) (λ p. omega (arith, p .0)) (spot-cases l n x)))
+
+-- no stretch goes past the last leg
+pub goes-low : (l : List ℕ) (n : ℕ) (a : List ℕ) → Spots l n a → (j : Job) → goes j a n ≤ n - 1
+goes-low l n a p (Clean x w) = rw (p .at x) (till-low l n x)
+goes-low l n a p (Soiled x w) = omega arith
+goes-low l n a p (Transfer x y w) = rw (p .at y) (till-low l n y)
+
 module _ (l : List ℕ) (n : ℕ) (most : n ≤ 64) (fits : n ≤ length l) {k : ℕ} (nodes : Distinct k (take n l)) where
   abbrev m : List ℕ
   m = take n l

@@ -74,6 +74,11 @@ last-turn d l n (suc i) {z} g h k e =
     let q : suc i - 1 ≡ i = omega arith in
     rw (q, e, ← getD-take n l i 0 (omega arith), ← getD-take n l (suc i) 0 h) (sym (last-next d (take n l) i (simp length-take (omega arith))))
 
+-- the same from what the code has read
+pub last-told : (d : Day) (l : List ℕ) (n i : ℕ) {z r o : ℤ} {b c : ℕ} → 0 < i → i < n → n ≤ length l → z ≡ lastAt d (take n l) i → r ≡ minZ o (z -ℤ pos (b + c))
+    → o ≡ lastMoment d (getD l (i - 1) 0) → b ≡ d .service (getD l (i - 1) 0) → c ≡ d .seconds (getD l (i - 1) 0) (getD l i 0) → r ≡ lastAt d (take n l) (i - 1)
+last-told d l n i {z} g h k e f p q s = f ∙ (λ j. minZ (p j) (z -ℤ pos (q j + s j))) ∙ last-turn d l n i g h k e
+
 -- ---- the length of the route
 
 pub length-first : (d : Day) (l : List ℕ) → 0 ≡ driven d (take 1 l)

@@ -2,10 +2,16 @@
 ghost use mathlib.Core.Path.{_≡_};
 ghost use Prim.Native.Nat.{ℕ, _+_, _-_, _*_, _<_, _≤_};
 ghost use lib.ListN.{take, getD, length};
+ghost use Rattle.laws.specs.Table.{Filled};
+ghost use Rattle.rules.specs.Along.{loadAt};
+ghost use Rattle.sheet.specs.Place.{Laid};
+ghost use Rattle.day.specs.Tell.{dayOf};
+ghost use Rattle.along.specs.Route.{Route};
 ghost use Rattle.along.specs.Spots.{Spots, till, comes, goes, loadOf};
 ghost use Rattle.along.specs.Loads.{Added};
 use crate::spots::spot;
 use rules::Job;
+use sheet::Layout;
 
 // The first leg that does not lead to the stop k any more.
 fn until(k: usize) -> usize
@@ -71,4 +77,29 @@ fn add(h: &mut [usize; 64], from: usize, to: usize, load: usize)
         h[i] = v + load;
         i += 1;
     }
+}
+
+// H: the load aboard on each leg of the route, where `spots` has each node's stop.
+pub fn loads(
+    s: &[u8],
+    at: Layout,
+    route: &[usize; 64],
+    stops: usize,
+    spots: &[usize; 64],
+) -> [usize; 64]
+    requires { ⌜ Laid (now s) at × Route (at .nodes) (now route) stops × Spots (now route) stops (now spots) ⌝ }
+    ensures { λ r. ⌜ Filled 64 (loadAt (dayOf (now (s .entry))) (take stops (now (route .entry)))) 0 (stops - 1) r ⌝ }
+{
+    let mut h = [0usize; 64];
+    let m = at.jobs;
+    let mut j = 0;
+    while j < m {
+        let job = day::jobs::job(s, at, j);
+        let from = come(job, spots);
+        let to = go(job, spots, stops);
+        let load = load_of(job);
+        add(&mut h, from, to, load);
+        j += 1;
+    }
+    h
 }

@@ -1,9 +1,61 @@
-// E and L along the route.
+// E, L and the length of the route.
 ghost use mathlib.Core.Path.{_≡_};
 ghost use Prim.Native.Nat.{_+_, _*_, _<_, _≤_};
+ghost use lib.ListN.{take};
 ghost use lib.IntN.{pos, _-ℤ_};
 ghost use lib.Signed.{mag, leZ};
-ghost use Rattle.rules.specs.Time.{minZ};
+ghost use Rattle.laws.specs.Table.{Filled};
+ghost use Rattle.rules.specs.Time.{lastMoment, minZ};
+ghost use Rattle.rules.specs.Metres.{driven};
+ghost use Rattle.rules.specs.Along.{startAt, lastAt};
+ghost use Rattle.rules.proofs.AlongLaws.{arrives};
+ghost use Rattle.sheet.specs.Place.{Laid};
+ghost use Rattle.day.specs.Tell.{dayOf};
+ghost use Rattle.along.specs.Route.{Route};
+use day::look::earliest;
+use day::look::latest;
+use day::look::metres;
+use day::look::seconds;
+use day::look::service;
+use sheet::Layout;
+
+// The last moment at which service at x may start.
+pub fn last_moment(s: &[u8], at: Layout, x: usize) -> i64
+    requires { ⌜ Laid (now s) at × (x < at .nodes) ⌝ }
+    ensures { λ r. ⌜ r ≡ lastMoment (dayOf (now (s .entry))) x ⌝ }
+{
+    latest(s, at, x) as i64
+}
+
+// The start at x of a van that starts at p at the time t.
+pub fn arrive(s: &[u8], at: Layout, t: usize, p: usize, x: usize) -> usize
+    requires { ⌜ Laid (now s) at × (p < at .nodes) × (x < at .nodes) × (t < 1099511627776) ⌝ }
+    ensures { λ r. ⌜ (r ≡ arrives (dayOf (now (s .entry))) t p x) × (r ≤ t + 2000000) ⌝ }
+{
+    let e = earliest(s, at, x);
+    let a = t + service(s, at, p) + seconds(s, at, p, x);
+    if e <= a { a } else { e }
+}
+
+// E: the start at each stop.
+pub fn starts(s: &[u8], at: Layout, route: &[usize; 64], stops: usize) -> [usize; 64]
+    requires { ⌜ Laid (now s) at × Route (at .nodes) (now route) stops ⌝ }
+    ensures { λ r. ⌜ Filled 64 (startAt (dayOf (now (s .entry))) (take stops (now (route .entry)))) 0 stops r ⌝ }
+{
+    let mut e = [0usize; 64];
+    let z = route[0];
+    let mut t = earliest(s, at, z);
+    e[0] = t;
+    let mut i = 0;
+    while i + 1 < stops {
+        let p = route[i];
+        i += 1;
+        let x = route[i];
+        t = arrive(s, at, t, p, x);
+        e[i] = t;
+    }
+    e
+}
 
 // The last start at a stop: its own last moment, or what the last start at the next stop, `gap` seconds on, leaves of it.
 fn before(moment: i64, next: i64, gap: usize) -> i64
@@ -20,4 +72,41 @@ pub fn in_time(t: usize, last: i64) -> bool
     ensures { λ r. ⌜ r ≡ leZ (pos t) last ⌝ }
 {
     t as i64 <= last
+}
+
+// L: the last start at each stop.
+pub fn lasts(s: &[u8], at: Layout, route: &[usize; 64], stops: usize) -> [i64; 64]
+    requires { ⌜ Laid (now s) at × Route (at .nodes) (now route) stops ⌝ }
+    ensures { λ r. ⌜ Filled 64 (lastAt (dayOf (now (s .entry))) (take stops (now (route .entry)))) (pos 0) stops r ⌝ }
+{
+    let mut l = [0i64; 64];
+    let mut i = stops - 1;
+    let z = route[i];
+    let mut t = last_moment(s, at, z);
+    l[i] = t;
+    while 0 < i {
+        let k = route[i];
+        i -= 1;
+        let p = route[i];
+        let gap = service(s, at, p) + seconds(s, at, p, k);
+        t = before(last_moment(s, at, p), t, gap);
+        l[i] = t;
+    }
+    l
+}
+
+// The metres of the route.
+pub fn length(s: &[u8], at: Layout, route: &[usize; 64], stops: usize) -> usize
+    requires { ⌜ Laid (now s) at × Route (at .nodes) (now route) stops ⌝ }
+    ensures { λ r. ⌜ (r ≡ driven (dayOf (now (s .entry))) (take stops (now (route .entry)))) × (r < 1099511627776) ⌝ }
+{
+    let mut total = 0;
+    let mut i = 0;
+    while i + 1 < stops {
+        let p = route[i];
+        i += 1;
+        let k = route[i];
+        total += metres(s, at, p, k);
+    }
+    total
 }

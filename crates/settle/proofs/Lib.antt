@@ -1,3 +1,4 @@
 pub mod Legs
 pub mod Rounds
-pub mod Settling
+pub mod Struck
+pub mod Facts

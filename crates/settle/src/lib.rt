@@ -1,1 +1,10 @@
-// Settling and the verdict.
+// Settling and the verdict: which places stay, a round of settling, settling, who is owed, whether a state is alive.
+pub mod places;
+pub mod round;
+pub mod settling;
+
+// What one van can carry, and how far it may drive.
+pub struct Van {
+    pub capacity: usize,
+    pub limit: usize,
+}

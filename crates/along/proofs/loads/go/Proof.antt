@@ -3,52 +3,37 @@ use Rattle.along.specs.Spots.{till}
 use borrow.Author.Needs.{needs}
 use Rattle.along.proofs.loads.go.Statement.{statement}
 use Rattle.along.proofs.loads.go.Tie as tie
-use Rattle.along.proofs.loads.go.Reads as reads
-use Rattle.along.proofs.loads.go.Lts as lts
-use Rattle.along.proofs.loads.until.Reads as until-reads
-use Rattle.along.proofs.spots.spot.Reads as spot-reads
 
--- src/loads.rt:35:22
 enum-known-job : tie.Need-enum-known-job
 enum-known-job c = search needs
 
--- src/loads.rt:35:47
 spot-requires : tie.Need-spot-requires
 spot-requires c κs = search needs
 
--- src/loads.rt:35:41
 until-requires : tie.Need-until-requires
 until-requires c κs = search needs
 
--- src/loads.rt:36:45
 enum-told : tie.Need-enum-told
 enum-told c = search needs
 
--- src/loads.rt:36:45
 sub-result : tie.Need-sub-result
 sub-result c = search needs
 
--- src/loads.rt:37:34
 enum-known-job-2 : tie.Need-enum-known-job-2
 enum-known-job-2 c = search needs
 
--- src/loads.rt:37:57
 spot-requires-2 : tie.Need-spot-requires-2
 spot-requires-2 c κs = search needs
 
--- src/loads.rt:37:51
 until-requires-2 : tie.Need-until-requires-2
 until-requires-2 c κs = search needs
 
--- src/loads.rt:30:1
 returns : tie.Need-returns
 returns c = rw (c .before .before .before .job .given .1) (c .until .ensures ∙ ap till (c .before .spot .ensures))
 
--- src/loads.rt:30:1
 returns-2 : tie.Need-returns-2
 returns-2 c = rw (c .enum-told .given .1)
 
--- src/loads.rt:30:1
 returns-3 : tie.Need-returns-3
 returns-3 c = rw (c .before .before .before .job2 .given .1) (c .until2 .ensures ∙ ap till (c .before .spot2 .ensures))
 

@@ -3,22 +3,16 @@ use native.Mathlib.Omega.{arith}
 use Rattle.along.specs.Spots.{spot-in, spot-past}
 use Rattle.along.proofs.spots.spot.Statement.{statement}
 use Rattle.along.proofs.spots.spot.Tie as tie
-use Rattle.along.proofs.spots.spot.Reads as reads
-use Rattle.along.proofs.spots.spot.Lts as lts
 
--- src/spots.rt:27:17
 mul-result : tie.Need-mul-result
 mul-result c = search needs
 
--- src/spots.rt:27:17
 element-copy-out-result : tie.Need-element-copy-out-result
 element-copy-out-result c = search needs
 
--- src/spots.rt:23:1
 returns : tie.Need-returns
 returns c = let a = c .before .before .args in spot-in (a .at .now) (a .x) (omega arith)
 
--- src/spots.rt:23:1
 returns-2 : tie.Need-returns-2
 returns-2 c = let a = c .before .args in spot-past (a .at .now) (a .x) (c .before .pre) (c .if1 .left)
 

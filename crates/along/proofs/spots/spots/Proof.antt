@@ -4,8 +4,6 @@ use native.Mathlib.Omega.{arith}
 use Rattle.along.specs.Spots.{Spots, spots-none, spots-more}
 use Rattle.along.proofs.spots.spots.Statement.{statement}
 use Rattle.along.proofs.spots.spots.Tie as tie
-use Rattle.along.proofs.spots.spots.Reads as reads
-use Rattle.along.proofs.spots.spots.Lts as lts
 
 abbrev Inv-loop : tie.InvT-loop
 Inv-loop route stops at₀ i₀ at i = (i ≤ stops) × Spots route i at
@@ -13,39 +11,30 @@ Inv-loop route stops at₀ i₀ at i = (i ≤ stops) × Spots route i at
 abbrev μ-loop : tie.MeasureT-loop
 μ-loop route stops at₀ i₀ at i = stops - i
 
--- src/spots.rt:14:5
 loop-holds : tie.Need-loop-holds Inv-loop μ-loop
 loop-holds c = (omega arith, spots-none _)
 
--- src/spots.rt:15:17
 mul-x : tie.Need-mul-x Inv-loop μ-loop
 mul-x c = omega arith
 
--- src/spots.rt:15:17
 element-copy-out-x : tie.Need-element-copy-out-x Inv-loop μ-loop
 element-copy-out-x c = omega arith
 
--- src/spots.rt:16:9
 mul-at : tie.Need-mul-at Inv-loop μ-loop
 mul-at c = omega (arith, c .before .before .before .pre .2 (c .before .before .loop .i) (omega arith))
 
--- src/spots.rt:16:9
 array-write-at : tie.Need-array-write-at Inv-loop μ-loop
 array-write-at c = omega (arith, c .before .before .before .pre .2 (c .before .before .loop .i) (omega arith), c .before .before .loop .inv .1 .long)
 
--- src/spots.rt:17:9
 add-i : tie.Need-add-i Inv-loop μ-loop
 add-i c = omega arith
 
--- src/spots.rt:14:5
 loop-less : tie.Need-loop-less Inv-loop μ-loop
 loop-less c = omega arith
 
--- src/spots.rt:14:5
 loop-again : tie.Need-loop-again Inv-loop μ-loop
 loop-again c = (omega arith, spots-more (c .before .before .before .pre .2 (c .before .before .loop .i) (omega arith)) (c .before .before .loop .inv .1))
 
--- src/spots.rt:8:1
 returns : tie.Need-returns Inv-loop μ-loop
 returns c = let v = c .before .loop .inv in let e : c .before .loop .i ≡ c .before .before .args .stops = omega arith in rw e at (v .1)
 

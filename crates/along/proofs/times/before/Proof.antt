@@ -8,22 +8,16 @@ use Rattle.along.proofs.Signed.{mag-sub, back, ahead}
 use borrow.Author.Needs.{needs}
 use Rattle.along.proofs.times.before.Statement.{statement}
 use Rattle.along.proofs.times.before.Tie as tie
-use Rattle.along.proofs.times.before.Reads as reads
-use Rattle.along.proofs.times.before.Lts as lts
 
--- src/times.rt:13:23
 cast-rest : tie.Need-cast-rest
 cast-rest c = search needs
 
--- src/times.rt:13:16
 sub-rest : tie.Need-sub-rest
 sub-rest c = rw (back (c .args .next) (omega arith), ahead (c .args .gap) (omega arith)) (record { sfits = omega (arith, mag-sub (c .args .next) (c .args .gap)) })
 
--- src/times.rt:9:1
 returns : tie.Need-returns
 returns c = let a = c .before .args in let e = back (a .next -ℤ pos (a .gap)) (omega (arith, mag-sub (a .next) (a .gap))) in let f : leZ (a .moment) (a .next -ℤ pos (a .gap)) ≡ true = rw (toZ-ofZ (c .before .fits .moment), e) at (rw (back (a .next) (omega arith), ahead (a .gap) (omega arith)) at (c .if1 .taken)) in rw f (toZ-ofZ (c .before .fits .moment))
 
--- src/times.rt:9:1
 returns-2 : tie.Need-returns-2
 returns-2 c = let a = c .before .args in let e = back (a .next -ℤ pos (a .gap)) (omega (arith, mag-sub (a .next) (a .gap))) in let f : leZ (a .moment) (a .next -ℤ pos (a .gap)) ≡ false = rw (toZ-ofZ (c .before .fits .moment), e) at (rw (back (a .next) (omega arith), ahead (a .gap) (omega arith)) at (c .if1 .left)) in rw (f, back (a .next) (omega arith), ahead (a .gap) (omega arith)) e
 

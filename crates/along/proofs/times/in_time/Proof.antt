@@ -4,14 +4,10 @@ use Rattle.along.proofs.Signed.{ahead}
 use borrow.Author.Needs.{needs}
 use Rattle.along.proofs.times.in_time.Statement.{statement}
 use Rattle.along.proofs.times.in_time.Tie as tie
-use Rattle.along.proofs.times.in_time.Reads as reads
-use Rattle.along.proofs.times.in_time.Lts as lts
 
--- src/times.rt:22:5
 cast-result : tie.Need-cast-result
 cast-result c = search needs
 
--- src/times.rt:18:1
 returns : tie.Need-returns
 returns c = rw (toZ-ofZ (c .fits .last), ahead (c .args .t) (omega arith))
 

@@ -5,10 +5,6 @@ use native.Mathlib.Omega.{arith}
 use Rattle.along.specs.Walks.{Kept, kept-none, kept-up, upFlag, ridesUp, up-first, up-next}
 use Rattle.along.proofs.walks.forward.Statement.{statement}
 use Rattle.along.proofs.walks.forward.Tie as tie
-use Rattle.along.proofs.walks.forward.Reads as reads
-use Rattle.along.proofs.walks.forward.Lts as lts
-use Rattle.along.proofs.walks.strike.Reads as strike-reads
-use Rattle.bits.proofs.has.Reads as has-reads
 
 abbrev Inv-loop : tie.InvT-loop
 Inv-loop word route h legs ride w₀ ok₀ i₀ w ok i = (i ≤ legs) × (ok ≡ upFlag route h ride i) × Kept route 0 i (ridesUp route h ride) word w
@@ -16,51 +12,39 @@ Inv-loop word route h legs ride w₀ ok₀ i₀ w ok i = (i ≤ legs) × (ok ≡
 abbrev μ-loop : tie.MeasureT-loop
 μ-loop word route h legs ride w₀ ok₀ i₀ w ok i = legs - i
 
--- src/walks.rt:32:5
 loop-holds : tie.Need-loop-holds Inv-loop μ-loop
 loop-holds c = (omega arith, up-first _ _ _, kept-none _ _ _ _ _ (omega arith))
 
--- src/walks.rt:33:17
 mul-p : tie.Need-mul-p Inv-loop μ-loop
 mul-p c = search needs
 
--- src/walks.rt:33:17
 element-copy-out-p : tie.Need-element-copy-out-p Inv-loop μ-loop
 element-copy-out-p c = search needs
 
--- src/walks.rt:34:17
 mul-v : tie.Need-mul-v Inv-loop μ-loop
 mul-v c = search needs
 
--- src/walks.rt:34:17
 element-copy-out-v : tie.Need-element-copy-out-v Inv-loop μ-loop
 element-copy-out-v c = search needs
 
--- src/walks.rt:35:41
 has-requires : tie.Need-has-requires Inv-loop μ-loop
 has-requires c κs = search needs
 
--- src/walks.rt:36:15
 add-ok : tie.Need-add-ok Inv-loop μ-loop
 add-ok c = omega (arith, c .before .before .before .before .before .before .before .pre .loads (c .before .before .before .before .before .before .loop .i) (omega arith))
 
--- src/walks.rt:37:9
 strike-requires : tie.Need-strike-requires Inv-loop μ-loop
 strike-requires c κs = search needs
 
--- src/walks.rt:38:9
 add-i : tie.Need-add-i Inv-loop μ-loop
 add-i c = search needs
 
--- src/walks.rt:32:5
 loop-less : tie.Need-loop-less Inv-loop μ-loop
 loop-less c = search needs
 
--- src/walks.rt:32:5
 loop-again : tie.Need-loop-again Inv-loop μ-loop
 loop-again c = let v = c .before .before .before .before .before .before .before .before .loop .inv in let a = c .before .before .before .before .before .before .before .before .before .args in let e = up-next (a .route .now) (a .h .now) (a .ride) (c .before .before .before .before .before .before .before .before .loop .i) (c .before .before .before .has .ensures) (v .1) in (omega arith, e, kept-up (omega arith) e (c .strike .ensures) (v .2))
 
--- src/walks.rt:25:1
 returns : tie.Need-returns Inv-loop μ-loop
 returns c = let v = c .before .loop .inv in let e : c .before .loop .i ≡ c .before .before .args .legs = omega arith in rw e at (v .2)
 

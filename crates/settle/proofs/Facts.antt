@@ -1,0 +1,123 @@
+-- What a caller that is ready gives the functions inside.
+use mathlib.Core.Path.{_≡_, refl, sym, ap, _∙_, subst}
+use Prim.Native.Nat.{ℕ, zero, suc, _+_, _-_, _*_, _<_, _≤_}
+use mathlib.Core.Bool.{Bool, true, false, not, _&&_}
+use mathlib.Core.List.{List, [], _∷_}
+use native.Mathlib.Omega.{arith}
+use lib.Dec.{T, T-not}
+use lib.IntN.{ℤ}
+use lib.ListN.{getD, take, length, length-take}
+use lib.Seq.{getD-take}
+use Rattle.laws.specs.Logic.{decided, true→T}
+use Rattle.laws.specs.Lists.{In, mem}
+use Rattle.bits.specs.Places.{has}
+use Rattle.bits.specs.Members.{has-none}
+use Rattle.rules.specs.Day.{Day, Van}
+use Rattle.rules.specs.Plan.{Plan, Places}
+use Rattle.rules.specs.Rounds.{Distinct}
+use Rattle.rules.specs.Settle.{round}
+use Rattle.rules.specs.Asked.{Formed}
+use Rattle.rules.proofs.AlongLaws.{leg-index, mem-at}
+use Rattle.rules.proofs.Left.{_⊆_, round-less}
+use Rattle.rules.proofs.Fixpoint.{Seen, inner-low}
+use Rattle.sheet.specs.Section.{mOf}
+use Rattle.sheet.specs.declared.Layout.{Layout}
+use Rattle.day.specs.Jobs.{jobIn}
+use Rattle.day.specs.Tell.{dayOf}
+use Rattle.along.specs.Route.{Route, node-at, low, job-low}
+use Rattle.along.specs.Times.{start-low, length-low}
+use Rattle.along.specs.Spots.{node-low}
+use Rattle.along.specs.Loads.{load-at-low}
+use Rattle.along.specs.Walks.{Legs}
+use Rattle.settle.specs.Sets.{placesOf, setsOf, planFrom, Small, word-ext, length-sets, places-sets}
+use Rattle.settle.specs.Round.{Timed}
+use Rattle.settle.specs.Ready.{Ready, Read, nodes-are, nodes-most}
+
+some-stops : (k : ℕ) (tail : List ℕ) → T (mem k tail) → 1 ≤ length tail
+some-stops k [] t = absurd t
+some-stops k (x ∷ tail) t = omega arith
+
+module _ {s : List ℕ} {at : Layout} {l : List ℕ} {n : ℕ} {ws : List ℕ} {marks : ℕ} (r : Ready s at l n ws marks) where
+  abbrev m : List ℕ
+  m = take n l
+
+  size : length m ≡ n
+  size = let a = r .long in let b = r .most in simp length-take (omega arith)
+
+  pub two-stops : 2 ≤ n
+  two-stops = omega (arith, size, ap length (r .form .starts), some-stops (dayOf s .n - 1) (r .form .tail) (r .form .ends))
+
+  pub few-nodes : dayOf s .n ≤ 64
+  few-nodes = r .laid .fine .n-high
+
+  pub some-nodes : 2 ≤ dayOf s .n
+  some-nodes = r .laid .fine .n-low
+
+  pub route-of : Route (at .nodes) l n
+  route-of = record { long = r .long; some = two-stops; most = r .most; nodes = rw (nodes-are (r .laid)) (r .form .nodes) }
+
+  pub places-seen : Seen (dayOf s) m (placesOf ws)
+  places-seen x p t =
+      let a = leg-index p m (r .form .leg x p t) in
+      (r .form .inside x p t, subst (λ (q : ℕ). T (mem q m)) (a .2) (mem-at m (a .0) (omega (arith, a .1))))
+
+  pub places-small : Small (placesOf ws)
+  places-small x p t =
+      let a = leg-index p m (r .form .leg x p t) in
+      (omega (arith, inner-low (dayOf s) (r .form .inside x p t) .1, few-nodes), omega (arith, a .2, node-low (r .form .nodes) (a .0) (omega (arith, a .1)), few-nodes))
+
+  -- no word past the nodes
+  pub past-nodes : (y : ℕ) → at .nodes ≤ y → getD ws y 0 ≡ 0
+  past-nodes y h = word-ext (getD ws y 0) 0 (λ p. decided (has (getD ws y 0) p)
+      (λ t. absurd (omega (arith, inner-low (dayOf s) (r .form .inside y p (true→T _ t)) .1, nodes-are (r .laid)))) (λ t. t ∙ sym (has-none p)))
+
+  module _ {e : List ℕ} {z : List ℤ} {h : List ℕ} {total : ℕ} (read : Read (dayOf s) l n e z h total) where
+    pub timed : (limit : ℕ) → limit < 1099511627776 → Timed (at .nodes) l e z (n - 1) total limit
+    timed limit b = record {
+      few = omega (arith, two-stops, r .most);
+      nodes = λ i k. node-at route-of i (omega (arith, two-stops));
+      route = r .long;
+      starts = read .starts .long;
+      lasts = read .lasts .long;
+      times = λ i k. omega (arith, read .starts .at i (omega arith), start-low (dayOf s) (low s) m i (omega (arith, r .most)));
+      whole = omega (arith, read .metres, length-low (dayOf s) (low s) l n (r .most));
+      bound = b;
+    }
+
+    pub legs : Legs l h (n - 1) 0
+    legs = record {
+      long = r .long;
+      wide = read .loads .long;
+      few = omega (arith, two-stops, r .most);
+      low = omega arith;
+      loads = λ i k. omega (arith, read .loads .at i k, load-at-low (jobIn s) m (mOf s) i (job-low s) (r .laid .fine .m-high));
+    }
+
+-- a part of the places, in form
+pub formed-less : (d : Day) (a : Plan) (o : Places) → o ⊆ a .places → Formed d a → Formed d (record { route = a .route; places = o; marks = a .marks })
+formed-less d a o h f = record {
+  tail = f .tail;
+  starts = f .starts;
+  ends = f .ends;
+  nodes = f .nodes;
+  inside = λ y q t. f .inside y q (h y q t);
+  off = λ y q t. f .off y q (h y q t);
+  leg = λ y q t. f .leg y q (h y q t);
+  marked = f .marked;
+}
+
+-- the words after a round are as ready as those before
+pub ready-round : {s : List ℕ} {at : Layout} {l : List ℕ} {n : ℕ} {ws : List ℕ} {marks : ℕ} (v : Van) → Ready s at l n ws marks → {vs : List ℕ} → vs ≡ setsOf (round v (dayOf s) (take n l) (placesOf ws)) → Ready s at l n vs marks
+ready-round {s} {at} {l} {n} {ws} {marks} v r {vs} e = record {
+  laid = r .laid;
+  one = r .one;
+  proper = r .proper;
+  long = r .long;
+  sized = ap length e ∙ length-sets (round v (dayOf s) (take n l) (placesOf ws));
+  most = r .most;
+  form = formed-less (dayOf s) (planFrom l n ws marks) (placesOf vs) less (r .form);
+}
+  where
+    less : placesOf vs ⊆ placesOf ws
+    less x p t = round-less v (dayOf s) (take n l) (placesOf ws) x p
+        (subst (λ (b : Bool). T b) (ap (λ (k : List ℕ). placesOf k x p) e ∙ places-sets (round v (dayOf s) (take n l) (placesOf ws)) (λ y q u. places-small r y q (round-less v (dayOf s) (take n l) (placesOf ws) y q u)) x p) t)
