@@ -3,12 +3,12 @@ use mathlib.Core.Path.{_≡_, refl, ap, sym, _∙_}
 use mathlib.Core.Bool.{Bool, true, false, not, _||_}
 use Prim.Native.Nat.{ℕ, zero, suc, _+_, _-_, _^_, _≤_, _<_}
 use native.Mathlib.Omega.{arith}
-use lib.Dec.{T, eqb, ltb}
+use lib.Dec.{T, eqb, ltb, eqb·suc-zero}
 use borrow.Author.Tests.{eqb-true, eqb-false, eq-eqb, ne-eqb, ltb-true, ltb-false, lt-ltb, le-ltb}
 use Rattle.laws.specs.Logic.{decided, true→T, T→true, imp-i, imp-e}
 use Rattle.laws.specs.Below.{allBelow, below-at, below-make}
 use Rattle.bits.specs.Places.{digit, has, with, without, within}
-use Rattle.bits.specs.Digits.{digit-lt, digit-high, digit-none, digits-ext, add-same, add-other, sub-same, sub-other, add-fits}
+use Rattle.bits.specs.Digits.{digit-zero, digit-suc, digit-lt, digit-high, digit-none, digits-ext, add-same, add-other, sub-same, sub-other, add-fits}
 
 -- ---- a member by its digit
 
@@ -41,6 +41,11 @@ same-has w v p q e =
 
 pub has-none : (p : ℕ) → has 0 p ≡ false
 has-none p = not-digit 0 p (digit-none p)
+
+-- the word 1 is the set of place 0
+pub has-first : (p : ℕ) → has 1 p ≡ eqb p 0
+has-first zero = has-digit 1 0 (digit-zero 1)
+has-first (suc p) = not-digit 1 (suc p) (digit-suc 1 p ∙ digit-none p) ∙ sym (eqb·suc-zero p)
 
 pub false-true : false ≡ true → ⊥
 false-true e = true→T false e

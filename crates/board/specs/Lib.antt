@@ -1,6 +1,6 @@
--- What a reader must believe: Route, Board, Fresh, Form, Change. Their laws: RouteLaws, Shift (the loops that move a route's entries),
--- Tests (the form's tests by words), FormLaws (what a state in form knows), Change·Laws by name: Keep (each change keeps the form),
--- Places (what each change opens and closes). Examples: small cases, computed.
+-- What a reader must believe: Route, Board, Fresh, Form, Change.
+-- Their laws: RouteLaws and Shift (nodes put in and taken out), Tests (the form's tests on words), FormLaws (what a state in form knows),
+-- Keep (each change keeps the form), Inverse (undoing inverts each), FreshForm (fresh is in form), Places (what each change opens and closes).
 pub mod Route
 pub mod Board
 pub mod Fresh
@@ -10,3 +10,8 @@ pub mod RouteLaws
 pub mod Shift
 pub mod Tests
 pub mod FormLaws
+pub mod Held
+pub mod Keep
+pub mod Inverse
+pub mod FreshForm
+pub mod Places

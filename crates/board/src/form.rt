@@ -8,7 +8,7 @@ ghost use lib.ListN.{length, getD};
 ghost use Rattle.laws.specs.Below.{allBelow};
 ghost use Rattle.bits.specs.Places.{has};
 ghost use Rattle.board.specs.Route.{wordOf};
-ghost use Rattle.board.specs.Board.{inner, board, stateOf};
+ghost use Rattle.board.specs.Board.{inner, legNode, board, stateOf};
 ghost use Rattle.board.specs.Form.{stopOk, nodeOk, levelOk, boardOk, levelsOk, inForm};
 ghost use Rattle.board.specs.Tests.{stopTest, nodeTest, levelTest};
 
@@ -23,6 +23,16 @@ pub fn inner(n: usize, x: usize) -> bool
         return false;
     }
     x + 1 < n
+}
+
+// Whether p is between 0 and n - 2.
+pub fn leg_node(n: usize, p: usize) -> bool
+    ensures { λ r. ⌜ r ≡ legNode n p ⌝ }
+{
+    if n <= p {
+        return false;
+    }
+    p + 1 < n
 }
 
 // Entry i of the route is e, and the entries before it are the set `seen`.

@@ -17,9 +17,9 @@ kindOf (Transfer a b w) = 3
 
 -- a job as the sheet writes it: "kind, a, b, load"; "For kinds 1 and 2, b is 0"
 abbrev pub wordsOf : Job → List ℕ
-wordsOf (Clean a w) = 1 ∷ a ∷ 0 ∷ w ∷ []
-wordsOf (Soiled a w) = 2 ∷ a ∷ 0 ∷ w ∷ []
-wordsOf (Transfer a b w) = 3 ∷ a ∷ b ∷ w ∷ []
+wordsOf (Clean a w) = kindOf (Clean a w) ∷ a ∷ 0 ∷ w ∷ []
+wordsOf (Soiled a w) = kindOf (Soiled a w) ∷ a ∷ 0 ∷ w ∷ []
+wordsOf (Transfer a b w) = kindOf (Transfer a b w) ∷ a ∷ b ∷ w ∷ []
 
 -- the job that four words say
 abbrev pub jobOf : ℕ → ℕ → ℕ → ℕ → Job

@@ -11,3 +11,6 @@ pub mod Refuse
 pub mod Tell
 pub mod Range
 pub mod Section
+pub mod Asked
+pub mod Example
+pub mod Computed

@@ -1,24 +1,23 @@
 -- Every number of an accepted sheet is in its range.
 use Prim.Native.Nat.{ℕ, _+_, _*_, _≤_, _<_}
-use mathlib.Core.Path.{_≡_, refl, sym, ap, _∙_}
+use mathlib.Core.Path.{_≡_}
 use mathlib.Core.Bool.{true, _&&_}
-use mathlib.Core.List.{List, [], _∷_}
+use mathlib.Core.List.{List}
 use native.Mathlib.Omega.{arith}
 use lib.ListN.{length}
 use lib.Dec.{leb}
 use borrow.Author.Tests.{leb-true}
 use Rattle.laws.specs.Logic.{and-true}
 use Rattle.laws.specs.Below.{allBelow, below-at}
-use Rattle.laws.specs.Table.{tab, length-tab}
-use Rattle.sheet.specs.Word.{words, wordAt}
+use Rattle.laws.specs.Table.{length-tab}
+use Rattle.sheet.specs.Word.{wordAt}
 use Rattle.sheet.specs.Rule.{nodeAtOk, entryOk}
-use Rattle.sheet.specs.Section.{nOf, mOf, secondsAt, metresAt}
+use Rattle.sheet.specs.Section.{nOf, mOf}
 use Rattle.sheet.specs.Place.{Fine, Laid}
 use Rattle.sheet.specs.declared.Layout.{Layout}
 use Rattle.rules.specs.Day.{Day, Van}
 use Rattle.day.specs.Tables.{cell}
 use Rattle.day.specs.Row.{Table, row-low, entry-low}
-use Rattle.day.specs.Refuse.{secondsOf, metresOf}
 use Rattle.day.specs.Jobs.{jobIn}
 use Rattle.day.specs.Tell.{vanOf, dayOf, Told}
 

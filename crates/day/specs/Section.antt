@@ -1,12 +1,11 @@
 -- "Reading a section hands back that stretch of the sheet itself", "the entries, without their count".
 use Prim.Native.Nat.{ℕ, _+_, _*_, _≤_}
-use mathlib.Core.Path.{_≡_, refl, sym, _∙_}
+use mathlib.Core.Path.{_≡_}
 use mathlib.Core.Bool.{Bool, true, false, cond}
 use mathlib.Core.List.{List, []}
 use native.Mathlib.Omega.{arith}
 use lib.ListN.{length, take, drop}
 use lib.Dec.{eqb}
-use Rattle.sheet.specs.Word.{words}
 use Rattle.sheet.specs.Place.{layoutOf, Laid}
 use Rattle.sheet.specs.declared.Layout.{Layout}
 use Rattle.day.specs.Refuse.{refusal14}

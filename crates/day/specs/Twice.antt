@@ -1,6 +1,6 @@
 -- Refusal 4: "A node has at most one clean job, one soiled job and one transfer end."
 use Prim.Native.Nat.{ℕ}
-use mathlib.Core.Bool.{Bool, true, false, not, _||_}
+use mathlib.Core.Bool.{Bool, false, not, _||_}
 use lib.Dec.{eqb}
 use Rattle.laws.specs.Below.{allBelow}
 use Rattle.rules.specs.declared.Job.{Job}

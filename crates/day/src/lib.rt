@@ -5,7 +5,6 @@ pub mod tables;
 
 ghost use mathlib.Core.Path.{_≡_};
 ghost use Prim.Native.Nat.{_+_, _*_, _≤_};
-ghost use lib.ListN.{length};
 ghost use Rattle.laws.specs.Choice.{unless};
 ghost use Rattle.day.specs.Refuse.{refusal14, refusal15};
 ghost use Rattle.day.specs.Section.{spanOf, sectionOf};

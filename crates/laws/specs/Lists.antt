@@ -1,11 +1,11 @@
 -- Lists: membership as a test and as a derivation, a test of all or any of the entries, subsequences.
-use mathlib.Core.Path.{subst}
+use mathlib.Core.Path.{subst, sym}
 use Prim.Native.Nat.{ℕ}
-use mathlib.Core.Bool.{Bool, true, false, _&&_, _||_}
+use mathlib.Core.Bool.{Bool, true, false, not, _&&_, _||_}
 use mathlib.Core.List.{List, [], _∷_}
 use mathlib.Core.Logic.{⊎-elim}
-use lib.Dec.{T, eqb, eqb→eq, eqb-refl}
-use Rattle.laws.specs.Logic.{and-i, and-l, and-r, and-mono, or-l, or-r, or-e, or-mono}
+use lib.Dec.{T, T-not, eqb, eqb→eq, eqb-refl}
+use Rattle.laws.specs.Logic.{and-i, and-l, and-r, and-mono, or-l, or-r, or-e, or-mono, contra}
 
 -- whether x is in the list
 abbrev pub mem : ℕ → List ℕ → Bool
@@ -53,6 +53,20 @@ pub in-mem : {x : ℕ} {l : List ℕ} → In x l → T (mem x l)
 in-mem {x} (here {l = l}) = or-l (eqb x x) (mem x l) (eqb-refl x)
 in-mem {x} (there {b = b} {l = l} i) = or-r (eqb b x) (mem x l) (in-mem i)
 
+pub mem-hd : (x : ℕ) (l : List ℕ) → T (mem x (x ∷ l))
+mem-hd x l = or-l (eqb x x) (mem x l) (eqb-refl x)
+
+pub mem-tl : (x y : ℕ) (l : List ℕ) → T (mem x l) → T (mem x (y ∷ l))
+mem-tl x y l = or-r (eqb y x) (mem x l)
+
+-- one node in the list and one off it are two
+pub mem-ne : (y x : ℕ) (l : List ℕ) → T (not (mem y l)) → T (mem x l) → T (not (eqb y x))
+mem-ne y x l h m = contra (eqb y x) (mem y l) (λ e. subst (λ (v : ℕ). T (mem v l)) (sym (eqb→eq y x e)) m) h
+
+-- in a list, and not its first entry
+pub mem-rest : (x y : ℕ) (l : List ℕ) → T (not (eqb y x)) → T (mem x (y ∷ l)) → T (mem x l)
+mem-rest x y l n m = ⊎-elim (λ e. absurd (T-not (eqb y x) n e)) (λ h. h) (or-e (eqb y x) (mem x l) m)
+
 pub each-in : {A : Type 0} {P : A → Type 0} {a : A} {l : List A} → In a l → Each P l → P a
 each-in here (also p e) = p
 each-in (there i) (also p e) = each-in i e
@@ -98,3 +112,9 @@ pub mem-sub : (x : ℕ) {l m : List ℕ} → Sub l m → T (mem x l) → T (mem 
 mem-sub x nil h = h
 mem-sub x (keep {x = y} {l = l} {m = m} s) h = or-mono (eqb y x) (mem x l) (eqb y x) (mem x m) (λ t. t) (mem-sub x s) h
 mem-sub x (skip {x = y} {m = m} s) h = or-r (eqb y x) (mem x m) (mem-sub x s h)
+
+pub sub-trans : {l m n : List ℕ} → Sub l m → Sub m n → Sub l n
+sub-trans u nil = u
+sub-trans (keep u) (keep v) = keep (sub-trans u v)
+sub-trans (skip u) (keep v) = skip (sub-trans u v)
+sub-trans u (skip v) = skip (sub-trans u v)

@@ -1,10 +1,10 @@
 -- Tests put together and taken apart. A test is a Bool; `T b` says that it passed, as `b ≡ true` does.
-use mathlib.Core.Path.{_≡_, refl, subst}
+use mathlib.Core.Path.{_≡_, refl, sym, subst}
 use Prim.Native.Nat.{ℕ, _+_, _≤_}
 use native.Mathlib.Omega.{arith}
 use mathlib.Core.Bool.{Bool, true, false, cond, not, _&&_, _||_}
 use mathlib.Core.Logic.{_⊎_, inl, inr, _≢_}
-use lib.Dec.{T, T-not, eqb, eqb-refl}
+use lib.Dec.{T, T-not, eqb, eqb→eq, eqb-refl}
 
 -- ---- from one form to the other, and both cases of a test
 
@@ -128,6 +128,9 @@ imp-imp-e false b c h t n = absurd t
 pub neqb : (m n : ℕ) → T (not (eqb m n)) → m ≢ n
 neqb m n h e = absurd (subst (λ (k : ℕ). T (not (eqb m k)) → ⊥) e (λ t. T-not (eqb m m) t (eqb-refl m)) h)
 
+pub ne-sym : (m n : ℕ) → T (not (eqb m n)) → T (not (eqb n m))
+ne-sym m n = contra (eqb n m) (eqb m n) (λ e. rw (eqb→eq n m e) (eqb-refl m))
+
 -- ---- a choice by a test
 
 pub cond-yes : (c a b : Bool) → T c → T (cond c a b) → T a
@@ -157,3 +160,7 @@ pub cond-new : (a b : Bool) (w : ℕ) → T (not a) → T b → cond a w 0 + w �
 cond-new true b w f g = absurd f
 cond-new false true w f g = omega arith
 cond-new false false w f g = absurd g
+
+pub or-false : (a b : Bool) → a || b ≡ false → (a ≡ false) × (b ≡ false)
+or-false true b e = absurd (true→T false (sym e))
+or-false false b e = (refl, e)

@@ -1,13 +1,13 @@
 -- A round around a route, on a triangle day: what the rules say of the round they say of the route.
-use mathlib.Core.Path.{_≡_, subst, sym}
-use Prim.Native.Nat.{ℕ, _≤_}
+use mathlib.Core.Path.{subst, sym}
+use Prim.Native.Nat.{ℕ}
 use native.Mathlib.Omega.{arith}
-use mathlib.Core.Bool.{Bool, true, false, cond, not, _&&_, _||_}
+use mathlib.Core.Bool.{not, _&&_}
 use mathlib.Core.List.{List, [], _∷_}
 use mathlib.Core.Logic.{_⊎_, inl, inr}
-use lib.Dec.{T, T-not, leb, eqb, eqb→eq, leb→le, le→leb}
+use lib.Dec.{T, T-not, eqb, eqb→eq, leb→le, le→leb}
 use Rattle.laws.specs.Logic.{and-l, and-r, and-mono, or-l, or-r, tf, not-or-l, not-or-r, cond-yes, cond-no}
-use Rattle.laws.specs.Lists.{mem, any, Sub, nil, keep, skip, mem-sub}
+use Rattle.laws.specs.Lists.{mem, any, Sub, nil, keep, skip, mem-sub, mem-tl, mem-rest}
 use Rattle.rules.specs.Day.{Day, Van}
 use Rattle.rules.specs.Leg.{legsAhead}
 use Rattle.rules.specs.Time.{start, inTime, onTime}
@@ -16,9 +16,10 @@ use Rattle.rules.specs.Plan.{Places}
 use Rattle.rules.specs.Rounds.{Distinct, Within, done, stop, extra, ordered}
 use Rattle.rules.specs.Verdict.{wrong}
 use Rattle.rules.specs.Asked.{Triangle}
-use Rattle.rules.proofs.Cuts.{Cut, cut-next, mem-tl, mem-rest}
-use Rattle.rules.proofs.Grows.{distinct-off, distinct-tail, in-time-sooner, start-grows, load-grows}
-use Rattle.rules.proofs.Keeps.{distinct-behind}
+use Rattle.rules.proofs.Cuts.{Cut, cut-next}
+use Rattle.rules.proofs.Grows.{start-grows, load-grows}
+use Rattle.rules.proofs.Nodes.{distinct-off, distinct-tail, distinct-behind}
+use Rattle.rules.proofs.Windows.{in-time-sooner}
 
 module _ (d : Day) (tri : Triangle d) {z : ℕ} {R : List ℕ} (nodes : Distinct (d .n) (z ∷ R)) where
   pub time-grows : {A A′ B B′ : List ℕ} → Cut (z ∷ []) R A′ B′ → Sub A A′ → Sub B B′ → T (onTime d A′ B′) → T (onTime d A B)
@@ -65,7 +66,8 @@ pub ordered-both : (a b : ℕ) (R : List ℕ) → T (ordered a b R) → (T (mem 
 ordered-both a b [] h = (λ m. m, λ m. m)
 ordered-both a b (x ∷ R) h = go (tf (eqb x a)) (ordered-both a b R)
   where
-    go : T (eqb x a) ⊎ T (not (eqb x a)) → (T (ordered a b R) → (T (mem a R) → T (mem b R)) × (T (mem b R) → T (mem a R))) → (T (mem a (x ∷ R)) → T (mem b (x ∷ R))) × (T (mem b (x ∷ R)) → T (mem a (x ∷ R)))
+    go : T (eqb x a) ⊎ T (not (eqb x a)) → (T (ordered a b R) → (T (mem a R) → T (mem b R)) × (T (mem b R) → T (mem a R)))
+        → (T (mem a (x ∷ R)) → T (mem b (x ∷ R))) × (T (mem b (x ∷ R)) → T (mem a (x ∷ R)))
     go (inl e) f = (λ m. mem-tl b x R (cond-yes (eqb x a) (mem b R) (not (eqb x b) && ordered a b R) e h), λ m. or-l (eqb x a) (mem a R) e)
     go (inr n) f =
         let u = cond-no (eqb x a) (mem b R) (not (eqb x b) && ordered a b R) n h in

@@ -1,29 +1,30 @@
 -- The verdict. With no place open, an alive plan's route is a round of it that keeps the rules; and on a triangle day a dead plan has no
 -- round that keeps the rules.
 use mathlib.Core.Path.{_≡_, subst, sym, _∙_}
-use Prim.Native.Nat.{ℕ, _≤_}
+use Prim.Native.Nat.{ℕ}
 use native.Mathlib.Omega.{arith}
-use mathlib.Core.Bool.{Bool, true, false, cond, not, _&&_, _||_}
+use mathlib.Core.Bool.{Bool, not, _&&_, _||_}
 use mathlib.Core.List.{List, [], _∷_}
 use mathlib.Core.Logic.{_⊎_, inl, inr, ⊎-elim, _≢_}
-use lib.Dec.{T, T-not, not-T, leb, eqb, eqb→eq, eqb-refl, leb→le, le→leb}
-use Rattle.laws.specs.Logic.{and-i, and-l, and-r, and-mono, or-l, or-r, or-e, tf, imp-i, imp-e, not-or-l, not-or-r, contra, cond-yes, cond-no, cond-yes-i, cond-no-i}
-use Rattle.laws.specs.Lists.{mem, all, any, In, Sub, nil, keep, skip, mem-sub, all-in, all-i, any-i, any-none, any-e}
+use lib.Dec.{T, T-not, not-T, leb, eqb, eqb→eq, eqb-refl, le→leb}
+use Rattle.laws.specs.Logic.{and-i, and-l, and-r, and-mono, or-l, or-r, or-e, tf, imp-i, imp-e, not-or-l, not-or-r, contra, cond-yes-i, cond-no-i}
+use Rattle.laws.specs.Lists.{mem, all, any, In, Sub, nil, keep, mem-sub, all-in, all-i, any-i, any-none, any-e, mem-tl, mem-rest}
 use Rattle.rules.specs.Day.{Day, Van, inner}
-use Rattle.rules.specs.Leg.{legsAhead, everyLeg}
+use Rattle.rules.specs.Leg.{everyLeg}
 use Rattle.rules.specs.Time.{start, inTime, onTime}
 use Rattle.rules.specs.Metres.{driven}
-use Rattle.rules.specs.Load.{load, carries}
+use Rattle.rules.specs.Load.{carries}
 use Rattle.rules.specs.Plan.{Plan, Places}
-use Rattle.rules.specs.Rounds.{Distinct, Within, done, stop, extra, Inside, Belongs, ordered, inOrder, keeps}
+use Rattle.rules.specs.Rounds.{Distinct, Within, done, stop, Inside, Belongs, ordered, inOrder, keeps}
 use Rattle.rules.specs.Verdict.{partnered, owed, hasPlace, wrong, wrongWay, alive}
 use Rattle.rules.specs.Asked.{Triangle, Proper, Formed}
 use Rattle.rules.specs.declared.Job.{Job}
 use Rattle.rules.specs.declared.Job.the-variants.{Clean, Soiled, Transfer}
-use Rattle.rules.proofs.Cuts.{same, mem-tl, mem-rest}
-use Rattle.rules.proofs.Grows.{within-sub, driven-grows}
+use Rattle.rules.proofs.Cuts.{same}
+use Rattle.rules.proofs.Grows.{driven-grows}
 use Rattle.rules.proofs.Keeps.{keeps-time, keeps-metres, keeps-order, keeps-loads}
 use Rattle.rules.proofs.Around.{time-grows, loads-grow, not-wrong, ordered-both, within-place}
+use Rattle.rules.proofs.Nodes.{within-sub}
 
 -- ---- no place open and alive
 
@@ -32,7 +33,8 @@ ordered-i : (a b : ℕ) (R : List ℕ) → a ≢ b → (T (mem a R) → T (mem b
 ordered-i a b [] ne f g w = tt
 ordered-i a b (x ∷ R) ne f g w = go (tf (eqb x a)) (tf (eqb x b)) (ordered-i a b R ne)
   where
-    go : T (eqb x a) ⊎ T (not (eqb x a)) → T (eqb x b) ⊎ T (not (eqb x b)) → ((T (mem a R) → T (mem b R)) → (T (mem b R) → T (mem a R)) → T (not (wrong a b R)) → T (ordered a b R)) → T (ordered a b (x ∷ R))
+    go : T (eqb x a) ⊎ T (not (eqb x a)) → T (eqb x b) ⊎ T (not (eqb x b))
+        → ((T (mem a R) → T (mem b R)) → (T (mem b R) → T (mem a R)) → T (not (wrong a b R)) → T (ordered a b R)) → T (ordered a b (x ∷ R))
     go (inl e) (inl e′) k = absurd (ne (sym (eqb→eq x a e) ∙ eqb→eq x b e′))
     go (inl e) (inr n) k = cond-yes-i (eqb x a) (mem b R) (not (eqb x b) && ordered a b R) e (mem-rest b x R n (f (or-l (eqb x a) (mem a R) e)))
     go (inr n) (inl e) k = absurd (T-not (wrong a b (x ∷ R)) w (cond-yes-i (eqb x b) (mem a R) (not (eqb x a) && wrong a b R) e (mem-rest a x R n (g (or-l (eqb x b) (mem b R) e)))))
@@ -91,7 +93,8 @@ inside-self o {z} {l} rt e = subst (λ (m : List ℕ). Inside o m m) (sym e) (Ra
     self p (k ∷ l) = stop (self k l)
 
 -- with no place open, an alive plan's route is a round of it that keeps the rules
-pub no-gap-alive : (v : Van) (d : Day) (a : Plan) → Proper d → Formed d a → ((x p : ℕ) → T (not (a .places x p))) → T (alive v d a) → T (keeps v d (a .route)) × Belongs d a (a .route)
+pub no-gap-alive : (v : Van) (d : Day) (a : Plan) → Proper d → Formed d a → ((x p : ℕ) → T (not (a .places x p))) → T (alive v d a)
+    → T (keeps v d (a .route)) × Belongs d a (a .route)
 no-gap-alive v d a proper form shut h = (
   route-keeps v d a shut proper h,
   record {
@@ -159,7 +162,8 @@ module _ (v : Van) (d : Day) (o : Places) (marks : ℕ → Bool) {z : ℕ} {r R 
       (and-i owing time (all-i (λ x. not (owed d (z ∷ r) marks x) || any (o x) (z ∷ r)) (inner d) (λ x i. imp-i (owed d (z ∷ r) marks x) (any (o x) (z ∷ r)) (owed-open x))) route-time)
       route-metres) route-loads) (all-i (λ j. not (wrongWay (z ∷ r) j)) (d .jobs) right-way)
 
-inside-alive : (v : Van) (d : Day) (marks : ℕ → Bool) {o : Places} {rt R : List ℕ} → Triangle d → Distinct (d .n) R → Inside o rt R → ((x : ℕ) → T (marks x) → T (mem x R)) → T (keeps v d R)
+inside-alive : (v : Van) (d : Day) (marks : ℕ → Bool) {o : Places} {rt R : List ℕ} → Triangle d → Distinct (d .n) R → Inside o rt R
+    → ((x : ℕ) → T (marks x) → T (mem x R)) → T (keeps v d R)
     → T (alive v d (record { route = rt; places = o; marks = marks }))
 inside-alive v d marks {o} tri nodes (Rattle.rules.specs.Rounds.start w) needed h = plan-alive v d o marks tri nodes w needed h
 

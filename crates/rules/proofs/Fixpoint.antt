@@ -1,6 +1,6 @@
 -- What settling leaves: the greatest part of the open places that a round strikes nothing of. It is two rounds, whatever the fuel.
 use mathlib.Core.Path.{_≡_, subst}
-use Prim.Native.Nat.{ℕ, zero, suc, _+_, _-_, _*_, _≤_, _<_}
+use Prim.Native.Nat.{ℕ, zero, suc, _*_, _≤_}
 use native.Mathlib.Omega.{arith}
 use native.Mathlib.Nat.{mul-le-mul}
 use mathlib.Core.Bool.{Bool, true, false, cond, not, _&&_, _||_}
@@ -8,18 +8,19 @@ use mathlib.Core.List.{List, [], _∷_}
 use mathlib.Core.Logic.{⊎-elim, _↔_}
 use lib.Dec.{T, not-T, eqb, eqb→eq, eqb-refl}
 use Rattle.laws.specs.Logic.{T-ext, tf, N→false, and-i, and-l, and-r, or-l, or-r, or-e}
-use Rattle.laws.specs.Lists.{mem, hd, any, In, here, there, Each, each-in, mem-in, any-i}
-use Rattle.rules.specs.Day.{Day, Van, downFrom, inner}
+use Rattle.laws.specs.Lists.{mem, hd, any, In, each-in, mem-in, any-i}
+use Rattle.rules.specs.Day.{Day, Van, inner}
 use Rattle.rules.specs.Leg.{OfLeg, legFrom, onLeg}
 use Rattle.rules.specs.Plan.{Places}
 use Rattle.rules.specs.Rounds.{Distinct}
-use Rattle.rules.specs.Tests.{Test, tests, neitherPlaced, stays}
+use Rattle.rules.specs.Tests.{Test, neitherPlaced, stays}
 use Rattle.rules.specs.Settle.{round, strikes, settleIn, settle}
 use Rattle.rules.specs.Asked.{OneEnd}
-use Rattle.rules.proofs.Cuts.{reach-way, way-reach, back-way, way-from}
+use Rattle.rules.proofs.Inner.{inner-low}
 use Rattle.rules.proofs.Transfers.{supports-e, supports-i}
 use Rattle.rules.proofs.Left.{_⊆_, stays-e, stays-i, round-less, round-leg, round-left}
 use Rattle.rules.proofs.Twice.{Rests, steady, paired, all-rest, third, calm}
+use Rattle.rules.proofs.Ways.{reach-way, way-reach, back-way, way-from}
 
 -- ---- more places open, more places stay
 
@@ -109,14 +110,6 @@ calm-less v d rt o seen h x p t = ⊎-elim (λ u. u) (λ u. absurd (h (any-i (λ
     gone : ℕ → ℕ → Bool
     gone x p = o x p && not (round v d rt o x p)
 
-in-down : (m : ℕ) {y : ℕ} → In y (downFrom m) → (1 ≤ y) × (y ≤ m)
-in-down (suc m) here = (omega arith, omega arith)
-in-down (suc m) (there i) = let u = in-down m i in (u .0, omega (arith, u .1))
-
--- an inner node is neither end
-pub inner-low : (d : Day) {y : ℕ} → In y (inner d) → (1 ≤ y) × (suc y < d .n)
-inner-low d i = let u = in-down (d .n - 2) i in (u .0, omega (arith, u .0, u .1))
-
 module _ (v : Van) (d : Day) (one : OneEnd (d .jobs)) (rt : List ℕ) (g : Distinct (d .n) rt) (o : Places) (seen : Seen d rt o) where
   abbrev o₁ : Places
   o₁ = round v d rt o
@@ -152,7 +145,7 @@ module _ (v : Van) (d : Day) (one : OneEnd (d .jobs)) (rt : List ℕ) (g : Disti
       fuel : T (o x p) → 2 ≤ d .n * d .n
       fuel t = let l = inner-low d (seen x p t .0) in let m : 2 ≤ d .n = omega arith in omega (arith, mul-le-mul m m)
 
-  settle-fixed : settle v d rt o ⊆ round v d rt (settle v d rt o)
+  pub settle-fixed : settle v d rt o ⊆ round v d rt (settle v d rt o)
   settle-fixed x p t = round-wider v d rt o₂ (settle v d rt o) (two-out (d .n * d .n)) x p (third v d one rt g o x p (subst (λ (b : Bool). T b) (settle-twice x p) t))
 
   -- settling goes on until a round strikes nothing

@@ -1,21 +1,19 @@
--- What keeping the rules says, rule by rule, and what a round's distinct nodes and a transfer's order say at a cut of it.
-use mathlib.Core.Path.{_≡_, subst, sym}
+-- What keeping the rules says, rule by rule, and where a transfer's partner stands at a cut of the round.
 use Prim.Native.Nat.{ℕ, _≤_}
-use mathlib.Core.Bool.{Bool, true, false, cond, not, _&&_, _||_}
+use mathlib.Core.Bool.{not, _&&_}
 use mathlib.Core.List.{List, [], _∷_}
 use mathlib.Core.Logic.{_⊎_, inl, inr, ⊎-elim}
-use lib.Dec.{T, T-not, leb, eqb, eqb→eq, eqb-refl, leb→le}
-use Rattle.laws.specs.Logic.{and-l, and-r, or-l, tf, not-or-i, cond-yes, cond-no}
-use Rattle.laws.specs.Lists.{mem, all, In, all-in}
+use lib.Dec.{T, T-not, leb, eqb, eqb-refl, leb→le}
+use Rattle.laws.specs.Logic.{and-l, and-r, or-l, tf, cond-yes, cond-no}
+use Rattle.laws.specs.Lists.{mem, all, In, all-in, mem-tl}
 use Rattle.rules.specs.Day.{Day, Van}
 use Rattle.rules.specs.Leg.{everyLeg}
 use Rattle.rules.specs.Time.{onTime}
 use Rattle.rules.specs.Metres.{driven}
 use Rattle.rules.specs.Load.{carries}
-use Rattle.rules.specs.Rounds.{Distinct, none, more, ordered, inOrder, keeps}
+use Rattle.rules.specs.Rounds.{ordered, inOrder, keeps}
 use Rattle.rules.specs.declared.Job.the-variants.{Transfer}
-use Rattle.rules.proofs.Cuts.{Cut, same, move, cut-next, mem-hd, mem-tl, mem-ne}
-use Rattle.rules.proofs.Grows.{distinct-off}
+use Rattle.rules.proofs.Cuts.{Cut, same, move}
 
 -- ---- the four rules
 
@@ -36,25 +34,9 @@ module _ (v : Van) (d : Day) (R : List ℕ) (h : T (keeps v d R)) where
   unfolding keeps
   keeps-loads = search (and-l, and-r)
 
--- ---- distinct nodes at a cut
-
-distinct-cut : {n : ℕ} {A B A′ B′ : List ℕ} → Cut A B A′ B′ → Distinct n A → Distinct n B → ((y : ℕ) → T (mem y B) → T (not (mem y A)))
-    → Distinct n A′ × ((y : ℕ) → T (mem y B′) → T (not (mem y A′)))
-distinct-cut same f g h = (f, h)
-distinct-cut {A = A} (move {k = k} {B = B} c) f (more a b g) h =
-    distinct-cut c (more a (h k (mem-hd k B)) f) g (λ y m. not-or-i (eqb k y) (mem y A) (mem-ne k y B b m) (h y (mem-tl y k B m)))
-
--- the stops behind are distinct, and none of them is ahead
-pub distinct-behind : {n z : ℕ} {R A B : List ℕ} → Distinct n (z ∷ R) → Cut (z ∷ []) R A B → Distinct n A × ((y : ℕ) → T (mem y B) → T (not (mem y A)))
-distinct-behind {z = z} {R = R} (more a b g) c = distinct-cut c (more a tt none) g (λ y m. not-or-i (eqb z y) false (mem-ne z y R b m) tt)
-
-pub distinct-ahead : {n : ℕ} {A B A′ B′ : List ℕ} → Distinct n B → Cut A B A′ B′ → Distinct n B′
-distinct-ahead g same = g
-distinct-ahead (more a b g) (move c) = distinct-ahead g c
-
 -- ---- the partners of a transfer at a cut
 
-stays-behind : (y : ℕ) {A B A′ B′ : List ℕ} → Cut A B A′ B′ → T (mem y A) → T (mem y A′)
+pub stays-behind : (y : ℕ) {A B A′ B′ : List ℕ} → Cut A B A′ B′ → T (mem y A) → T (mem y A′)
 stays-behind y same m = m
 stays-behind y {A = A} (move {k = k} c) m = stays-behind y c (mem-tl y k A m)
 

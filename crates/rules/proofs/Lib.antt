@@ -1,12 +1,58 @@
+-- The theorems about document 01, on the definitions in specs/. Which one answers which sentence of the demands:
+--
+-- Demand 2, no gap is lost and none is invented.
+-- * Placing keeps the rounds that use the place, closing those that do not, excluding those without the node, requiring those with it, and
+--   no others: StepRounds `placed-rounds`, `closed-rounds`, `excluded-rounds`, `required-rounds`.
+-- * Settling strikes what the tests strike, to the last gap, and nothing else: Fixpoint `settle-exact`. What it leaves is what was open and
+--   passes every test against what it leaves; the greatest such set (`settle-greatest`); a further round strikes nothing (`settle-rests`,
+--   `settle-again`). It is two rounds, whatever the fuel (`settle-twice`, `fuel-enough`).
+-- * The number of rounds that strike something is never above 2: Twice `at-most-two`.
+-- * On a triangle day settling loses no round that keeps the rules: NoneLost `settling-keeps`. It adds none (`settled-rounds`), and no place
+--   that such a round uses is struck (`used-stays`).
+-- * No place open and alive: the route keeps the rules and belongs: Complete `no-gap-alive`. Beyond 01, on a triangle day a dead plan has no
+--   round that keeps the rules: Complete `dead-none`.
+-- (Stepping back is the board's.)
+--
+-- Demand 3, the order of trying does not matter.
+-- * The end of a run, settled, has the open places and the verdict of the plan worked out from the start, settled: Alike `run-alike`.
+-- * Two runs with the same end route, excluded nodes and marks on unplaced nodes, settled, have the same places and verdict: `runs-alike`.
+--
+-- The theorems know the tests of settling by three laws, each over the list of them, so that a further test is one definition and its laws:
+-- Sound `all-sound` (no place is struck that a rule-keeping round uses), Monotone `all-monotone` (struck stays struck on every longer route),
+-- Twice `all-rest` (the test does not look at the places, or it is 'neither placed').
+--
+-- What they ask of a day and a plan comes from tests that compute, and 01's own sheet meets it: Given. Fresh is in form and the steps keep it: Forms.
+-- All rounds of a day, each once, and counts over them: EveryRound, Counted. For code that keeps the route in an array: AlongLaws.
+
+-- nodes, routes, their legs, and what grows with them
+pub mod Inner
 pub mod Cuts
+pub mod Nodes
+pub mod Ways
+pub mod Windows
 pub mod Grows
+pub mod Longer
 pub mod AlongLaws
+-- the tests, and what a round of settling leaves
 pub mod Transfers
 pub mod Left
 pub mod Twice
+pub mod Fixpoint
+-- rounds
 pub mod Keeps
 pub mod Sound
 pub mod NoneLost
 pub mod Around
 pub mod Complete
-pub mod Fixpoint
+pub mod EveryRound
+pub mod Counted
+-- the steps
+pub mod Placing
+pub mod Using
+pub mod StepRounds
+pub mod Forms
+pub mod Given
+-- runs
+pub mod Monotone
+pub mod Runs
+pub mod Alike

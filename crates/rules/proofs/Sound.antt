@@ -1,34 +1,31 @@
 -- Sound: no test strikes a place that a rule-keeping round of the plan uses. The tests have this law one by one; the theorems read
 -- `all-sound` only.
-use mathlib.Core.Path.{_≡_, subst, sym}
-use Prim.Native.Nat.{ℕ, _+_, _≤_}
+use mathlib.Core.Path.{subst}
+use Prim.Native.Nat.{ℕ}
 use native.Mathlib.Omega.{arith}
-use mathlib.Core.Bool.{Bool, true, false, cond, not, _&&_, _||_}
+use mathlib.Core.Bool.{not, _&&_, _||_}
 use mathlib.Core.List.{List, [], _∷_}
 use mathlib.Core.Logic.{_⊎_, inl, inr, ⊎-elim}
 use lib.Dec.{T, T-not, eqb, eqb→eq}
-use Rattle.laws.specs.Logic.{and-i, and-l, and-r, or-l, or-r, or-e, or-mono, tf, not-or-i, not-or-l, not-or-r, contra, imp-i, cond-new}
-use Rattle.laws.specs.Lists.{mem, hd, all, In, Each, end, also, each-in, Sub, nil, keep, skip, mem-sub, all-i}
+use Rattle.laws.specs.Logic.{and-i, and-l, and-r, or-l, or-r, or-mono, tf, not-or-i, not-or-l, not-or-r, contra, imp-i, cond-new}
+use Rattle.laws.specs.Lists.{mem, hd, In, end, also, each-in, Sub, nil, keep, skip, mem-sub, all-i, mem-hd, mem-tl, mem-rest}
 use Rattle.rules.specs.Day.{Day, Van}
 use Rattle.rules.specs.Leg.{legsAhead, legsBehind}
 use Rattle.rules.specs.Time.{start}
 use Rattle.rules.specs.Load.{carries, room, reachAhead, reachBack}
 use Rattle.rules.specs.Plan.{Places}
-use Rattle.rules.specs.Rounds.{Distinct, Within, done, stop, extra, ordered, keeps}
-use Rattle.rules.specs.Tests.{Test, window, short, cleanFits, clean, soiledFits, soiled, meetsPartner, partnerPlaced, hasSupport, neitherPlaced, tests, stays}
+use Rattle.rules.specs.Rounds.{Distinct, Within, done, stop, extra, keeps}
+use Rattle.rules.specs.Tests.{Test, window, short, cleanFits, clean, soiledFits, soiled, partnerPlaced, neitherPlaced, tests}
 use Rattle.rules.specs.Asked.{Triangle}
 use Rattle.rules.specs.declared.Job.{Job}
 use Rattle.rules.specs.declared.Job.the-variants.{Clean, Soiled, Transfer}
-use Rattle.rules.proofs.Cuts.{Cut, move, cut-next, cut-ahead, cut-behind, cut-mem, mem-hd, mem-tl, mem-rest, legs-ahead, legs-behind}
-use Rattle.rules.proofs.Grows.{distinct-tail, distinct-off, off-sub, within-sub, window-fits, fits-sooner, time-fits, time-cut, start-grows, fits-grows, around-grows, cut-driven, short-around, room-new}
+use Rattle.rules.proofs.Cuts.{Cut, move, cut-next, cut-ahead, cut-behind, cut-mem, legs-ahead, legs-behind}
+use Rattle.rules.proofs.Grows.{start-grows, fits-grows, around-grows, cut-driven, short-around, room-new}
+use Rattle.rules.proofs.Longer.{Past, begun, halt, between, past-sub}
 use Rattle.rules.proofs.Transfers.{meets-i, supports-i}
-use Rattle.rules.proofs.Keeps.{keeps-time, keeps-metres, keeps-order, keeps-loads, distinct-behind, distinct-ahead, second-ahead, first-behind}
-
--- the round's stops behind, the newest first, run through the route's, and each other node has an open place at the last of them before it
-pub data Behind (o : Places) : List ℕ → List ℕ → Type 0 where
-  begin : {z : ℕ} → Behind o (z ∷ []) (z ∷ [])
-  past : {k : ℕ} {A A′ : List ℕ} → Behind o A A′ → Behind o (k ∷ A) (k ∷ A′)
-  other : {x : ℕ} {A A′ : List ℕ} → T (o x (hd A)) → Behind o A A′ → Behind o A (x ∷ A′)
+use Rattle.rules.proofs.Keeps.{keeps-time, keeps-metres, keeps-order, keeps-loads, second-ahead, first-behind}
+use Rattle.rules.proofs.Nodes.{distinct-tail, distinct-off, off-sub, within-sub, distinct-behind, distinct-ahead}
+use Rattle.rules.proofs.Windows.{window-fits, fits-sooner, time-fits, time-cut}
 
 -- a rule-keeping round z ∷ R of the plan with route z ∷ r and places o uses a place of x: x stands in the leg (p ∷ A, k ∷ B)
 pub record Uses (v : Van) (d : Day) (o : Places) (z : ℕ) (r R : List ℕ) (x p : ℕ) (A : List ℕ) (k : ℕ) (B : List ℕ) : Type 0 where
@@ -39,20 +36,12 @@ pub record Uses (v : Van) (d : Day) (o : Places) (z : ℕ) (r R : List ℕ) (x p
   pub A′ : List ℕ
   pub B′ : List ℕ
   pub at : Cut (z ∷ []) R (q ∷ A′) (x ∷ B′)
-  pub behind : Behind o (p ∷ A) (q ∷ A′)
+  pub behind : Past o z (p ∷ A) (q ∷ A′)
   pub ahead : Within o p (k ∷ B) B′
 
 -- on a triangle day the test passes wherever a rule-keeping round of the plan uses a place
 abbrev pub Sound : Test → Type 0
 Sound t = (v : Van) (d : Day) → Triangle d → (o : Places) (z x p k : ℕ) (r R A B : List ℕ) → Uses v d o z r R x p A k B → T (t v d (z ∷ r) o x (p ∷ A) (k ∷ B))
-
-behind-sub : {o : Places} {A A′ : List ℕ} → Behind o A A′ → Sub A A′
-behind-sub begin = keep nil
-behind-sub (past u) = keep (behind-sub u)
-behind-sub (other h u) = skip (behind-sub u)
-
-behind-nil : {o : Places} {A′ : List ℕ} → Behind o [] A′ → ⊥
-behind-nil (other h u) = behind-nil u
 
 -- ---- the load that a job of x needs fits along the route where it fits along the round
 
@@ -85,7 +74,8 @@ module _ (v : Van) (d : Day) where
       clean-back i s (skip t) (mem-tl x y B′ m) b (not-or-r (eqb y x) (mem x A′) a) (and-r (carries v d (y ∷ A′) B′) (legsBehind (carries v d) A′ (y ∷ B′)) h)
 
   -- the first node at x, the second on the route ahead
-  placed-ahead : {x b w : ℕ} {A A′ B B′ : List ℕ} → In (Transfer x b w) (d .jobs) → Sub A A′ → Sub B B′ → T (mem x A′) → T (not (mem x A)) → T (not (mem x B′)) → T (mem b B)
+  placed-ahead : {x b w : ℕ} {A A′ B B′ : List ℕ} → In (Transfer x b w) (d .jobs) → Sub A A′ → Sub B B′ → T (mem x A′) → T (not (mem x A)) → T (not (mem x B′))
+      → T (mem b B)
       → T (legsAhead (carries v d) A′ B′) → T (reachAhead v d (λ p k. eqb k b) w A B)
   placed-ahead i s nil m a n mb h = absurd mb
   placed-ahead {x} {b} {w} {A} {A′} i s (keep {x = k} {l = B} {m = B′} t) m a n mb h =
@@ -99,7 +89,8 @@ module _ (v : Van) (d : Day) where
       placed-ahead i (skip s) t (mem-tl x y A′ m) a (not-or-r (eqb y x) (mem x B′) n) mb (and-r (carries v d A′ (y ∷ B′)) (legsAhead (carries v d) (y ∷ A′) B′) h)
 
   -- the first node at x, the second open in a leg ahead
-  open-ahead : {x b w : ℕ} {o : Places} {A A′ B B′ : List ℕ} → In (Transfer x b w) (d .jobs) → Sub A A′ → Within o (hd A) B B′ → T (mem x A′) → T (not (mem x A)) → T (not (mem x B′))
+  open-ahead : {x b w : ℕ} {o : Places} {A A′ B B′ : List ℕ} → In (Transfer x b w) (d .jobs) → Sub A A′ → Within o (hd A) B B′ → T (mem x A′) → T (not (mem x A))
+      → T (not (mem x B′))
       → T (not (mem b B)) → T (mem b B′) → T (legsAhead (carries v d) A′ B′) → T (reachAhead v d (λ p k. o b p) w A B)
   open-ahead i s done m a n nb mb h = absurd mb
   open-ahead {x} {b} {w} {o} {A} {A′} i s (stop {k = k} {r = B} {R = B′} u) m a n nb mb h =
@@ -120,7 +111,8 @@ module _ (v : Van) (d : Day) where
           (or-l (o b (hd A)) (reachAhead v d (λ p k. o b p) w (k ∷ A) B) (subst (λ (c : ℕ). T (o c (hd A))) (eqb→eq y b e) t))
 
   -- the second node at x, the first on the route behind
-  placed-back : {a x w : ℕ} {A A′ B B′ : List ℕ} → In (Transfer a x w) (d .jobs) → Sub A A′ → Sub B B′ → T (mem x B′) → T (not (mem x B)) → T (not (mem x A′)) → T (mem a A)
+  placed-back : {a x w : ℕ} {A A′ B B′ : List ℕ} → In (Transfer a x w) (d .jobs) → Sub A A′ → Sub B B′ → T (mem x B′) → T (not (mem x B)) → T (not (mem x A′))
+      → T (mem a A)
       → T (legsBehind (carries v d) A′ B′) → T (reachBack v d (λ p k. eqb p a) w A B)
   placed-back i nil t m b n ma h = absurd ma
   placed-back {a} {x} {w} {B = B} {B′ = B′} i (keep {x = p} {l = A} {m = A′} s) t m b n ma h =
@@ -134,33 +126,33 @@ module _ (v : Van) (d : Day) where
       placed-back i s (skip t) (mem-tl x y B′ m) b (not-or-r (eqb y x) (mem x A′) n) ma (and-r (carries v d (y ∷ A′) B′) (legsBehind (carries v d) A′ (y ∷ B′)) h)
 
   -- the second node at x, the first open in a leg behind
-  open-back : {a x w : ℕ} {o : Places} {A A′ B B′ : List ℕ} → In (Transfer a x w) (d .jobs) → Behind o A A′ → Sub B B′ → T (mem x B′) → T (not (mem x B)) → T (not (mem x A′))
+  open-back : {a x w z : ℕ} {o : Places} {A A′ B B′ : List ℕ} → In (Transfer a x w) (d .jobs) → Past o z A A′ → Sub B B′ → T (mem x B′) → T (not (mem x B))
+      → T (not (mem x A′))
       → T (not (mem a A)) → T (mem a A′) → T (legsBehind (carries v d) A′ B′) → T (reachBack v d (λ p k. o a p) w A B)
-  open-back {a} i (begin {z = z}) t m b n na ma h = absurd (T-not (mem a (z ∷ [])) na ma)
-  open-back {a} {x} {w} {o} {B = B} {B′ = B′} i (past {k = p} {A = A} {A′ = A′} u) t m b n na ma h =
-      and-i (room v d w (p ∷ A) B) (o a p || reachBack v d (λ p k. o a p) w A (p ∷ B))
-      (transfer-room i (keep (behind-sub u)) t ma m (contra (mem a (p ∷ A) && mem x B) (mem x B) (and-r (mem a (p ∷ A)) (mem x B)) b)
-      (and-l (carries v d (p ∷ A′) B′) (legsBehind (carries v d) A′ (p ∷ B′)) h))
-      (or-r (o a p) (reachBack v d (λ p k. o a p) w A (p ∷ B))
-      (open-back i u (keep t) (mem-tl x p B′ m) (not-or-i (eqb p x) (mem x B) (not-or-l (eqb p x) (mem x A′) n) b) (not-or-r (eqb p x) (mem x A′) n)
-      (not-or-r (eqb p a) (mem a A) na) (mem-rest a p A′ (not-or-l (eqb p a) (mem a A) na) ma) (and-r (carries v d (p ∷ A′) B′) (legsBehind (carries v d) A′ (p ∷ B′)) h)))
-  open-back {a} {x} {w} {o} {B = B} {B′ = B′} i (other {x = y} {A = A} {A′ = A′} e u) t m b n na ma h = go A e u na (tf (eqb y a))
-      (λ ma′. open-back i u (skip t) (mem-tl x y B′ m) b (not-or-r (eqb y x) (mem x A′) n) na ma′ (and-r (carries v d (y ∷ A′) B′) (legsBehind (carries v d) A′ (y ∷ B′)) h))
-    where
-      go : (A : List ℕ) → T (o y (hd A)) → Behind o A A′ → T (not (mem a A)) → T (eqb y a) ⊎ T (not (eqb y a)) → (T (mem a A′) → T (reachBack v d (λ p k. o a p) w A B)) → T (reachBack v d (λ p k. o a p) w A B)
-      go A e u na (inr q) f = f (mem-rest a y A′ q ma)
-      go [] e u na (inl q) f = absurd (behind-nil u)
-      go (p ∷ A) e u na (inl q) f = and-i (room v d w (p ∷ A) B) (o a p || reachBack v d (λ p k. o a p) w A (p ∷ B))
-          (transfer-room i (skip (behind-sub u)) t ma m (contra (mem a (p ∷ A) && mem x B) (mem x B) (and-r (mem a (p ∷ A)) (mem x B)) b)
-          (and-l (carries v d (y ∷ A′) B′) (legsBehind (carries v d) A′ (y ∷ B′)) h))
-          (or-l (o a p) (reachBack v d (λ p k. o a p) w A (p ∷ B)) (subst (λ (c : ℕ). T (o c p)) (eqb→eq y a q) e))
+  open-back {a} {z = z} i begun t m b n na ma h = absurd (T-not (mem a (z ∷ [])) na ma)
+  open-back {a} {x} {w} {o = o} {B = B} {B′ = B′} i (halt {k = k} {p = p} {q = q} {A = A} {A′ = A′} u) t m b n na ma h =
+      and-i (room v d w (k ∷ p ∷ A) B) (o a k || reachBack v d (λ p k. o a p) w (p ∷ A) (k ∷ B))
+      (transfer-room i (keep (past-sub u)) t ma m (contra (mem a (k ∷ p ∷ A) && mem x B) (mem x B) (and-r (mem a (k ∷ p ∷ A)) (mem x B)) b)
+      (and-l (carries v d (k ∷ q ∷ A′) B′) (legsBehind (carries v d) (q ∷ A′) (k ∷ B′)) h))
+      (or-r (o a k) (reachBack v d (λ p k. o a p) w (p ∷ A) (k ∷ B))
+      (open-back i u (keep t) (mem-tl x k B′ m) (not-or-i (eqb k x) (mem x B) (not-or-l (eqb k x) (mem x (q ∷ A′)) n) b) (not-or-r (eqb k x) (mem x (q ∷ A′)) n)
+      (not-or-r (eqb k a) (mem a (p ∷ A)) na) (mem-rest a k (q ∷ A′) (not-or-l (eqb k a) (mem a (p ∷ A)) na) ma)
+      (and-r (carries v d (k ∷ q ∷ A′) B′) (legsBehind (carries v d) (q ∷ A′) (k ∷ B′)) h)))
+  open-back {a} {x} {w} {o = o} {B = B} {B′ = B′} i (between {y = y} {p = p} {q = q} {A = A} {A′ = A′} e u) t m b n na ma h =
+      ⊎-elim
+      (λ s. and-i (room v d w (p ∷ A) B) (o a p || reachBack v d (λ p k. o a p) w A (p ∷ B))
+      (transfer-room i (skip (past-sub u)) t ma m (contra (mem a (p ∷ A) && mem x B) (mem x B) (and-r (mem a (p ∷ A)) (mem x B)) b)
+      (and-l (carries v d (y ∷ q ∷ A′) B′) (legsBehind (carries v d) (q ∷ A′) (y ∷ B′)) h))
+      (or-l (o a p) (reachBack v d (λ p k. o a p) w A (p ∷ B)) (rw (eqb→eq y a s) at e)))
+      (λ s. open-back i u (skip t) (mem-tl x y B′ m) b (not-or-r (eqb y x) (mem x (q ∷ A′)) n) na (mem-rest a y (q ∷ A′) s ma)
+      (and-r (carries v d (y ∷ q ∷ A′) B′) (legsBehind (carries v d) (q ∷ A′) (y ∷ B′)) h)) (tf (eqb y a))
 
 -- ---- the tests, one by one
 
 -- what a round that uses the place says at the cut where x stands
 module _ {v : Van} {d : Day} {o : Places} {z x p k : ℕ} {r R A B : List ℕ} (u : Uses v d o z r R x p A k B) where
   subBehind : Sub (p ∷ A) (u .q ∷ u .A′)
-  subBehind = behind-sub (u .behind)
+  subBehind = past-sub (u .behind)
 
   subAhead : Sub (k ∷ B) (u .B′)
   subAhead = within-sub (u .ahead)

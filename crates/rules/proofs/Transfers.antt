@@ -1,8 +1,7 @@
 -- The two tests of a transfer's end at x, read off the list of jobs: what they ask of the partner of x.
-use mathlib.Core.Path.{_≡_, refl, subst}
 use Prim.Native.Nat.{ℕ}
-use mathlib.Core.Bool.{Bool, true, false, not, _&&_, _||_}
-use mathlib.Core.List.{List, [], _∷_}
+use mathlib.Core.Bool.{Bool, not, _||_}
+use mathlib.Core.List.{List}
 use lib.Dec.{T, eqb, eqb→eq, eqb-refl}
 use Rattle.laws.specs.Logic.{and-i, and-l, and-r, imp-or-i, imp-or-e, imp-imp-i, imp-imp-e}
 use Rattle.laws.specs.Lists.{mem, In, all-in, all-i}

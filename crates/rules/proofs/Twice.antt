@@ -12,13 +12,14 @@ use Rattle.laws.specs.Lists.{hd, any, In, here, there, Each, end, also, each-in
 use Rattle.rules.specs.Day.{Day, Van, inner}
 use Rattle.rules.specs.Plan.{Places}
 use Rattle.rules.specs.Rounds.{Distinct}
-use Rattle.rules.specs.Tests.{Test, tests, window, short, clean, soiled, partnerPlaced, neitherPlaced, stays}
+use Rattle.rules.specs.Tests.{Test, tests, window, neitherPlaced, stays}
 use Rattle.rules.specs.Settle.{round, strikes, roundsIn, rounds}
 use Rattle.rules.specs.Asked.{OneEnd}
 use Rattle.rules.specs.declared.Job.the-variants.{Transfer}
-use Rattle.rules.proofs.Cuts.{Cut, cut-trans, cut-nil, Way, way-cut, way-reach, way-from, reach-way, back-way, way-source}
+use Rattle.rules.proofs.Cuts.{Cut, cut-trans, cut-nil}
 use Rattle.rules.proofs.Transfers.{Supports, supports-e, supports-i}
 use Rattle.rules.proofs.Left.{_⊆_, stays-e, stays-i, round-less, round-found, round-stays, round-i}
+use Rattle.rules.proofs.Ways.{Way, way-cut, way-reach, way-from, reach-way, back-way, way-source}
 
 -- ---- what two rounds ask of each test
 

@@ -2,10 +2,19 @@
 use Prim.Native.Nat.{ℕ, zero, suc, _+_, _-_}
 use mathlib.Core.Bool.{Bool, true, false, cond, not, _&&_, _||_}
 use mathlib.Core.List.{List, [], _∷_, _++_, map}
-use lib.Dec.{eqb}
-use Rattle.laws.specs.Lists.{mem, all}
+use mathlib.Core.Path.{_≡_}
+use lib.Dec.{T, eqb}
+use Rattle.laws.specs.Lists.{mem, hd, all}
 use Rattle.rules.specs.Day.{Day, inner}
 use Rattle.rules.specs.Plan.{Plan, Places}
+use Rattle.rules.specs.Rounds.{Distinct}
+use Rattle.rules.specs.Asked.{endsWith}
+
+-- a round of the day: distinct nodes from 0 to n − 1
+pub record Round (d : Day) (R : List ℕ) : Type 0 where
+  pub nodes : Distinct (d .n) R
+  pub starts : hd R ≡ 0
+  pub ends : T (endsWith (d .n - 1) R)
 
 -- the list without its first x
 abbrev pub less : ℕ → List ℕ → List ℕ

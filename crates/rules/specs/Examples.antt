@@ -7,6 +7,7 @@ use lib.ListN.{getD}
 use lib.IntN.{pos, negsuc}
 use Rattle.rules.specs.Day.{Day, Van}
 use Rattle.rules.specs.Time.{start, lastStart}
+use Rattle.rules.specs.Load.{aboard}
 use Rattle.rules.specs.Plan.{Plan, fresh}
 use Rattle.rules.specs.Rounds.{keeps}
 use Rattle.rules.specs.Steps.{placed}
@@ -14,7 +15,7 @@ use Rattle.rules.specs.Tests.{stays}
 use Rattle.rules.specs.Settle.{round, strikes, settleIn, roundsIn, rounds, settled}
 use Rattle.rules.specs.Verdict.{owed, alive}
 use Rattle.rules.specs.Every.{everyRound, belongs, count}
-use Rattle.rules.specs.declared.Job.the-variants.{Transfer}
+use Rattle.rules.specs.declared.Job.the-variants.{Clean, Soiled, Transfer}
 
 abbrev table : List ℕ
 table = 0 ∷ 10 ∷ 20 ∷ 30 ∷ 10 ∷ 0 ∷ 10 ∷ 20 ∷ 20 ∷ 10 ∷ 0 ∷ 10 ∷ 30 ∷ 20 ∷ 10 ∷ 0 ∷ []
@@ -47,6 +48,10 @@ p1 = refl
 p3 : lastStart day (2 ∷ 3 ∷ []) 0 ≡ pos 0
 p3 = refl
 
+-- both halves of the split leg inherit
+halves : (two .places 1 0 && two .places 1 2) ≡ true
+halves = refl
+
 -- 25 against 25
 p4 : round (van 2 60) day (two .route) (two .places) 1 0 ≡ true
 unfolding round stays
@@ -55,6 +60,11 @@ p4 = refl
 p6 : round (van 2 60) day (two .route) (two .places) 1 2 ≡ false
 unfolding round stays
 p6 = refl
+
+-- the window looks past k: 25 against L(2) = 24, for latest(3) = 39
+past-k : round (van 2 60) (dayWith 100 39) (two .route) (two .places) 1 0 ≡ false
+unfolding round stays
+past-k = refl
 
 p7 : rounds (van 2 30) day (fresh day .route) (fresh day .places) ≡ 0
 unfolding roundsIn strikes round stays
@@ -79,3 +89,10 @@ p12 = refl
 p12k : count (λ R. belongs day (fresh day) R && keeps (van 2 60) day R) (everyRound day) ≡ 2
 unfolding everyRound keeps
 p12k = refl
+
+-- a clean job is aboard before its node, a soiled one after it
+clean-before : aboard (0 ∷ []) (1 ∷ 3 ∷ []) (Clean 1 2) ≡ 2
+clean-before = refl
+
+soiled-after : aboard (1 ∷ 0 ∷ []) (3 ∷ []) (Soiled 1 2) ≡ 2
+soiled-after = refl

@@ -1,16 +1,15 @@
 -- Where an accepted sheet has what, and all that is known of it.
-use Prim.Native.Nat.{ℕ, suc, _+_, _*_, _%_, _≤_}
-use mathlib.Core.Bool.{Bool, true, false, _&&_}
+use Prim.Native.Nat.{ℕ, _+_, _*_, _%_, _≤_}
+use mathlib.Core.Bool.{true}
 use mathlib.Core.Path.{_≡_, ap}
 use mathlib.Core.List.{List}
 use lib.ListN.{length}
-use lib.Dec.{leb, ltb, eqb}
-use borrow.Author.Tests.{leb-true, ltb-true, eqb-true}
+use lib.Dec.{leb}
+use borrow.Author.Tests.{leb-true, eqb-true}
 use Rattle.laws.specs.Below.{allBelow}
-use Rattle.laws.specs.Choice.{orElse, unless, or-else-zero, unless-zero}
+use Rattle.laws.specs.Choice.{or-else-zero, unless-zero}
 use Rattle.laws.specs.Logic.{and-true}
 use Rattle.sheet.specs.Word.{words, wordAt}
-use Rattle.sheet.specs.Refusal.{SHORT, COUNT}
 use Rattle.sheet.specs.Rule.{limitsOk, nodeAtOk, jobAtOk, entryOk}
 use Rattle.sheet.specs.Section.{headRefusal, limitsRefusal, nodesRefusal, jobsRefusal, tableRefusal, stepsRefusal}
 use Rattle.sheet.specs.Section.{tablesRefusal, laterRefusal, refusal13}
@@ -48,10 +47,6 @@ head-zero s at lo hi width h =
     }
 
 -- what sections that are not refused tell of their counts
-pub limits-zero : (s : List ℕ) → limitsRefusal s ≡ 0 → Headed s 0 2 2 1
-unfolding limitsRefusal
-limits-zero s h = head-zero s 0 2 2 1 (or-else-zero _ _ h .0)
-
 pub nodes-zero : (s : List ℕ) → nodesRefusal s ≡ 0 → Headed s 3 2 64 3
 unfolding nodesRefusal
 nodes-zero s h = head-zero s 3 2 64 3 (or-else-zero _ _ h .0)
@@ -59,10 +54,6 @@ nodes-zero s h = head-zero s 3 2 64 3 (or-else-zero _ _ h .0)
 pub jobs-zero : (s : List ℕ) (n at : ℕ) → jobsRefusal s n at ≡ 0 → Headed s at 0 155 4
 unfolding jobsRefusal
 jobs-zero s n at h = head-zero s at 0 155 4 (or-else-zero _ _ h .0)
-
-pub table-zero : (s : List ℕ) (n at : ℕ) → tableRefusal s n at ≡ 0 → Headed s at (n * n) (n * n) 1
-unfolding tableRefusal
-table-zero s n at h = head-zero s at (n * n) (n * n) 1 (or-else-zero _ _ h .0)
 
 -- a sheet that 1 to 3 do not refuse: how long it is, and every rule of its words
 pub record Fine (s : List ℕ) : Type 0 where

@@ -5,23 +5,26 @@ use mathlib.Core.Bool.{true, false, not, _&&_}
 use mathlib.Core.List.{List, [], _∷_}
 use native.Mathlib.Omega.{arith}
 use lib.Dec.{T, eqb, ltb}
-use lib.ListN.{length, getD, take, drop, length-take, length-drop, List·getD-eq-default}
-use lib.Seq.{getD-take, getD-drop}
+use lib.ListN.{length, getD, take, drop, length-take}
+use lib.Seq.{getD-take}
 use borrow.Author.Tests.{eqb-true, eqb-false, ltb-true, ltb-false, not-true}
 use Rattle.laws.specs.Logic.{T→true, true→T, false→N, decided, and-true}
 use Rattle.laws.specs.Lists.{In, here, there, mem}
-use Rattle.bits.specs.Places.{has, within}
+use Rattle.bits.specs.Places.{has}
 use Rattle.bits.specs.Members.{has-none, has-low, within-has, false-true}
 use Rattle.board.specs.Board.{Board, routeOf, onRoute, legsOf, setOf, openAt, inner}
-use Rattle.board.specs.Form.{setOk, markOk}
-use Rattle.board.specs.RouteLaws.{mem-at, mem-none, word-find}
+use Rattle.board.specs.Form.{setOk}
+use Rattle.board.specs.RouteLaws.{mem-at, mem-none}
 use Rattle.board.specs.FormLaws as board
+use Rattle.board.specs.Keep.{mark-inner}
+use Rattle.board.specs.Places.{open-past}
 use Rattle.rules.specs.Day.{Day, downFrom}
 use Rattle.rules.specs.Day as day
 use Rattle.rules.specs.Leg.{legStops}
 use Rattle.rules.specs.Rounds.{Distinct, none, more}
-use Rattle.rules.specs.Asked.{Formed}
+use Rattle.rules.specs.Asked.{Formed, endsWith}
 use Rattle.rules.proofs.AlongLaws.{leg-stops}
+use Rattle.rules.proofs.Given.{ends-at}
 use Rattle.stands.specs.Stands.{planOf, Held}
 
 -- entries below n, each once, are distinct nodes
@@ -48,71 +51,58 @@ take-first (suc k) [] h g = absurd (omega arith)
 take-first (suc k) (x ∷ l) h g = ap (λ (m : ℕ). x ∷ take m l) (let e : k ≡ suc k - 1 = omega arith in e)
 
 module _ (d : Day) (b : Board) (small : d .n ≤ 64) (held : Held b) (form : board.Formed (d .n) b) where
+  wide : board.Wide b
+  wide = held .wide
+
   long : length (routeOf b) ≡ b .stops
-  unfolding routeOf
-  long = omega (arith, length-take (b .stops) (b .route), held .route, form .most)
+  long = board.route-long (d .n) b small wide (form .route)
 
   at : (i : ℕ) → i < b .stops → getD (routeOf b) i 0 ≡ getD (b .route) i 0
-  unfolding routeOf
-  at i h = getD-take (b .stops) (b .route) i 0 h
+  at i h = board.route-at (d .n) b small wide (form .route) i h
 
   -- ---- a node with an open place: it is inner and off the route, and its places are legs
 
-  not-empty : (y q : ℕ) → T (openAt b y q) → setOf b y ≡ 0 → ⊥
-  unfolding openAt
-  not-empty y q t z = false-true (sym (has-none q) ∙ ap (λ (w : ℕ). has w q) (sym z) ∙ T→true (has (setOf b y) q) t)
-
-  far : (y : ℕ) → 64 ≤ y → setOf b y ≡ 0
-  unfolding setOf
-  far y h = List·getD-eq-default (b .sets) 0 (omega (arith, held .sets))
-
   near : (y q : ℕ) → T (openAt b y q) → y < 64
-  near y q t = decided (ltb y 64) (ltb-true y 64) (λ e. absurd (not-empty y q t (far y (ltb-false y 64 e))))
-
-  some-set : (y q : ℕ) → T (openAt b y q) → (inner (d .n) y ≡ true) × (onRoute b y ≡ false) × (within (setOf b y) (legsOf b) ≡ true)
-  unfolding setOk
-  some-set y q t =
-      let ok = form .sets y (near y q t) in
-      decided (inner (d .n) y && not (onRoute b y))
-      (λ e. let i = and-true (inner (d .n) y) (not (onRoute b y)) e in (i .0, not-true (onRoute b y) (i .1), rw e at ok))
-      (λ e. absurd (not-empty y q t (eqb-true (setOf b y) 0 (rw e at ok))))
+  near y q t = decided (ltb y 64) (ltb-true y 64) (λ e. absurd (false-true (sym (open-past b y q (omega (arith, wide .sets, ltb-false y 64 e))) ∙ T→true (openAt b y q) t)))
 
   -- x is open in a leg that the route has
   pub open-leg : (y q : ℕ) → T (openAt b y q) → T (mem q (legStops (routeOf b)))
-  unfolding openAt legsOf
+  unfolding openAt
   open-leg y q t =
-      let h = within-has (setOf b y) (legsOf b) (some-set y q t .2) q (has-low (setOf b y) q (held .words y) (T→true _ t)) (T→true _ t) in
-      let f = word-find (b .stops - 1) (b .route) q h in
-      let i : f .0 < b .stops = omega (arith, f .1) in
+      let yes = T→true (has (setOf b y) q) t in
+      let f = board.leg-at (d .n) b small wide (form .route) q (within-has (setOf b y) (legsOf b) (board.set-within (d .n) b small wide form y (near y q t)) q (has-low (setOf b y) q (held .words y) yes) yes) in
       subst (λ (l : List ℕ). T (mem q l)) (sym (leg-stops (routeOf b)))
       (true→T _ (mem-at q (f .0) (take (length (routeOf b) - 1) (routeOf b)) (omega (arith, length-take (length (routeOf b) - 1) (routeOf b), long, f .1))
-      (getD-take (length (routeOf b) - 1) (routeOf b) (f .0) 0 (omega (arith, long, f .1)) ∙ at (f .0) i ∙ f .2)))
+      (getD-take (length (routeOf b) - 1) (routeOf b) (f .0) 0 (omega (arith, long, f .1)) ∙ at (f .0) (omega (arith, f .1)) ∙ f .2)))
 
-  marked-in : (y : ℕ) → T (has (b .marks) y) → In y (day.inner d)
-  unfolding markOk
-  marked-in y t =
-      let ok = form .marks y (has-low (b .marks) y (held .marks) (T→true _ t)) in
-      inner-in d y (rw (T→true (has (b .marks) y) t) at ok)
+  open-node : (y q : ℕ) → T (openAt b y q) → (inner (d .n) y ≡ true) × (onRoute b y ≡ false)
+  unfolding setOk openAt
+  open-node y q t =
+      decided (inner (d .n) y && not (onRoute b y))
+      (λ e. let i = and-true (inner (d .n) y) (not (onRoute b y)) e in (i .0, not-true (onRoute b y) (i .1)))
+      (λ e. let z = eqb-true (setOf b y) 0 (rw e at (form .sets y (near y q t))) in
+      absurd (false-true (sym (has-none q) ∙ ap (λ (w : ℕ). has w q) (sym z) ∙ T→true (has (setOf b y) q) t)))
 
   first : routeOf b ≡ 0 ∷ take (b .stops - 1) (drop 1 (b .route))
   unfolding routeOf
-  first = take-first (b .stops) (b .route) (omega (arith, form .two)) (omega (arith, held .route)) ∙ ap (λ (z : ℕ). z ∷ take (b .stops - 1) (drop 1 (b .route))) (form .start)
+  first =
+      take-first (b .stops) (b .route) (omega (arith, form .route .two)) (omega (arith, wide .route))
+      ∙ ap (λ (z : ℕ). z ∷ take (b .stops - 1) (drop 1 (b .route))) (form .route .start)
 
-  last : T (mem (d .n - 1) (take (b .stops - 1) (drop 1 (b .route))))
-  last = true→T _ (mem-at (d .n - 1) (b .stops - 2) (take (b .stops - 1) (drop 1 (b .route))) (omega (arith, length-take (b .stops - 1) (drop 1 (b .route)), length-drop 1 (b .route), held .route, form .two, form .most))
-      (getD-take (b .stops - 1) (drop 1 (b .route)) (b .stops - 2) 0 (omega (arith, form .two)) ∙ getD-drop 1 (b .route) (b .stops - 2) 0
-      ∙ ap (λ (i : ℕ). getD (b .route) i 0) (let e : 1 + (b .stops - 2) ≡ b .stops - 1 = omega (arith, form .two) in e) ∙ form .end))
+  last : T (endsWith (d .n - 1) (routeOf b))
+  last = ends-at (d .n - 1) (b .stops - 1) (routeOf b) (omega (arith, long, form .route .two)) (at (b .stops - 1) (omega (arith, form .route .two)) ∙ form .route .end)
 
-  -- the route is 0, then what follows it, n − 1 at its end
   pub stands-formed : Formed d (planOf b)
   unfolding onRoute
   stands-formed = record {
     tail = take (b .stops - 1) (drop 1 (b .route));
     starts = first;
     ends = last;
-    nodes = distinct (d .n) (routeOf b) (λ i h. rw (at i (omega (arith, long))) (form .below i (omega (arith, long)))) (λ i j h g e. form .once i j (omega (arith, long)) g (sym (at j (omega (arith, long))) ∙ e ∙ at i (omega (arith, long))));
-    inside = λ y q t. inner-in d y (some-set y q t .0);
-    off = λ y q t. false→N _ (some-set y q t .1);
+    nodes = distinct (d .n) (routeOf b)
+        (λ i h. rw (at i (omega (arith, long))) (form .route .below i (omega (arith, long))))
+        (λ i j h g e. form .route .once i j (omega (arith, long)) g (sym (at j (omega (arith, long))) ∙ e ∙ at i (omega (arith, long))));
+    inside = λ y q t. inner-in d y (open-node y q t .0);
+    off = λ y q t. false→N _ (open-node y q t .1);
     leg = open-leg;
-    marked = marked-in;
+    marked = λ y t. let yes = T→true (has (b .marks) y) t in inner-in d y (mark-inner (d .n) b form y (has-low (b .marks) y (held .marks) yes) yes);
   }

@@ -1,6 +1,5 @@
 use Rattle.laws.specs.Choice.{first-stops, first-goes}
-use mathlib.Core.Path.{refl, sym, _∙_}
-use native.Mathlib.Omega.{arith}
+use mathlib.Core.Path.{refl}
 use borrow.Author.Tests.{eq-eqb, ne-eqb}
 use Rattle.laws.specs.Choice.{orElse}
 use Rattle.sheet.specs.Section.{refusal13}

@@ -1,6 +1,4 @@
 use Rattle.laws.specs.Choice.{first-stops, first-goes}
-use mathlib.Core.Path.{sym, _∙_}
-use native.Mathlib.Omega.{arith}
 use Rattle.sheet.specs.Section.{tablesRefusal}
 use borrow.Author.Needs.{needs}
 use Rattle.sheet.proofs.tables_refusal.Statement.{statement}

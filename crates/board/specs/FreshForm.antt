@@ -1,0 +1,88 @@
+-- The fresh state is in form.
+use mathlib.Core.Path.{_≡_, refl, ap, sym, _∙_, subst}
+use mathlib.Core.Bool.{Bool, true, false, cond, not, _&&_}
+use mathlib.Core.List.{List}
+use Prim.Native.Nat.{ℕ, zero, suc, _+_, _-_, _≤_, _<_}
+use native.Mathlib.Omega.{arith}
+use lib.ListN.{length, getD, set, replicate, length-set, length-replicate, getD-replicate}
+use lib.Seq.{getD-set-same, getD-set-other}
+use lib.Dec.{eqb, ltb}
+use borrow.Author.Tests.{eqb-true, eqb-false, eq-eqb}
+use Rattle.laws.specs.Logic.{decided}
+use Rattle.laws.specs.Table.{tab, length-tab, getD-tab}
+use Rattle.bits.specs.Places.{has, within}
+use Rattle.bits.specs.Members.{has-none, has-first, within-make}
+use Rattle.board.specs.Board.{Board, board, stateOf, boardOf, routeOf, onRoute, legsOf, setOf, openAt, inner}
+use Rattle.board.specs.Fresh.{freshState, freshSet, freshSets, fresh-is}
+use Rattle.board.specs.Form.{setOk, markOk, inForm}
+use Rattle.board.specs.FormLaws.{Routed, Formed, Wide, Levels, InForm, inner-in, off-make, leg-make, in-form-of}
+use Rattle.board.specs.declared.State.{State}
+
+abbrev pub freshBoard : ℕ → Board
+freshBoard n = board (set (replicate 64 0) 1 (n - 1)) 2 (freshSets n) 0
+
+module _ (n : ℕ) (two : 2 ≤ n) (small : n ≤ 64) where
+  one : getD (set (replicate 64 0) 1 (n - 1)) 1 0 ≡ n - 1
+  one = getD-set-same (replicate 64 0) 1 (n - 1) 0 (omega arith)
+
+  rest : (i : ℕ) → i < 64 → (i ≡ 1 → ⊥) → getD (set (replicate 64 0) 1 (n - 1)) i 0 ≡ 0
+  rest i l d = getD-set-other (replicate 64 0) 1 i (n - 1) 0 d ∙ getD-replicate 64 i 0 0 l
+
+  pub fresh-wide : Wide (freshBoard n)
+  unfolding freshSets
+  fresh-wide = record { route = length-set (replicate 64 0) 1 (n - 1); sets = length-tab 64 (freshSet n) }
+
+  pub fresh-routed : Routed n (freshBoard n)
+  fresh-routed = record {
+    two = omega arith;
+    most = two;
+    start = rest 0 (omega arith) (λ e. omega arith);
+    end = one;
+    below = λ i h. decided (eqb i 1) (λ e. rw (eqb-true i 1 e, one) (omega arith)) (λ e. rw (rest i (omega arith) (eqb-false i 1 e)) (omega arith));
+    once = λ i j h g q.
+        let a : i ≡ 1 = omega arith in
+        let z : j ≡ 0 = omega arith in
+        omega (arith, sym (rest 0 (omega arith) (λ e. omega arith)) ∙ ap (λ (t : ℕ). getD (set (replicate 64 0) 1 (n - 1)) t 0) (sym z) ∙ q ∙ ap (λ (t : ℕ). getD (set (replicate 64 0) 1 (n - 1)) t 0) a ∙ one);
+    past = λ i h l. rest i l (λ e. omega arith);
+  }
+
+  fresh-set : (y : ℕ) → y < 64 → setOf (freshBoard n) y ≡ freshSet n y
+  unfolding setOf freshSets
+  fresh-set y l = getD-tab 64 (freshSet n) 0 y l
+
+  fresh-off : (y : ℕ) → inner n y ≡ true → onRoute (freshBoard n) y ≡ false
+  fresh-off y e =
+      let a = inner-in n y e in
+      off-make n (freshBoard n) small fresh-wide fresh-routed y (λ i h q.
+      decided (eqb i 1) (λ z. omega (arith, sym one ∙ ap (λ (t : ℕ). getD (set (replicate 64 0) 1 (n - 1)) t 0) (sym (eqb-true i 1 z)) ∙ q, a .1))
+      (λ z. omega (arith, sym (rest i (omega arith) (eqb-false i 1 z)) ∙ q, a .0)))
+
+  fresh-leg : within 1 (legsOf (freshBoard n)) ≡ true
+  fresh-leg = within-make 1 (legsOf (freshBoard n)) (λ p l h.
+      let z : p ≡ 0 = eqb-true p 0 (sym (has-first p) ∙ h) in
+      leg-make n (freshBoard n) small fresh-wide fresh-routed p 0 (omega arith) (rest 0 (omega arith) (λ e. omega arith) ∙ sym z))
+
+  fresh-sets : (y : ℕ) → y < 64 → setOk n (freshBoard n) y ≡ true
+  unfolding setOk freshSet
+  fresh-sets y l =
+      decided (inner n y) (λ e. rw (fresh-set y l, e, fresh-off y e) fresh-leg) (λ e. rw (fresh-set y l, e))
+
+  pub fresh-formed : Formed n (freshBoard n)
+  unfolding markOk
+  fresh-formed = record { route = fresh-routed; sets = fresh-sets; marks = λ y l. rw (has-none y) }
+
+-- the fresh state is in form
+pub fresh-in-form : (n : ℕ) → 2 ≤ n → n ≤ 64 → inForm n (freshState n) ≡ true
+fresh-in-form n two small =
+    rw (fresh-is n two small) (in-form-of n (stateOf (set (replicate 64 0) 1 (n - 1)) 2 (freshSets n) 0 (replicate 64 0) 0 0) small (fresh-wide n two small)
+    (record { board = fresh-formed n two small; levels = record { most = omega arith; held = λ i h. absurd (omega arith); rise = λ i h. absurd (omega arith); past = λ i h l. getD-replicate 64 i 0 0 l } }))
+
+-- and its places are leg 0 of every node but the ends
+pub fresh-open : (n : ℕ) → 2 ≤ n → n ≤ 64 → (y q : ℕ) → y < 64 → openAt (boardOf (freshState n)) y q ≡ (inner n y && eqb q 0)
+unfolding openAt freshSet
+fresh-open n two small y q l =
+    rw (fresh-is n two small, fresh-set n two small y l) (go (inner n y))
+  where
+    go : (t : Bool) → has (cond t 1 0) q ≡ (t && eqb q 0)
+    go true = has-first q
+    go false = has-none q

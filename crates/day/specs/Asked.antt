@@ -1,0 +1,106 @@
+-- What the refusals give the theorems: the jobs of a sheet that 1 to 4 do not refuse, and the tables of one that 5 does not refuse either.
+use Prim.Native.Nat.{ℕ, zero, suc, _+_, _-_, _≤_, _<_}
+use mathlib.Core.Path.{_≡_, refl, sym, ap, _∙_, subst}
+use mathlib.Core.Bool.{true, false, not, _&&_, _||_}
+use mathlib.Core.List.{List}
+use mathlib.Core.Logic.{⊎-elim, _⊎_, inl, inr, _≢_}
+use native.Mathlib.Omega.{arith}
+use lib.Dec.{leb, ltb, eqb}
+use borrow.Author.Tests.{not-true, leb-true, ltb-true, ltb-false, eqb-true, eqb-false, ne-eqb}
+use Rattle.laws.specs.Logic.{decided, and-true, or-false}
+use Rattle.laws.specs.Lists.{In, here, there}
+use Rattle.laws.specs.Choice.{or-else-zero, unless-zero}
+use Rattle.laws.specs.Below.{below-at}
+use Rattle.laws.specs.Table.{At, in-tab}
+use Rattle.sheet.specs.Rule.{isInner}
+use Rattle.sheet.specs.Section.{nOf, mOf}
+use Rattle.rules.specs.Day.{downFrom}
+use Rattle.rules.specs.Asked.{Shortest, Triangle, OneEnd, Proper}
+use Rattle.rules.specs.declared.Job.the-variants.{Transfer}
+use Rattle.day.specs.Jobs.{jobIn, loadOk, jobFine}
+use Rattle.day.specs.Twice.{clash, apartAt, apart}
+use Rattle.day.specs.Fit.{fine-job}
+use Rattle.day.specs.Tables.{shortest, shortestLine, shortestRow, triangle}
+use Rattle.day.specs.Refuse.{secondsOf, metresOf, refusal14, refusal15, fine14}
+use Rattle.day.specs.Tell.{dayOf}
+
+-- ---- the nodes of a transfer
+
+down-in : (x m : ℕ) → 1 ≤ x → x ≤ m → In x (downFrom m)
+down-in x zero a b = absurd (omega arith)
+down-in x (suc m) a b =
+    decided (eqb x (suc m))
+    (λ e. subst (λ (v : ℕ). In v (downFrom (suc m))) (sym (eqb-true x (suc m) e)) here)
+    (λ e. let n = eqb-false x (suc m) e in there (down-in x m a (omega (arith, n))))
+
+inner-in : (n x : ℕ) → isInner n x ≡ true → In x (downFrom (n - 2))
+inner-in n x e = let p = and-true (leb 1 x) (leb x (n - 2)) e in down-in x (n - 2) (leb-true 1 x (p .0)) (leb-true x (n - 2) (p .1))
+
+pub proper : (s : List ℕ) → refusal14 s ≡ 0 → Proper (dayOf s)
+proper s h = record {
+  ends = λ a b w i.
+      let p = in-tab (mOf s) (jobIn s) i in
+      let q : jobFine (nOf s) (Transfer a b w) ≡ true = ap (jobFine (nOf s)) (sym (p .is)) ∙ fine-job s (fine14 s h) (p .k) (p .low) in
+      let r = and-true (isInner (nOf s) a && isInner (nOf s) b) (not (eqb a b)) (and-true _ (loadOk w) q .0) in
+      let t = and-true (isInner (nOf s) a) (isInner (nOf s) b) (r .0) in
+      (inner-in (nOf s) a (t .0), inner-in (nOf s) b (t .1), eqb-false a b (not-true (eqb a b) (r .1)));
+}
+
+-- ---- a node has at most one transfer end
+
+-- two transfers are one, or have no node in common
+abbrev Two : ℕ → ℕ → ℕ → ℕ → ℕ → ℕ → Type 0
+Two a b w c d v = ((a ≡ c) × (b ≡ d) × (w ≡ v)) ⊎ ((a ≢ c) × (a ≢ d) × (b ≢ c) × (b ≢ d))
+
+module _ (s : List ℕ) (h : refusal14 s ≡ 0) where
+  pair : (k j : ℕ) → k < mOf s → j < k → clash (jobIn s k) (jobIn s j) ≡ false
+  unfolding refusal14 apart
+  pair k j a b =
+      not-true (clash (jobIn s k) (jobIn s j))
+      (below-at k j (λ j. not (clash (jobIn s k) (jobIn s j)))
+      (below-at (mOf s) k (apartAt (jobIn s)) (unless-zero _ 3 (or-else-zero _ _ h .1)) a) b)
+
+  differ : (k j : ℕ) {a b w c d v : ℕ} → k < mOf s → j < k → jobIn s k ≡ Transfer a b w → jobIn s j ≡ Transfer c d v
+      → (a ≢ c) × (a ≢ d) × (b ≢ c) × (b ≢ d)
+  unfolding clash
+  differ k j {a} {b} {w} {c} {d} {v} l m p q =
+      let t : ((eqb c a || eqb d a) || (eqb c b || eqb d b)) ≡ false = sym (λ u. clash (p u) (q u)) ∙ pair k j l m in
+      let x = or-false (eqb c a || eqb d a) (eqb c b || eqb d b) t in
+      let y = or-false (eqb c a) (eqb d a) (x .0) in
+      let z = or-false (eqb c b) (eqb d b) (x .1) in
+      (λ e. eqb-false c a (y .0) (sym e), λ e. eqb-false d a (y .1) (sym e), λ e. eqb-false c b (z .0) (sym e), λ e. eqb-false d b (z .1) (sym e))
+
+  two : {a b w c d v : ℕ} → In (Transfer a b w) (dayOf s .jobs) → In (Transfer c d v) (dayOf s .jobs) → Two a b w c d v
+  two {a} {b} {w} {c} {d} {v} i j = go (in-tab (mOf s) (jobIn s) i) (in-tab (mOf s) (jobIn s) j)
+    where
+      go : At (mOf s) (jobIn s) (Transfer a b w) → At (mOf s) (jobIn s) (Transfer c d v) → Two a b w c d v
+      go x y =
+          decided (ltb (x .k) (y .k))
+          (λ e. let z = differ (y .k) (x .k) (y .low) (ltb-true (x .k) (y .k) e) (y .is) (x .is) in
+          inr (λ u. z .0 (sym u), λ u. z .2 (sym u), λ u. z .1 (sym u), λ u. z .3 (sym u)))
+          (λ e. decided (ltb (y .k) (x .k))
+          (λ f. inr (differ (x .k) (y .k) (x .low) (ltb-true (y .k) (x .k) f) (x .is) (y .is)))
+          (λ f. let k : x .k ≡ y .k = omega (arith, ltb-false (x .k) (y .k) e, ltb-false (y .k) (x .k) f) in
+          let r : Transfer a b w ≡ Transfer c d v = sym (x .is) ∙ ap (jobIn s) k ∙ y .is in
+          inl (cc, cc, cc)))
+
+  pub one-end : OneEnd (dayOf s .jobs)
+  one-end = record {
+    firsts = λ a b b′ w w′ i j. ⊎-elim (λ u. (u .1, u .2)) (λ u. absurd (u .0 refl)) (two i j);
+    seconds = λ a a′ b w w′ i j. ⊎-elim (λ u. (u .0, u .2)) (λ u. absurd (u .3 refl)) (two i j);
+    apart = λ a b c w w′ i j. ⊎-elim (λ u. proper s h .ends a b w i .2 (sym (u .1))) (λ u. u .1 refl) (two i j);
+  }
+
+-- ---- the triangle rule
+
+shorter : (n : ℕ) (t : ℕ → ℕ → ℕ) → triangle n t ≡ true → Shortest n t
+unfolding triangle shortestRow shortestLine
+shorter n t e i j k a b c ij jk ik =
+    let p : shortest t i j k ≡ true = below-at n k (shortest t i j) (below-at n j (shortestLine n t i) (below-at n i (shortestRow n t) e a) b) c in
+    leb-true (t i k) (t i j + t j k) (rw (ne-eqb i j ij, ne-eqb j k jk, ne-eqb i k ik) at p)
+
+pub short-tables : (s : List ℕ) → refusal15 s ≡ 0 → Triangle (dayOf s)
+unfolding refusal15
+short-tables s h =
+    let p = and-true (triangle (nOf s) (secondsOf s)) (triangle (nOf s) (metresOf s)) (unless-zero _ 4 (or-else-zero _ _ h .1)) in
+    record { seconds = shorter (nOf s) (secondsOf s) (p .0); metres = shorter (nOf s) (metresOf s) (p .1) }

@@ -1,0 +1,29 @@
+-- The sheet of document 01 as bytes, with the numbers that its examples alter.
+use Prim.Native.Nat.{ℕ, _/_, _%_}
+use mathlib.Core.List.{List, [], _∷_}
+
+-- a word before the rest, the lowest byte first
+infixr 40 _▸_
+abbrev pub _▸_ : ℕ → List ℕ → List ℕ
+w ▸ r = w % 256 ∷ w / 256 % 256 ∷ w / 65536 % 256 ∷ w / 16777216 % 256 ∷ r
+
+-- section 3 of the paper: one transfer, from 1 to 2, of load 2
+abbrev pub paperJobs : List ℕ → List ℕ
+paperJobs r = 1 ▸ 3 ▸ 1 ▸ 2 ▸ 2 ▸ r
+
+-- section 4 or 5: the 16 numbers, with the one from node 3 to node 0
+abbrev pub tableWith : ℕ → List ℕ → List ℕ
+tableWith back r = 16 ▸ 0 ▸ 10 ▸ 20 ▸ 30 ▸ 10 ▸ 0 ▸ 10 ▸ 20 ▸ 20 ▸ 10 ▸ 0 ▸ 10 ▸ back ▸ 20 ▸ 10 ▸ 0 ▸ r
+
+-- section 6: the eight steps of the paper, behind their count
+abbrev pub stepsWith : ℕ → List ℕ
+stepsWith count = count ▸ 5 ▸ 0 ▸ 0 ▸ 6 ▸ 0 ▸ 0 ▸ 1 ▸ 0 ▸ 2 ▸ 5 ▸ 0 ▸ 0 ▸ 1 ▸ 2 ▸ 1 ▸ 1 ▸ 0 ▸ 1 ▸ 5 ▸ 0 ▸ 0 ▸ 7 ▸ 0 ▸ 0 ▸ []
+
+-- the sheet with its limits, the latest of nodes 2 and 3, and what stands behind the nodes
+abbrev pub sheetOf : ℕ → ℕ → ℕ → ℕ → List ℕ → List ℕ
+sheetOf capacity limit latest2 latest3 r =
+    2 ▸ capacity ▸ limit ▸ 4 ▸ 0 ▸ 0 ▸ 0 ▸ 0 ▸ 100 ▸ 5 ▸ 0 ▸ latest2 ▸ 5 ▸ 0 ▸ latest3 ▸ 0 ▸ r
+
+-- the numbers that P1 to P12 alter: capacity, metre limit, latest of node 2, latest of node 3. The paper's are 2, 60, 25, 100
+abbrev pub sheetWith : ℕ → ℕ → ℕ → ℕ → List ℕ
+sheetWith capacity limit latest2 latest3 = sheetOf capacity limit latest2 latest3 (paperJobs (tableWith 30 (tableWith 30 (stepsWith 8))))

@@ -1,0 +1,24 @@
+-- The inner nodes are those from 1 to n − 2.
+use Prim.Native.Nat.{ℕ, zero, suc, _-_, _≤_, _<_}
+use native.Mathlib.Omega.{arith}
+use mathlib.Core.Logic.{⊎-elim}
+use lib.Dec.{T, eqb, eqb→eq}
+use Rattle.laws.specs.Logic.{tf, or-l, or-r, or-e, neqb}
+use Rattle.laws.specs.Lists.{mem, In, in-mem}
+use Rattle.rules.specs.Day.{Day, downFrom, inner}
+
+pub down-mem : (m y : ℕ) → T (mem y (downFrom m)) → (1 ≤ y) × (y ≤ m)
+down-mem zero y h = absurd h
+down-mem (suc m) y h =
+    ⊎-elim (λ e. let q = eqb→eq (suc m) y e in (omega (arith, q), omega (arith, q))) (λ k. let q = down-mem m y k in (q .0, omega (arith, q)))
+    (or-e (eqb (suc m) y) (mem y (downFrom m)) h)
+
+pub mem-down : (m y : ℕ) → 1 ≤ y → y ≤ m → T (mem y (downFrom m))
+mem-down zero y a b = absurd (omega arith)
+mem-down (suc m) y a b =
+    ⊎-elim (or-l (eqb (suc m) y) (mem y (downFrom m))) (λ n. let q = neqb (suc m) y n in or-r (eqb (suc m) y) (mem y (downFrom m)) (mem-down m y a (omega arith)))
+    (tf (eqb (suc m) y))
+
+-- an inner node is neither end
+pub inner-low : (d : Day) {y : ℕ} → In y (inner d) → (1 ≤ y) × (suc y < d .n)
+inner-low d {y} i = let u = down-mem (d .n - 2) y (in-mem i) in (u .0, omega (arith, u))

@@ -1,0 +1,63 @@
+use mathlib.Core.Path.{_≡_, sym, ap, _∙_}
+use Prim.Native.Nat.{ℕ, _≤_, _-_}
+use Rattle.trail.specs.Trail.{shrunk}
+use Rattle.trail.specs.TrailLaws.{shrunk-none, shrunk-next}
+use native.Mathlib.Omega.{arith}
+use Rattle.trail.proofs.records.needed.Statement.{statement}
+use Rattle.trail.proofs.records.needed.Tie as tie
+
+abbrev Inv-loop : tie.InvT-loop
+Inv-loop old new k₀ y₀ k y = (y ≤ 64) × (k ≤ y) × (k ≡ shrunk old new y)
+
+abbrev μ-loop : tie.MeasureT-loop
+μ-loop old new k₀ y₀ k y = 64 - y
+
+loop-holds : tie.Need-loop-holds Inv-loop μ-loop
+loop-holds c = (omega arith, omega arith, shrunk-none _ _)
+
+mul-one-more : tie.Need-mul-one-more Inv-loop μ-loop
+mul-one-more c = omega arith
+
+element-copy-out-one-more : tie.Need-element-copy-out-one-more Inv-loop μ-loop
+element-copy-out-one-more c = omega arith
+
+mul-one-more-2 : tie.Need-mul-one-more-2 Inv-loop μ-loop
+mul-one-more-2 c = omega arith
+
+element-copy-out-one-more-2 : tie.Need-element-copy-out-one-more-2 Inv-loop μ-loop
+element-copy-out-one-more-2 c = omega arith
+
+one-more-requires : tie.Need-one-more-requires Inv-loop μ-loop
+one-more-requires c κs = omega arith
+
+add-y : tie.Need-add-y Inv-loop μ-loop
+add-y c = omega arith
+
+loop-less : tie.Need-loop-less Inv-loop μ-loop
+loop-less c = omega arith
+
+loop-again : tie.Need-loop-again Inv-loop μ-loop
+loop-again c = let v = c .before .before .before .before .loop .inv in (omega arith, omega (arith, c .one-more .ensures .1), shrunk-next _ _ _ (v .2) (c .one-more .ensures .0))
+
+returns : tie.Need-returns Inv-loop μ-loop
+returns c =
+    let a = c .before .before .args in
+    let e : c .before .loop .y ≡ 64 = omega arith in
+    (c .before .loop .inv .2 ∙ ap (λ (y : ℕ). shrunk (a .old .now) (a .new .now) y) e, omega arith)
+
+pub needed-spec : {M : Type 1} → statement M
+needed-spec =
+    tie.close
+    (tie.spec
+    Inv-loop
+    μ-loop
+    loop-holds
+    mul-one-more
+    element-copy-out-one-more
+    mul-one-more-2
+    element-copy-out-one-more-2
+    one-more-requires
+    add-y
+    loop-less
+    loop-again
+    returns)

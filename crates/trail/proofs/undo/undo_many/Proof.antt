@@ -1,0 +1,107 @@
+use mathlib.Core.Path.{_≡_, refl, sym, ap, _∙_}
+use mathlib.Core.Bool.{true, false}
+use Prim.Native.Nat.{_≤_, _-_}
+use borrow.Author.Tests.{not-true, not-false}
+use Rattle.board.specs.Board.{board}
+use Rattle.board.specs.FormLaws.{Sound}
+use Rattle.trail.specs.Trail.{roomOf, firstOf, secondOf}
+use Rattle.trail.specs.Undo.{undoMany}
+use Rattle.trail.specs.UndoLaws.{many-none, many-on, many-stop, one-next}
+use native.Mathlib.Omega.{arith}
+use Rattle.trail.proofs.undo.undo_many.Statement.{statement}
+use Rattle.trail.proofs.undo.undo_many.Tie as tie
+
+abbrev Inv-loop : tie.InvT-loop
+Inv-loop route₀ sets₀ stops marks n records base trail s₀ m₀ left₀ route sets s m left = Sound n (board route s sets m) × (base ≤ left) × (left ≤ records) × (undoMany (left - base) n (board route s sets m) left trail ≡ undoMany (records - base) n (board route₀ stops sets₀ marks) records trail)
+
+abbrev μ-loop : tie.MeasureT-loop
+μ-loop route₀ sets₀ stops marks n records base trail s₀ m₀ left₀ route sets s m left = left
+
+loop-holds : tie.Need-loop-holds Inv-loop μ-loop
+loop-holds c = let h = c .before .pre in (h .0, h .1, omega arith, refl)
+
+sub-left : tie.Need-sub-left Inv-loop μ-loop
+sub-left c = omega arith
+
+mul-undo-one : tie.Need-mul-undo-one Inv-loop μ-loop
+unfolding roomOf
+mul-undo-one c = omega arith
+
+mul-undo-one-2 : tie.Need-mul-undo-one-2 Inv-loop μ-loop
+unfolding roomOf
+mul-undo-one-2 c = omega arith
+
+shared-slice-read-undo-one : tie.Need-shared-slice-read-undo-one Inv-loop μ-loop
+unfolding roomOf
+shared-slice-read-undo-one c = omega arith
+
+mul-undo-one-3 : tie.Need-mul-undo-one-3 Inv-loop μ-loop
+unfolding roomOf
+mul-undo-one-3 c = omega arith
+
+add-undo-one : tie.Need-add-undo-one Inv-loop μ-loop
+unfolding roomOf
+add-undo-one c = omega arith
+
+mul-undo-one-4 : tie.Need-mul-undo-one-4 Inv-loop μ-loop
+unfolding roomOf
+mul-undo-one-4 c = omega arith
+
+shared-slice-read-undo-one-2 : tie.Need-shared-slice-read-undo-one-2 Inv-loop μ-loop
+unfolding roomOf
+shared-slice-read-undo-one-2 c = omega arith
+
+undo-one-requires : tie.Need-undo-one-requires Inv-loop μ-loop
+undo-one-requires c κs = c .before .before .before .before .before .loop .inv .0
+
+returns : tie.Need-returns Inv-loop μ-loop
+unfolding firstOf secondOf
+returns c =
+    let o = c .before .before in
+    let l = o .before .before .before .before .before .before in
+    let v = l .loop .inv in
+    sym (v .3) ∙ many-stop _ _ _ _ _ (l .loop .left) _ (o .before .before .before .before .before .loop-test .taken) (o .undo-one .ensures) (not-true _ (c .if1 .taken))
+
+loop-less : tie.Need-loop-less Inv-loop μ-loop
+loop-less c = omega arith
+
+loop-again : tie.Need-loop-again Inv-loop μ-loop
+unfolding firstOf secondOf
+loop-again c =
+    let o = c .before .before in
+    let l = o .before .before .before .before .before .before in
+    let v = l .loop .inv in
+    let h = o .before .before .before .before .before .loop-test .taken in (
+      one-next _ _ (l .before .before .args .trail .now) _ _ _ _ (v .0) (o .undo-one .ensures),
+      omega arith,
+      omega arith,
+      sym (many-on _ _ _ _ _ (l .loop .left) _ h (o .undo-one .ensures) (not-false _ (c .if1 .left))) ∙ v .3,
+    )
+
+returns-2 : tie.Need-returns-2 Inv-loop μ-loop
+returns-2 c =
+    let l = c .before in
+    let v = l .loop .inv in
+    let z : l .loop .left - l .before .before .args .base ≡ 0 = omega arith in
+    sym (v .3) ∙ rw z (many-none _ _ _ _)
+
+pub undo-many-spec : {M : Type 1} → statement M
+undo-many-spec =
+    tie.close
+    (tie.spec
+    Inv-loop
+    μ-loop
+    loop-holds
+    sub-left
+    mul-undo-one
+    mul-undo-one-2
+    shared-slice-read-undo-one
+    mul-undo-one-3
+    add-undo-one
+    mul-undo-one-4
+    shared-slice-read-undo-one-2
+    undo-one-requires
+    returns
+    loop-less
+    loop-again
+    returns-2)

@@ -1,0 +1,37 @@
+use mathlib.Core.Path.{_≡_, refl, sym, ap, _∙_}
+use mathlib.Core.Bool.{true, false, not, _&&_}
+use lib.Dec.{leb, eqb}
+use borrow.Author.Tests.{not-true, not-false}
+use Rattle.board.specs.Board.{board, routeOf}
+use Rattle.board.specs.Change.{unmarked}
+use Rattle.trail.specs.Undo.{fitsMarked}
+use Rattle.trail.specs.UndoLaws.{undone-no, undone-yes, marked-test}
+use borrow.Author.Needs.{needs}
+use native.Mathlib.Omega.{arith}
+use Rattle.trail.proofs.undo.undo_marked.Statement.{statement}
+use Rattle.trail.proofs.undo.undo_marked.Tie as tie
+
+fits-is : (c : tie.After-has) → let a = c .before .before .args in
+    fitsMarked (board (a .route .now) (a .stops) (a .sets .now) (a .marks)) (a .x) (a .w) ≡ leb (a .stops) (c .before .position .result) && (c .has .result && eqb (a .w) 0)
+unfolding routeOf
+fits-is c = marked-test _ _ _ _ (c .before .before .pre) ∙ rw (c .has .ensures, c .before .position .ensures) refl
+
+position-requires : tie.Need-position-requires
+position-requires c κs = (omega (arith, c .pre .small, c .pre .form .route .most), c .pre .wide .route)
+
+has-requires : tie.Need-has-requires
+has-requires c κs = search needs
+
+returns : tie.Need-returns
+returns c = undone-no _ _ (fits-is (c .before) ∙ not-true _ (c .if1 .taken))
+
+without-requires : tie.Need-without-requires
+without-requires c κs = search needs
+
+returns-2 : tie.Need-returns-2
+unfolding unmarked
+returns-2 c = rw (c .without .ensures) (undone-yes _ _ (fits-is (c .before .before) ∙ not-false _ (c .before .if1 .left)))
+
+pub undo-marked-spec : {M : Type 1} → statement M
+undo-marked-spec =
+    tie.close (tie.spec position-requires has-requires returns without-requires returns-2)

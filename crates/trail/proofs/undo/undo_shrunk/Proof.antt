@@ -1,0 +1,81 @@
+use mathlib.Core.Path.{_≡_, refl, sym, ap, _∙_}
+use mathlib.Core.Bool.{true, false, not, _&&_}
+use Prim.Native.Nat.{_<_}
+use borrow.Author.Tests.{not-true, not-false}
+use Rattle.board.specs.Board.{board, legsOf, setOf, inner}
+use Rattle.board.specs.Change.{putSet}
+use Rattle.board.specs.FormLaws.{inner-in}
+use Rattle.trail.specs.Undo.{fitsShrunk}
+use Rattle.trail.specs.UndoLaws.{undone-no, undone-yes, shrunk-out, shrunk-test}
+use borrow.Author.Needs.{needs}
+use native.Mathlib.Omega.{arith}
+use Rattle.trail.proofs.undo.undo_shrunk.Statement.{statement}
+use Rattle.trail.proofs.undo.undo_shrunk.Tie as tie
+
+node : (c : tie.Else1) → inner (c .before .before .args .n) (c .before .before .args .x) ≡ true
+node c = sym (c .before .inner .ensures) ∙ not-false _ (c .if1 .left)
+
+low : (c : tie.Else1) → c .before .before .args .x < 64
+low c = omega (arith, inner-in _ _ (node c) .1, c .before .before .pre .small)
+
+fits-is : (c : tie.After-grows) → let a = c .before .before .before .before .before .before .args in
+    fitsShrunk (a .n) (board (a .route .now) (a .stops) (a .sets .now) (a .marks)) (a .x) (a .w) ≡ not (c .before .has .result) && c .grows .result
+unfolding legsOf setOf
+fits-is c =
+    let e = c .before .before .before .before in
+    shrunk-test _ _ _ _ (e .before .before .pre) (node e)
+    ∙ rw (c .grows .ensures, c .before .has .ensures, c .before .before .before .word .ensures) refl
+
+inner-requires : tie.Need-inner-requires
+inner-requires c κs = search needs
+
+returns : tie.Need-returns
+returns c = undone-no _ _ (shrunk-out _ _ _ _ (sym (c .before .inner .ensures) ∙ not-true _ (c .if1 .taken)))
+
+sub-word : tie.Need-sub-word
+sub-word c = omega (arith, c .before .before .pre .form .route .two)
+
+word-requires : tie.Need-word-requires
+word-requires c κs = omega (arith, c .before .before .pre .small, c .before .before .pre .form .route .most)
+
+mul-v : tie.Need-mul-v
+mul-v c = omega (arith, low (c .before))
+
+element-copy-out-v : tie.Need-element-copy-out-v
+element-copy-out-v c = low (c .before)
+
+has-requires : tie.Need-has-requires
+has-requires c κs = search needs
+
+grows-requires : tie.Need-grows-requires
+grows-requires c κs = search needs
+
+returns-2 : tie.Need-returns-2
+returns-2 c = undone-no _ _ (fits-is (c .before) ∙ not-true _ (c .if2 .taken))
+
+mul-sets : tie.Need-mul-sets
+mul-sets c = omega (arith, low (c .before .before .before .before .before))
+
+element-write-sets : tie.Need-element-write-sets
+element-write-sets c = low (c .before .before .before .before .before)
+
+returns-3 : tie.Need-returns-3
+unfolding putSet
+returns-3 c = undone-yes _ _ (fits-is (c .before) ∙ not-false _ (c .if2 .left))
+
+pub undo-shrunk-spec : {M : Type 1} → statement M
+undo-shrunk-spec =
+    tie.close
+    (tie.spec
+    inner-requires
+    returns
+    sub-word
+    word-requires
+    mul-v
+    element-copy-out-v
+    has-requires
+    grows-requires
+    returns-2
+    mul-sets
+    element-write-sets
+    returns-3)

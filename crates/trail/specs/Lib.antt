@@ -1,0 +1,9 @@
+-- What a reader must believe: Trail (records), Refusals, Undo, Steps.
+-- Their laws: TrailLaws, StepLaws (an accepted step, fact by fact).
+pub mod Trail
+pub mod Refusals
+pub mod Undo
+pub mod TrailLaws
+pub mod UndoLaws
+pub mod Steps
+pub mod StepLaws

@@ -1,0 +1,105 @@
+-- Each step refused and accepted, and what an accepted one knows.
+use mathlib.Core.Path.{_≡_, refl, ap, sym, _∙_}
+use mathlib.Core.Bool.{Bool, true, false, cond, not, _&&_, _||_}
+use mathlib.Core.List.{List}
+use Prim.Native.Nat.{ℕ, zero, suc, _+_, _-_, _≤_, _<_}
+use native.Mathlib.Omega.{arith}
+use lib.Dec.{eqb, leb, ltb}
+use borrow.Author.Tests.{eqb-true, eqb-false, eq-eqb, ne-eqb, ltb-true, leb-true, not-true, lt-ltb, le-ltb}
+use Rattle.laws.specs.Logic.{decided, and-true}
+use Rattle.laws.specs.Choice.{orElse, unless, or-else-zero, unless-zero}
+use Rattle.bits.specs.Places.{has}
+use Rattle.bits.specs.Members.{false-true}
+use Rattle.board.specs.Board.{Board, boardOf, onRoute, setOf, openAt, inner, legNode}
+use Rattle.board.specs.FormLaws.{InForm}
+use Rattle.board.specs.Keep.{Splits}
+use Rattle.board.specs.declared.State.{State}
+use Rattle.trail.specs.Refusals.{placeRefusal, excludeRefusal, requireRefusal}
+use Rattle.trail.specs.Steps.{Ran, answered, stepOf, baseOf, undoLevel, dropped, backStep}
+use Rattle.trail.specs.declared.Outcome.{Outcome}
+
+pub step-no : (k : ℕ) (s : State) (t : List ℕ) (ran : Ran) → (k ≡ 0 → ⊥) → stepOf k s t ran ≡ answered k s t
+unfolding stepOf
+step-no k s t ran h = rw (ne-eqb k 0 h)
+
+pub step-yes : (k : ℕ) (s : State) (t : List ℕ) (ran : Ran) → k ≡ 0 → stepOf k s t ran ≡ ran
+unfolding stepOf
+step-yes k s t ran h = rw h
+
+-- a step that gave 0 was not refused
+pub step-zero : (k : ℕ) (s : State) (t : List ℕ) (ran : Ran) → stepOf k s t ran .0 .answer ≡ 0 → k ≡ 0
+step-zero k s t ran e =
+    decided (eqb k 0) (λ q. eqb-true k 0 q)
+    (λ q. sym (ap (λ (r : Ran). r .0 .answer) (step-no k s t ran (eqb-false k 0 q))) ∙ e)
+
+-- ---- what an accepted step knows
+
+pub record Placeable (n : ℕ) (b : Board) (records room p x : ℕ) : Type 0 where
+  pub split : Splits n b p x
+  pub place : openAt b x p ≡ true
+  pub left : records < room
+
+pub placeable : (n : ℕ) (b : Board) (records room p x : ℕ) → placeRefusal n b records room p x ≡ 0 → Placeable n b records room p x
+unfolding placeRefusal
+placeable n b records room p x e =
+    let h = or-else-zero (unless (inner n x && legNode n p) 12) _ e in
+    let i = and-true (inner n x) (legNode n p) (unless-zero (inner n x && legNode n p) 11 (h .0)) in
+    let o = or-else-zero (unless (not (onRoute b x)) 13) _ (h .1) in
+    let q = or-else-zero (unless (onRoute b p) 14) _ (o .1) in
+    let r = or-else-zero (unless (openAt b x p) 15) _ (q .1) in
+    record {
+      split = record { node = i .0; leg = i .1; off = not-true (onRoute b x) (unless-zero (not (onRoute b x)) 12 (o .0)); on = unless-zero (onRoute b p) 13 (q .0) };
+      place = unless-zero (openAt b x p) 14 (r .0);
+      left = ltb-true records room (unless-zero (ltb records room) 16 (r .1));
+    }
+
+-- x may change: it is an inner node off the route
+pub record Free (n : ℕ) (b : Board) (x : ℕ) : Type 0 where
+  pub node : inner n x ≡ true
+  pub off : onRoute b x ≡ false
+
+or-left : (a b : Bool) → a || b ≡ true → a ≡ false → b ≡ true
+or-left true b e f = absurd (false-true (sym f))
+or-left false b e f = e
+
+pub excludable : (n : ℕ) (b : Board) (records room : ℕ) (owed : Bool) (x : ℕ) → excludeRefusal n b records room owed x ≡ 0
+    → Free n b x × ((setOf b x ≡ 0 → ⊥) → records < room)
+unfolding excludeRefusal
+excludable n b records room owed x e =
+    let h = or-else-zero (unless (inner n x) 12) _ e in
+    let o = or-else-zero (unless (not (onRoute b x)) 13) _ (h .1) in
+    let w = or-else-zero (unless (not owed) 16) _ (o .1) in
+    let r = unless-zero (eqb (setOf b x) 0 || ltb records room) 16 (w .1) in (
+      record { node = unless-zero (inner n x) 11 (h .0); off = not-true (onRoute b x) (unless-zero (not (onRoute b x)) 12 (o .0)) },
+      λ d. ltb-true records room (or-left (eqb (setOf b x) 0) (ltb records room) r (ne-eqb (setOf b x) 0 d)),
+    )
+
+pub requirable : (n : ℕ) (b : Board) (records room x : ℕ) → requireRefusal n b records room x ≡ 0
+    → Free n b x × (has (b .marks) x ≡ false → records < room)
+unfolding requireRefusal
+requirable n b records room x e =
+    let h = or-else-zero (unless (inner n x) 12) _ e in
+    let o = or-else-zero (unless (not (onRoute b x)) 13) _ (h .1) in
+    let r = unless-zero (has (b .marks) x || ltb records room) 16 (o .1) in (
+      record { node = unless-zero (inner n x) 11 (h .0); off = not-true (onRoute b x) (unless-zero (not (onRoute b x)) 12 (o .0)) },
+      λ d. ltb-true records room (or-left (has (b .marks) x) (ltb records room) r d),
+    )
+
+-- ---- stepping back
+
+pub base-low : (n : ℕ) (s : State) → InForm n s → 0 < s .depth → baseOf s ≤ s .records
+unfolding baseOf
+base-low n s f h = f .levels .held (s .depth - 1) (omega arith)
+
+pub back-none : (n : ℕ) (s : State) (t : List ℕ) → s .depth < 1 → backStep n s t ≡ answered 18 s t
+unfolding backStep orElse
+back-none n s t h = rw (le-ltb 0 (s .depth) (omega arith)) (step-no 18 s t _ (eqb-false 18 0 refl))
+
+module _ (n : ℕ) (s : State) (t : List ℕ) (f : Bool) (b : Board) (h : 0 < s .depth) (e : undoLevel n s t ≡ (f, b)) where
+  pub back-misfit : f ≡ false → backStep n s t ≡ answered 20 s t
+  unfolding backStep orElse
+  back-misfit z = rw (lt-ltb 0 (s .depth) h, e, z) (step-no 20 s t _ (eqb-false 20 0 refl))
+
+  pub back-fits : f ≡ true → backStep n s t ≡ answered 0 (dropped s b) t
+  unfolding backStep orElse
+  back-fits z = rw (lt-ltb 0 (s .depth) h, e, z) (step-yes 0 s t _ refl)

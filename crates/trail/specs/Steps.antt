@@ -1,0 +1,83 @@
+-- The steps on a state in form: the answer with the state, and the trail (01, Steps). Refused: state and trail as before.
+use mathlib.Core.Bool.{Bool, cond, _&&_}
+use mathlib.Core.List.{List}
+use Prim.Native.Nat.{ℕ, _+_, _-_}
+use lib.ListN.{getD, set}
+use lib.Dec.{eqb, leb, ltb}
+use Rattle.laws.specs.Choice.{orElse, unless}
+use Rattle.bits.specs.Places.{has, without}
+use Rattle.board.specs.Board.{Board, board, stateOf, boardOf, onBoard, setOf}
+use Rattle.board.specs.Change.{putSet, placed, marked}
+use Rattle.board.specs.declared.State.{State}
+use Rattle.trail.specs.Trail.{roomOf, pushed, shrunk, noteBelow}
+use Rattle.trail.specs.Refusals.{placeRefusal, excludeRefusal, requireRefusal}
+use Rattle.trail.specs.Undo.{Undone, undoMany}
+use Rattle.trail.specs.declared.Outcome.{Outcome}
+
+abbrev pub Ran : Type 0
+Ran = Outcome × List ℕ
+
+abbrev pub answered : ℕ → State → List ℕ → Ran
+answered k s t = (record { answer = k; state = s }, t)
+
+-- refused with a number, the state and the trail as before; accepted where it is 0
+unfoldable pub stepOf : ℕ → State → List ℕ → Ran → Ran
+stepOf refusal s t ran = cond (eqb refusal 0) ran (answered refusal s t)
+
+-- accepted with one record: the board changes, and the record is written
+unfoldable pub recorded : State → List ℕ → Board → ℕ → ℕ → Ran
+recorded s t b first second = answered 0 (onBoard s b (s .records + 1)) (pushed t (s .records) first second)
+
+-- step 1: place x after p. Kind 2: placed, with the node's set before
+unfoldable pub placeStep : ℕ → State → List ℕ → ℕ → ℕ → Ran
+placeStep n s t p x =
+    stepOf (placeRefusal n (boardOf s) (s .records) (roomOf t) p x) s t
+    (recorded s t (placed (boardOf s) p x) (512 + x) (setOf (boardOf s) x))
+
+-- step 2: close the place. Kind 1: set made smaller, with the node's set before
+unfoldable pub closeStep : ℕ → State → List ℕ → ℕ → ℕ → Ran
+closeStep n s t p x =
+    stepOf (placeRefusal n (boardOf s) (s .records) (roomOf t) p x) s t
+    (recorded s t (putSet (boardOf s) x (without (setOf (boardOf s) x) p)) (256 + x) (setOf (boardOf s) x))
+
+-- step 3: exclude, close all its places. None open: nothing changes
+unfoldable pub excludeStep : ℕ → State → List ℕ → Bool → ℕ → Ran
+excludeStep n s t owed x =
+    stepOf (excludeRefusal n (boardOf s) (s .records) (roomOf t) owed x) s t
+    (cond (eqb (setOf (boardOf s) x) 0) (answered 0 s t) (recorded s t (putSet (boardOf s) x 0) (256 + x) (setOf (boardOf s) x)))
+
+-- step 4: require. Already marked: nothing changes. Kind 3: marked, second word 0
+unfoldable pub requireStep : ℕ → State → List ℕ → ℕ → Ran
+requireStep n s t x =
+    stepOf (requireRefusal n (boardOf s) (s .records) (roomOf t) x) s t
+    (cond (has (s .marks) x) (answered 0 s t) (recorded s t (marked (boardOf s) x) (768 + x) 0))
+
+-- step 5, its sets known: refused where the records needed exceed the room left; else one record for each set that shrank
+unfoldable pub settleStep : State → List ℕ → List ℕ → Ran
+settleStep s t new =
+    stepOf (unless (leb (s .records + shrunk (s .sets) new 64) (roomOf t)) 17) s t
+    (answered 0 (onBoard s (board (s .route) (s .stops) new (s .marks)) (s .records + shrunk (s .sets) new 64)) (noteBelow (s .sets) new 64 (s .records, t) .1))
+
+-- step 6: open a level, which holds the record count. A 65th is refused
+unfoldable pub levelStep : State → List ℕ → Ran
+levelStep s t =
+    stepOf (unless (ltb (s .depth) 64) 18) s t
+    (answered 0 (stateOf (s .route) (s .stops) (s .sets) (s .marks) (set (s .levels) (s .depth) (s .records)) (s .depth + 1) (s .records)) t)
+
+-- the record count that the last level holds
+unfoldable pub baseOf : State → ℕ
+baseOf s = getD (s .levels) (s .depth - 1) 0
+
+-- the records above the last level undone
+unfoldable pub undoLevel : ℕ → State → List ℕ → Undone
+undoLevel n s t = undoMany (s .records - baseOf s) n (boardOf s) (s .records) t
+
+-- the last level dropped, on the board before it
+unfoldable pub dropped : State → Board → State
+dropped s b = stateOf (b .route) (b .stops) (b .sets) (b .marks) (set (s .levels) (s .depth - 1) 0) (s .depth - 1) (baseOf s)
+
+-- step 7: undo to the last level and drop it. Refused with none open, or where a record does not fit
+unfoldable pub backStep : ℕ → State → List ℕ → Ran
+backStep n s t =
+    stepOf (orElse (unless (ltb 0 (s .depth)) 18) (unless (undoLevel n s t .0) 20)) s t
+    (answered 0 (dropped s (undoLevel n s t .1)) t)

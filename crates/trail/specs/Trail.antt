@@ -1,0 +1,38 @@
+-- The trail: a lent slice of words, two to a record (01, The trail).
+use mathlib.Core.Bool.{Bool, cond}
+use mathlib.Core.List.{List}
+use Prim.Native.Nat.{ℕ, zero, suc, _+_, _*_, _/_}
+use lib.ListN.{length, getD, set}
+use lib.Dec.{eqb}
+
+-- room is half its length, rounded down
+unfoldable pub roomOf : List ℕ → ℕ
+roomOf t = length t / 2
+
+-- record i written, and its two words
+unfoldable pub pushed : List ℕ → ℕ → ℕ → ℕ → List ℕ
+pushed t i first second = set (set t (2 * i) first) (2 * i + 1) second
+
+unfoldable pub firstOf : List ℕ → ℕ → ℕ
+firstOf t i = getD t (2 * i) 0
+
+unfoldable pub secondOf : List ℕ → ℕ → ℕ
+secondOf t i = getD t (2 * i + 1) 0
+
+-- ---- settling: one per node whose set shrank, ascending, with the set as it was before
+
+-- how many of the first k sets differ
+unfoldable pub shrunk : List ℕ → List ℕ → ℕ → ℕ
+shrunk old new zero = 0
+shrunk old new (suc k) = shrunk old new k + cond (eqb (getD old k 0) (getD new k 0)) 0 1
+
+-- the record count and the trail
+abbrev pub Noted : Type 0
+Noted = ℕ × List ℕ
+
+unfoldable pub noteOne : ℕ → ℕ → ℕ → Noted → Noted
+noteOne w v y b = cond (eqb w v) b (b .0 + 1, pushed (b .1) (b .0) (256 + y) w)
+
+unfoldable pub noteBelow : List ℕ → List ℕ → ℕ → Noted → Noted
+noteBelow old new zero b = b
+noteBelow old new (suc k) b = noteOne (getD old k 0) (getD new k 0) k (noteBelow old new k b)

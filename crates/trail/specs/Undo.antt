@@ -1,0 +1,53 @@
+-- Undoing: when a record fits, and the board before it; newest first (01, The trail).
+use mathlib.Core.Bool.{Bool, true, false, cond, not, _&&_}
+use mathlib.Core.List.{List}
+use Prim.Native.Nat.{ℕ, zero, suc, _-_, _/_, _%_}
+use lib.ListN.{getD}
+use lib.Dec.{eqb}
+use Rattle.bits.specs.Places.{has, without, within}
+use Rattle.board.specs.Route.{indexOf}
+use Rattle.board.specs.Board.{Board, routeOf, onRoute, legsOf, setOf, inner}
+use Rattle.board.specs.Change.{putSet, unplaced, unmarked}
+use Rattle.trail.specs.Trail.{firstOf, secondOf}
+
+-- the second set strictly contains the first
+unfoldable pub strictly : ℕ → ℕ → Bool
+strictly v w = within v w && not (within w v)
+
+-- the stop before x
+unfoldable pub stopBefore : Board → ℕ → ℕ
+stopBefore b x = getD (b .route) (indexOf x (routeOf b) - 1) 0
+
+-- kind 1: the node is between 1 and n - 2, off the route, and the old set strictly contains the present one and names only legs
+unfoldable pub fitsShrunk : ℕ → Board → ℕ → ℕ → Bool
+fitsShrunk n b x w = (inner n x && not (onRoute b x)) && (strictly (setOf b x) w && within w (legsOf b))
+
+-- kind 2: the node is on the route, not an end, and the old set names only legs left once it is taken out, its predecessor among them
+unfoldable pub fitsPlaced : ℕ → Board → ℕ → ℕ → Bool
+fitsPlaced n b x w = (inner n x && onRoute b x) && (within w (without (legsOf b) x) && has w (stopBefore b x))
+
+-- kind 3: the node is off the route and marked, second word 0
+unfoldable pub fitsMarked : Board → ℕ → ℕ → Bool
+fitsMarked b x w = not (onRoute b x) && (has (b .marks) x && eqb w 0)
+
+-- whether it fits, and the board after
+abbrev pub Undone : Type 0
+Undone = Bool × Board
+
+unfoldable pub undone : Bool → Board → Board → Undone
+undone fits c b = cond fits (true, c) (false, b)
+
+-- the record with these two words: 256 × kind + node, and the old set or 0. No other first word fits
+unfoldable pub undoOne : ℕ → Board → ℕ → ℕ → Undone
+undoOne n b first w =
+    cond (eqb (first / 256) 1) (undone (fitsShrunk n b (first % 256) w) (putSet b (first % 256) w) b)
+    (cond (eqb (first / 256) 2) (undone (fitsPlaced n b (first % 256) w) (unplaced b (first % 256) w) b)
+    (cond (eqb (first / 256) 3) (undone (fitsMarked b (first % 256) w) (unmarked b (first % 256)) b)
+    (false, b)))
+
+-- the k newest of so many records, newest first, each against the board after the newer ones are undone, as far as they fit
+unfoldable pub undoMany : ℕ → ℕ → Board → ℕ → List ℕ → Undone
+undoMany zero n b records t = (true, b)
+undoMany (suc k) n b records t =
+    let o = undoOne n b (firstOf t (records - 1)) (secondOf t (records - 1)) in
+    cond (o .0) (undoMany k n (o .1) (records - 1) t) o
