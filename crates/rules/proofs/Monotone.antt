@@ -47,7 +47,8 @@ Monotone t =
 -- ---- how far a load reaches
 
 module _ (v : Van) (d : Day) (z : ℕ) (r e : List ℕ) (o W : Places) (over : Over d z r e o W) where
-  way-end : {w k k′ : ℕ} {A A′ B B′ A₁ B₁ : List ℕ} → Lies z e r A′ (k′ ∷ B′) A (k ∷ B) → T (room v d w A′ (k′ ∷ B′)) → Lies z e r A′ (k′ ∷ B′) A₁ B₁ → Way v d w A (k ∷ B) A₁ B₁
+  way-end : {w k k′ : ℕ} {A A′ B B′ A₁ B₁ : List ℕ} → Lies z e r A′ (k′ ∷ B′) A (k ∷ B) → T (room v d w A′ (k′ ∷ B′)) → Lies z e r A′ (k′ ∷ B′) A₁ B₁
+      → Way v d w A (k ∷ B) A₁ B₁
   way-end {w} m t l = let q = lies-one (over .nodes) m l in rw (← q .0, ← q .1) (Way.here (room-grows v d w (m .behind) (m .ahead) t))
 
   -- a way along the longer route is a way along the shorter one, from the leg in which it begins to the leg in which it ends
@@ -132,7 +133,8 @@ module _ (v : Van) (d : Day) (tri : Triangle d) (z : ℕ) (r e : List ℕ) (o W 
   clean-grows = all-mono (cleanFits v d y (q ∷ A′) (k′ ∷ B′)) (cleanFits v d y (p ∷ A) (k ∷ B)) (d .jobs) job (passes clean (there (there here)))
     where
       job : (j : Job) → T (cleanFits v d y (q ∷ A′) (k′ ∷ B′) j) → T (cleanFits v d y (p ∷ A) (k ∷ B) j)
-      job (Clean a w) = or-mono (not (eqb a y)) (legsBehind (room v d w) (q ∷ A′) (k′ ∷ B′)) (not (eqb a y)) (legsBehind (room v d w) (p ∷ A) (k ∷ B)) (λ t. t) (behind-grows (room v d w) (λ A A′ B B′. room-grows v d w) (l .behind) (l .ahead))
+      job (Clean a w) = or-mono (not (eqb a y)) (legsBehind (room v d w) (q ∷ A′) (k′ ∷ B′)) (not (eqb a y)) (legsBehind (room v d w) (p ∷ A) (k ∷ B))
+          (λ t. t) (behind-grows (room v d w) (λ A A′ B B′. room-grows v d w) (l .behind) (l .ahead))
       job (Soiled a w) = λ t. t
       job (Transfer a b w) = λ t. t
 
@@ -141,7 +143,8 @@ module _ (v : Van) (d : Day) (tri : Triangle d) (z : ℕ) (r e : List ℕ) (o W 
     where
       job : (j : Job) → T (soiledFits v d y (q ∷ A′) (k′ ∷ B′) j) → T (soiledFits v d y (p ∷ A) (k ∷ B) j)
       job (Clean a w) = λ t. t
-      job (Soiled a w) = or-mono (not (eqb a y)) (legsAhead (room v d w) (q ∷ A′) (k′ ∷ B′)) (not (eqb a y)) (legsAhead (room v d w) (p ∷ A) (k ∷ B)) (λ t. t) (ahead-grows (room v d w) (λ A A′ B B′. room-grows v d w) (l .behind) (l .ahead))
+      job (Soiled a w) = or-mono (not (eqb a y)) (legsAhead (room v d w) (q ∷ A′) (k′ ∷ B′)) (not (eqb a y)) (legsAhead (room v d w) (p ∷ A) (k ∷ B))
+          (λ t. t) (ahead-grows (room v d w) (λ A A′ B B′. room-grows v d w) (l .behind) (l .ahead))
       job (Transfer a b w) = λ t. t
 
   -- ---- the partner
@@ -157,8 +160,10 @@ module _ (v : Van) (d : Day) (tri : Triangle d) (z : ℕ) (r e : List ℕ) (o W 
 
   partner-grows : T (partnerPlaced v d (z ∷ r) o y (p ∷ A) (k ∷ B))
   partner-grows = meets-i v d (z ∷ r) o y (p ∷ A) (k ∷ B) (record {
-    first = λ b w i on. reach-grows v d z r e o W over (λ p k. eqb k b) (λ p k. eqb k b) (entered-there v d z r e o W over b on) w l (met .first b w i (longer b on));
-    second = λ a w i on. back-grows v d z r e o W over (λ p k. eqb p a) (λ p k. eqb p a) (left-there v d z r e o W over a on) w l (met .second a w i (longer a on));
+    first = λ b w i on. reach-grows v d z r e o W over (λ p k. eqb k b) (λ p k. eqb k b) (entered-there v d z r e o W over b on) w l
+        (met .first b w i (longer b on));
+    second = λ a w i on. back-grows v d z r e o W over (λ p k. eqb p a) (λ p k. eqb p a) (left-there v d z r e o W over a on) w l
+        (met .second a w i (longer a on));
   })
 
   neither-grows : T (neitherPlaced v d (z ∷ r) o y (p ∷ A) (k ∷ B))
