@@ -38,7 +38,8 @@ originAt rt p q₀ B q = cond (eqb q₀ q) p (origin rt p B q)
 origin-here : (rt : List ℕ) (p q : ℕ) (B : List ℕ) → originAt rt p q B q ≡ p
 origin-here rt p q B = rw (T→true (eqb q q) (eqb-refl q))
 
-origin-next : (rt : List ℕ) (p q₀ k : ℕ) (B : List ℕ) (q : ℕ) {b : Bool} → T (not (eqb q₀ q)) → mem k rt ≡ b → originAt rt p q₀ (k ∷ B) q ≡ originAt rt (cond b k p) k B q
+origin-next : (rt : List ℕ) (p q₀ k : ℕ) (B : List ℕ) (q : ℕ) {b : Bool} → T (not (eqb q₀ q)) → mem k rt ≡ b
+    → originAt rt p q₀ (k ∷ B) q ≡ originAt rt (cond b k p) k B q
 origin-next rt p q₀ k B q n e = rw (N→false (eqb q₀ q) n, e)
 
 -- it leaves the leg of the starting route in which the leg lies
@@ -76,11 +77,13 @@ leg-mem q c B h = left-on (leg-named q c [] B h .3)
 -- ---- the worked-out places and those of the run
 
 module _ (a : Plan) (z : ℕ) (e X : List ℕ) (y q : ℕ) where
-  worked-e : T (workedPlaces a (z ∷ e) X y q) → T (mem q (legStops (z ∷ e))) × T (not (mem y X)) × T (not (mem y (z ∷ e))) × T (a .places y (origin (a .route) z (z ∷ e) q))
+  worked-e : T (workedPlaces a (z ∷ e) X y q)
+      → T (mem q (legStops (z ∷ e))) × T (not (mem y X)) × T (not (mem y (z ∷ e))) × T (a .places y (origin (a .route) z (z ∷ e) q))
   unfolding workedPlaces
   worked-e h = (search (and-l, and-r), search (and-l, and-r), search (and-l, and-r), search (and-l, and-r))
 
-  worked-i : T (mem q (legStops (z ∷ e))) → T (not (mem y X)) → T (not (mem y (z ∷ e))) → T (a .places y (origin (a .route) z (z ∷ e) q)) → T (workedPlaces a (z ∷ e) X y q)
+  worked-i : T (mem q (legStops (z ∷ e))) → T (not (mem y X)) → T (not (mem y (z ∷ e))) → T (a .places y (origin (a .route) z (z ∷ e) q))
+      → T (workedPlaces a (z ∷ e) X y q)
   unfolding workedPlaces
   worked-i h i j k = search (and-i)
 
@@ -152,7 +155,8 @@ module _ (d : Day) (rt : List ℕ) (m m′ : Marks) (agree : (y : ℕ) → T (no
   unfolding owed
   owed-same x = decided (mem x rt) (λ e. rw e) (λ e. λ i. not (mem x rt) && (agree x (false→N (mem x rt) e) i || any (partnered (λ y. called-same y i) x) (d .jobs)))
 
-pub alive-same : (v : Van) (d : Day) (a b : Plan) → a .route ≡ b .route → ((x p : ℕ) → a .places x p ≡ b .places x p) → ((y : ℕ) → T (not (mem y (a .route))) → a .marks y ≡ b .marks y)
+pub alive-same : (v : Van) (d : Day) (a b : Plan) → a .route ≡ b .route → ((x p : ℕ) → a .places x p ≡ b .places x p)
+    → ((y : ℕ) → T (not (mem y (a .route))) → a .marks y ≡ b .marks y)
     → alive v d a ≡ alive v d b
 unfolding alive
 alive-same v d a b e places marks =

@@ -100,7 +100,8 @@ fresh-in-form d h = record {
   nodes = more {x = 0} (omega arith) (not-or-i (eqb (d .n - 1) 0) false (apart (d .n - 1) 0 (λ e. omega (arith, e))) tt) (more {x = d .n - 1} (omega arith) tt none);
   inside = λ y q t. mem-in y (inner d) (and-l (mem y (inner d)) (eqb q 0) t);
   off = λ y q t. let u = inner-low d (mem-in y (inner d) (and-l (mem y (inner d)) (eqb q 0) t)) in
-      not-or-i (eqb 0 y) (mem y ((d .n - 1) ∷ [])) (apart 0 y (λ e. omega (arith, u, e))) (not-or-i (eqb (d .n - 1) y) false (apart (d .n - 1) y (λ e. omega (arith, u, e))) tt);
+      not-or-i (eqb 0 y) (mem y ((d .n - 1) ∷ [])) (apart 0 y (λ e. omega (arith, u, e)))
+      (not-or-i (eqb (d .n - 1) y) false (apart (d .n - 1) y (λ e. omega (arith, u, e))) tt);
   leg = λ y q t. rw (eqb→eq q 0 (and-r (mem y (inner d)) (eqb q 0) t)) tt;
   marked = λ y t. absurd t;
 }

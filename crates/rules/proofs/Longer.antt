@@ -33,7 +33,8 @@ pub record Lies (z : ℕ) (e r A′ B′ A B : List ℕ) : Type 0 where
   pub behind : Sub A A′
   pub ahead : Sub B B′
 
-cut-one : {A B A₁ B₁ A₂ B₂ A′ B′ : List ℕ} → Cut A B A₁ B₁ → Cut A B A₂ B₂ → ((x : ℕ) → T (mem x B′) → T (not (mem x A′))) → Sub A₁ A′ → Sub B₁ B′ → Sub A₂ A′ → Sub B₂ B′ → (A₁ ≡ A₂) × (B₁ ≡ B₂)
+cut-one : {A B A₁ B₁ A₂ B₂ A′ B′ : List ℕ} → Cut A B A₁ B₁ → Cut A B A₂ B₂ → ((x : ℕ) → T (mem x B′) → T (not (mem x A′))) → Sub A₁ A′ → Sub B₁ B′
+    → Sub A₂ A′ → Sub B₂ B′ → (A₁ ≡ A₂) × (B₁ ≡ B₂)
 cut-one same same s a₁ b₁ a₂ b₂ = (refl, refl)
 cut-one (move c₁) (move c₂) s a₁ b₁ a₂ b₂ = cut-one c₁ c₂ s a₁ b₁ a₂ b₂
 cut-one {A′ = A′} same (move {k = k} {A = A} {B = B} c) s a₁ b₁ a₂ b₂ =
@@ -101,7 +102,8 @@ record Stands (o : Places) (z : ℕ) (r A′ : List ℕ) (k′ : ℕ) (B′ : Li
   past : Past o z (p ∷ A) A′
   rest : Within o p (k ∷ B) (k′ ∷ B′)
 
-stands : {o : Places} {z p q k′ : ℕ} {r A B A₀ B₀ A′ B′ : List ℕ} → Cut (q ∷ A₀) B₀ A′ (k′ ∷ B′) → Within o p B B₀ → Cut (z ∷ []) r (p ∷ A) B → Past o z (p ∷ A) (q ∷ A₀) → Stands o z r A′ k′ B′
+stands : {o : Places} {z p q k′ : ℕ} {r A B A₀ B₀ A′ B′ : List ℕ} → Cut (q ∷ A₀) B₀ A′ (k′ ∷ B′) → Within o p B B₀ → Cut (z ∷ []) r (p ∷ A) B
+    → Past o z (p ∷ A) (q ∷ A₀) → Stands o z r A′ k′ B′
 stands same (stop w) c u = record { p = _; A = _; k = _; B = _; cut = c; past = u; rest = stop w }
 stands same (extra t w) c u = record { p = _; A = _; k = _; B = _; cut = c; past = u; rest = extra t w }
 stands (move d) (stop w) c u = stands d w (cut-next c) (halt u)
