@@ -25,7 +25,15 @@ fn window(s: &[u8], at: Layout, x: usize, p: usize, k: usize, t: usize, last: i6
 }
 
 // Metres: a route of `total` metres with x put in between p and k. Nothing is taken away, so nothing can fall below 0.
-fn short_enough(s: &[u8], at: Layout, limit: usize, x: usize, p: usize, k: usize, total: usize) -> bool
+fn short_enough(
+    s: &[u8],
+    at: Layout,
+    limit: usize,
+    x: usize,
+    p: usize,
+    k: usize,
+    total: usize,
+) -> bool
     requires { ⌜ Laid (now s) at × (x < at .nodes) × (p < at .nodes) × (k < at .nodes) × (total < 1099511627776) × (limit < 1099511627776) ⌝ }
     ensures { λ r. ⌜ r ≡ inMetres (dayOf (now (s .entry))) limit x p k total ⌝ }
 {
@@ -33,7 +41,18 @@ fn short_enough(s: &[u8], at: Layout, limit: usize, x: usize, p: usize, k: usize
 }
 
 // The word without the place p of x where window or metres strike it.
-fn tried(s: &[u8], at: Layout, limit: usize, word: u64, x: usize, p: usize, k: usize, t: usize, last: i64, total: usize) -> u64
+fn tried(
+    s: &[u8],
+    at: Layout,
+    limit: usize,
+    word: u64,
+    x: usize,
+    p: usize,
+    k: usize,
+    t: usize,
+    last: i64,
+    total: usize,
+) -> u64
     requires { ⌜ Laid (now s) at × (x < at .nodes) × (p < at .nodes) × (k < at .nodes) × (t < 1099511627776) × (total < 1099511627776) × (limit < 1099511627776) ⌝ }
     ensures { λ r. ⌜ r ≡ struck word p (stands (dayOf (now (s .entry))) limit x p k t last total) ⌝ }
 {
@@ -45,7 +64,18 @@ fn tried(s: &[u8], at: Layout, limit: usize, word: u64, x: usize, p: usize, k: u
 }
 
 // The places of x that window and metres leave.
-pub fn stand(s: &[u8], at: Layout, limit: usize, word: u64, x: usize, route: &[usize; 64], e: &[usize; 64], l: &[i64; 64], legs: usize, total: usize) -> u64
+pub fn stand(
+    s: &[u8],
+    at: Layout,
+    limit: usize,
+    word: u64,
+    x: usize,
+    route: &[usize; 64],
+    e: &[usize; 64],
+    l: &[i64; 64],
+    legs: usize,
+    total: usize,
+) -> u64
     requires { ⌜ Laid (now s) at × (x < at .nodes) × Timed (at .nodes) (now route) (now e) (now l) legs total limit ⌝ }
     ensures { λ r. ⌜ Kept (now (route .entry)) 0 legs (standsAt (dayOf (now (s .entry))) limit (now (route .entry)) (now (e .entry)) (now (l .entry)) total x) word r ⌝ }
 {

@@ -13,11 +13,11 @@ ghost use Rattle.rules.specs.Settle.{round};
 ghost use Rattle.settle.specs.Sets.{placesOf, setsOf};
 ghost use Rattle.settle.specs.Ready.{Ready, Read, vanIn};
 ghost use Rattle.settle.specs.Round.{Kepts, Timed, standsAt, loadOk, loadsOk};
+use crate::Van;
+use crate::places::stand;
+use along::walks::Ride;
 use along::walks::backward;
 use along::walks::forward;
-use along::walks::Ride;
-use crate::places::stand;
-use crate::Van;
 use rules::Job;
 use sheet::Layout;
 
@@ -30,7 +30,14 @@ fn places(sets: &[u64; 64], x: usize) -> u64
 }
 
 // The places of x from which the ride can go back to the first leg, or to its partner.
-fn front(new: &mut [u64; 64], x: usize, route: &[usize; 64], h: &[usize; 64], legs: usize, ride: Ride)
+fn front(
+    new: &mut [u64; 64],
+    x: usize,
+    route: &[usize; 64],
+    h: &[usize; 64],
+    legs: usize,
+    ride: Ride,
+)
     requires { ⌜ (length (now new) ≡ 64) × Legs (now route) (now h) legs (ride .load) ⌝ }
     ensures { λ _. ⌜ Kepts (now (route .entry)) legs (λ y i. not (eqb x y) || ridesUp (now (route .entry)) (now (h .entry)) ride i) (now (new .entry)) (now (new .exit)) ⌝ }
 {
@@ -44,7 +51,14 @@ fn front(new: &mut [u64; 64], x: usize, route: &[usize; 64], h: &[usize; 64], le
 }
 
 // The places of x from which the ride can go on to the last leg, or to its partner.
-fn rear(new: &mut [u64; 64], x: usize, route: &[usize; 64], h: &[usize; 64], legs: usize, ride: Ride)
+fn rear(
+    new: &mut [u64; 64],
+    x: usize,
+    route: &[usize; 64],
+    h: &[usize; 64],
+    legs: usize,
+    ride: Ride,
+)
     requires { ⌜ (length (now new) ≡ 64) × Legs (now route) (now h) legs (ride .load) ⌝ }
     ensures { λ _. ⌜ Kepts (now (route .entry)) legs (λ y i. not (eqb x y) || ridesDown (now (route .entry)) (now (h .entry)) ride legs i) (now (new .entry)) (now (new .exit)) ⌝ }
 {
@@ -58,7 +72,15 @@ fn rear(new: &mut [u64; 64], x: usize, route: &[usize; 64], h: &[usize; 64], leg
 }
 
 // One job against the places of its nodes.
-fn strike_job(job: Job, capacity: usize, old: &[u64; 64], new: &mut [u64; 64], route: &[usize; 64], h: &[usize; 64], legs: usize)
+fn strike_job(
+    job: Job,
+    capacity: usize,
+    old: &[u64; 64],
+    new: &mut [u64; 64],
+    route: &[usize; 64],
+    h: &[usize; 64],
+    legs: usize,
+)
     requires { ⌜ (length (now old) ≡ 64) × (length (now new) ≡ 64) × Legs (now route) (now h) legs (loadOf job) ⌝ }
     ensures { λ _. ⌜ Kepts (now (route .entry)) legs (loadOk job (now (old .entry)) (now (route .entry)) (now (h .entry)) legs capacity) (now (new .entry)) (now (new .exit)) ⌝ }
 {
@@ -105,7 +127,16 @@ fn strike_job(job: Job, capacity: usize, old: &[u64; 64], new: &mut [u64; 64], r
 }
 
 // All jobs against the places of their nodes.
-fn strike_jobs(s: &[u8], at: Layout, capacity: usize, old: &[u64; 64], new: &mut [u64; 64], route: &[usize; 64], h: &[usize; 64], legs: usize)
+fn strike_jobs(
+    s: &[u8],
+    at: Layout,
+    capacity: usize,
+    old: &[u64; 64],
+    new: &mut [u64; 64],
+    route: &[usize; 64],
+    h: &[usize; 64],
+    legs: usize,
+)
     requires { ⌜ Laid (now s) at × (length (now old) ≡ 64) × (length (now new) ≡ 64) × Legs (now route) (now h) legs 0 ⌝ }
     ensures { λ _. ⌜ Kepts (now (route .entry)) legs (loadsOk (jobIn (now (s .entry))) (now (old .entry)) (now (route .entry)) (now (h .entry)) legs capacity (at .jobs)) (now (new .entry)) (now (new .exit)) ⌝ }
 {
@@ -119,7 +150,17 @@ fn strike_jobs(s: &[u8], at: Layout, capacity: usize, old: &[u64; 64], new: &mut
 }
 
 // Window and metres against the places of every node.
-fn stand_all(s: &[u8], at: Layout, limit: usize, old: &[u64; 64], route: &[usize; 64], e: &[usize; 64], l: &[i64; 64], legs: usize, total: usize) -> [u64; 64]
+fn stand_all(
+    s: &[u8],
+    at: Layout,
+    limit: usize,
+    old: &[u64; 64],
+    route: &[usize; 64],
+    e: &[usize; 64],
+    l: &[i64; 64],
+    legs: usize,
+    total: usize,
+) -> [u64; 64]
     requires { ⌜ Laid (now s) at × (length (now old) ≡ 64) × ((y : ℕ) → at .nodes ≤ y → getD (now old) y 0 ≡ 0) × Timed (at .nodes) (now route) (now e) (now l) legs total limit ⌝ }
     ensures { λ r. ⌜ Kepts (now (route .entry)) legs (standsAt (dayOf (now (s .entry))) limit (now (route .entry)) (now (e .entry)) (now (l .entry)) total) (now (old .entry)) r ⌝ }
 {
@@ -136,7 +177,18 @@ fn stand_all(s: &[u8], at: Layout, limit: usize, old: &[u64; 64], route: &[usize
 }
 
 // The words after a round.
-pub fn round(s: &[u8], at: Layout, van: Van, old: &[u64; 64], route: &[usize; 64], stops: usize, e: &[usize; 64], l: &[i64; 64], h: &[usize; 64], total: usize) -> [u64; 64]
+pub fn round(
+    s: &[u8],
+    at: Layout,
+    van: Van,
+    old: &[u64; 64],
+    route: &[usize; 64],
+    stops: usize,
+    e: &[usize; 64],
+    l: &[i64; 64],
+    h: &[usize; 64],
+    total: usize,
+) -> [u64; 64]
     requires { ⌜ Ready (now s) at (now route) stops (now old) 0 × Read (dayOf (now s)) (now route) stops (now e) (now l) (now h) total × (van .limit < 1099511627776) ⌝ }
     ensures { λ r. ⌜ r ≡ setsOf (round (vanIn van) (dayOf (now (s .entry))) (take stops (now (route .entry))) (placesOf (now (old .entry)))) ⌝ }
 {

@@ -6,13 +6,13 @@ ghost use lib.Dec.{eqb};
 ghost use Rattle.laws.specs.Below.{allBelow};
 ghost use Rattle.day.specs.Tell.{dayOf};
 ghost use Rattle.settle.specs.Ready.{Ready, Read, Settles, vanIn};
+use crate::Van;
+use crate::round::round;
 use along::loads::loads;
 use along::spots::spots;
 use along::times::lasts;
 use along::times::length;
 use along::times::starts;
-use crate::round::round;
-use crate::Van;
 use sheet::Layout;
 
 // Whether two arrays of sets are the same.
@@ -31,7 +31,18 @@ fn same(a: &[u64; 64], b: &[u64; 64]) -> bool
 }
 
 // The rounds, with E, L, H and the route's length at hand.
-fn rounds(s: &[u8], at: Layout, van: Van, route: &[usize; 64], stops: usize, sets: &mut [u64; 64], e: &[usize; 64], l: &[i64; 64], h: &[usize; 64], total: usize) -> usize
+fn rounds(
+    s: &[u8],
+    at: Layout,
+    van: Van,
+    route: &[usize; 64],
+    stops: usize,
+    sets: &mut [u64; 64],
+    e: &[usize; 64],
+    l: &[i64; 64],
+    h: &[usize; 64],
+    total: usize,
+) -> usize
     requires { ⌜ Ready (now s) at (now route) stops (now sets) 0 × Read (dayOf (now s)) (now route) stops (now e) (now l) (now h) total × (van .limit < 1099511627776) ⌝ }
     ensures { λ r. ⌜ Settles (vanIn van) (dayOf (now (s .entry))) (take stops (now (route .entry))) (now (sets .entry)) r (now (sets .exit)) ⌝ }
 {
