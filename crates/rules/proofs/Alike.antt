@@ -5,9 +5,8 @@ use Prim.Native.Nat.{ℕ}
 use native.Mathlib.Omega.{arith}
 use mathlib.Core.Bool.{Bool, cond, not, _&&_, _||_, and-true, or-true}
 use mathlib.Core.List.{List, [], _∷_}
-use mathlib.Core.Logic.{⊎-elim}
-use lib.Dec.{T, leb, eqb, eqb→eq, eqb-refl}
-use Rattle.laws.specs.Logic.{T→true, N→false, false→N, T-ext, decided, and-i, and-l, and-r, or-e}
+use lib.Dec.{T, leb, eqb, eqb-refl}
+use Rattle.laws.specs.Logic.{T→true, N→false, false→N, T-ext, decided, and-i, and-l, and-r}
 use Rattle.laws.specs.Lists.{mem, hd, all, any, Sub, nil, keep, skip, mem-hd, mem-ne}
 use Rattle.rules.specs.Day.{Day, Van, inner}
 use Rattle.rules.specs.Leg.{legStops, everyLeg}
@@ -24,8 +23,8 @@ use Rattle.rules.proofs.Cuts.{Cut, same, move, cut-next, cut-name}
 use Rattle.rules.proofs.Inner.{inner-low}
 use Rattle.rules.proofs.Left.{_⊆_}
 use Rattle.rules.proofs.Fixpoint.{Seen, settle-less, settle-fixed, settle-greatest, settle-wider}
-use Rattle.rules.proofs.Longer.{lies-one, lies-same, entered-on, left-on, Ancestor, Comes, within-self}
-use Rattle.rules.proofs.Forms.{Laid, formed-laid}
+use Rattle.rules.proofs.Longer.{lies-one, lies-same, entered-on, leg-named, leg-mem, Ancestor, Comes, within-self}
+use Rattle.rules.proofs.Forms.{Laid, formed-laid, laid-seen}
 use Rattle.rules.proofs.Runs.{Course, course-laid, coursed, course-within, course-from, course-shut, course-kept}
 use Rattle.rules.proofs.Nodes.{within-sub}
 
@@ -62,17 +61,6 @@ pub origin-leg : {n z q k′ : ℕ} {o : Places} {e r A′ B′ : List ℕ} → 
 origin-leg {z = z} {q} {e = e} {r = r} off g w c =
     let i = origin-lies off same c w same (keep nil) g in
     (i .0, ap (λ (b : Bool). originAt (z ∷ r) (cond b z z) z e q) (T→true (mem z (z ∷ r)) (mem-hd z r)) ∙ i .1)
-
--- ---- the leg of a name
-
-leg-named : (q c : ℕ) (A B : List ℕ) → T (mem q (legStops (c ∷ B))) → (A′ : List ℕ) × (k′ : ℕ) × (B′ : List ℕ) × Cut (c ∷ A) B (q ∷ A′) (k′ ∷ B′)
-leg-named q c A [] h = absurd h
-leg-named q c A (k ∷ B) h =
-    ⊎-elim (λ e. (A, k, B, subst (λ (m : ℕ). Cut (c ∷ A) (k ∷ B) (m ∷ A) (k ∷ B)) (eqb→eq c q e) same))
-    (λ m. let u = leg-named q k (c ∷ A) B m in (u .0, u .1, u .2, move (u .3))) (or-e (eqb c q) (mem q (legStops (k ∷ B))) h)
-
-leg-mem : (q c : ℕ) (B : List ℕ) → T (mem q (legStops (c ∷ B))) → T (mem q (c ∷ B))
-leg-mem q c B h = left-on (leg-named q c [] B h .3)
 
 -- ---- the worked-out places and those of the run
 
@@ -142,7 +130,7 @@ module _ (v : Van) (d : Day) (tri : Triangle d) (one : OneEnd (d .jobs)) (z : �
 
   course-alike : (y q : ℕ) → settle v d (z ∷ e) o y q ≡ W* y q
   course-alike y q = T-ext (settle v d (z ∷ e) o y q) (W* y q)
-      (settle-wider v d one (z ∷ e) (laid .nodes) o (λ y q t. (laid .inside y q t, leg-mem q z e (laid .leg y q t))) W end-worked y q)
+      (settle-wider v d one (z ∷ e) (laid .nodes) o (laid-seen laid) W end-worked y q)
       (settle-greatest v d (z ∷ e) W* o worked-end worked-rests y q)
 
 -- ---- the verdict reads the route, the places, and the marks of unplaced nodes
