@@ -5,9 +5,10 @@ use Prim.Native.Nat.{ℕ}
 use mathlib.Core.Bool.{false, not}
 use mathlib.Core.List.{List, [], _∷_}
 use mathlib.Core.Logic.{_⊎_, inl, inr, ⊎-elim}
-use lib.Dec.{T, T-not, eqb}
+use lib.Dec.{T, T-not, eqb, eqb→eq}
 use Rattle.laws.specs.Logic.{or-l, or-e, not-or-i, not-or-l, not-or-r}
 use Rattle.laws.specs.Lists.{mem, hd, Sub, nil, keep, skip, sub-refl, sub-trans, mem-sub, mem-hd, mem-tl}
+use Rattle.rules.specs.Leg.{legStops}
 use Rattle.rules.specs.Plan.{Places}
 use Rattle.rules.specs.Rounds.{Distinct, Within, done, stop, extra}
 use Rattle.rules.proofs.Cuts.{Cut, same, move, cut-next, cut-ahead, cut-behind}
@@ -59,6 +60,16 @@ entered-on {z} {k} {r} {B = B} c = mem-tl k z r (cut-ahead k c (mem-hd k B))
 
 pub left-on : {z p : ℕ} {r A B : List ℕ} → Cut (z ∷ []) r (p ∷ A) B → T (mem p (z ∷ r))
 left-on {z} {p} {r} {A} c = ⊎-elim (λ m. ⊎-elim (or-l (eqb z p) (mem p r)) (λ n. absurd n) (or-e (eqb z p) false m)) (mem-tl p z r) (cut-behind p c (mem-hd p A))
+
+-- the leg of a name
+pub leg-named : (q c : ℕ) (A B : List ℕ) → T (mem q (legStops (c ∷ B))) → (A′ : List ℕ) × (k′ : ℕ) × (B′ : List ℕ) × Cut (c ∷ A) B (q ∷ A′) (k′ ∷ B′)
+leg-named q c A [] h = absurd h
+leg-named q c A (k ∷ B) h =
+    ⊎-elim (λ e. (A, k, B, subst (λ (m : ℕ). Cut (c ∷ A) (k ∷ B) (m ∷ A) (k ∷ B)) (eqb→eq c q e) same))
+    (λ m. let u = leg-named q k (c ∷ A) B m in (u .0, u .1, u .2, move (u .3))) (or-e (eqb c q) (mem q (legStops (k ∷ B))) h)
+
+pub leg-mem : (q c : ℕ) (B : List ℕ) → T (mem q (legStops (c ∷ B))) → T (mem q (c ∷ B))
+leg-mem q c B h = left-on (leg-named q c [] B h .3)
 
 -- ---- the stops in between
 
