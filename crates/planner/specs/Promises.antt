@@ -49,78 +49,78 @@ pub data Run (sheet : List ℕ) (s : State) (t : List ℕ) : State → List ℕ 
 -- ---- demand 1
 
 -- refused: state and trail as before, rounds 0
-Unchanged : Type 0
+abbrev pub Unchanged : Type 0
 Unchanged = (sheet : List ℕ) (s : State) (t : List ℕ) (kind a b : ℕ) → (stepOf sheet s t kind a b .0 .answer ≡ 0 → ⊥)
     → stepOf sheet s t kind a b ≡ refused (stepOf sheet s t kind a b .0 .answer) s t
 
 -- every accepted step keeps the form, and the trail's length
-FormKept : Type 0
+abbrev pub FormKept : Type 0
 FormKept = (sheet : List ℕ) (s s′ : State) (t t′ : List ℕ) (kind a b k : ℕ) → Typed s → Took sheet s t kind a b k s′ t′
     → (formWith (nOf sheet) s′ (roomOf t′) ≡ true) × Typed s′ × (length t′ ≡ length t)
 
 -- ---- demand 2: the rounds that each step keeps
 
-PlacingKeeps : Type 0
+abbrev pub PlacingKeeps : Type 0
 PlacingKeeps = (sheet : List ℕ) (s s′ : State) (t t′ : List ℕ) (p x k : ℕ) → Typed s → Took sheet s t 1 p x k s′ t′ → (R : List ℕ)
     → Belongs (dayOf sheet) (planIn s′) R ↔ (Belongs (dayOf sheet) (planIn s) R × T (uses p x (planIn s .route) R))
 
-ClosingKeeps : Type 0
+abbrev pub ClosingKeeps : Type 0
 ClosingKeeps = (sheet : List ℕ) (s s′ : State) (t t′ : List ℕ) (p x k : ℕ) → Typed s → Took sheet s t 2 p x k s′ t′ → (R : List ℕ)
     → Belongs (dayOf sheet) (planIn s′) R ↔ (Belongs (dayOf sheet) (planIn s) R × T (not (uses p x (planIn s .route) R)))
 
-ExcludingKeeps : Type 0
+abbrev pub ExcludingKeeps : Type 0
 ExcludingKeeps = (sheet : List ℕ) (s s′ : State) (t t′ : List ℕ) (x b k : ℕ) → Typed s → Took sheet s t 3 x b k s′ t′ → (R : List ℕ)
     → Belongs (dayOf sheet) (planIn s′) R ↔ (Belongs (dayOf sheet) (planIn s) R × T (not (mem x R)))
 
-RequiringKeeps : Type 0
+abbrev pub RequiringKeeps : Type 0
 RequiringKeeps = (sheet : List ℕ) (s s′ : State) (t t′ : List ℕ) (x b k : ℕ) → Typed s → Took sheet s t 4 x b k s′ t′ → (R : List ℕ)
     → Belongs (dayOf sheet) (planIn s′) R ↔ (Belongs (dayOf sheet) (planIn s) R × T (mem x R))
 
 -- settling strikes what 01's tests strike, to the last gap, and nothing else; it tells the rounds that struck, and they are at most 2
-SettlingStrikes : Type 0
+abbrev pub SettlingStrikes : Type 0
 SettlingStrikes = (sheet : List ℕ) (s s′ : State) (t t′ : List ℕ) (a b k : ℕ) → Typed s → Took sheet s t 5 a b k s′ t′
     → (planIn s′ ≡ settled (vanOf sheet) (dayOf sheet) (planIn s)) × (k ≡ rounds (vanOf sheet) (dayOf sheet) (planIn s .route) (planIn s .places)) × (k ≤ 2)
 
 -- on an opened sheet no rule-keeping round of the set is lost by settling
-SettlingLosesNone : Type 0
+abbrev pub SettlingLosesNone : Type 0
 SettlingLosesNone = (sheet : List ℕ) (s s′ : State) (t t′ : List ℕ) (a b k : ℕ) → refusal15 sheet ≡ 0 → Typed s → Took sheet s t 5 a b k s′ t′
     → (R : List ℕ) → T (keeps (vanOf sheet) (dayOf sheet) R) → Belongs (dayOf sheet) (planIn s) R → Belongs (dayOf sheet) (planIn s′) R
 
 -- no gap left and alive: the route itself keeps the rules, and belongs
-NoGapAlive : Type 0
+abbrev pub NoGapAlive : Type 0
 NoGapAlive = (sheet : List ℕ) (s : State) → Typed s → countOf sheet s ≡ record { answer = 0; places = 0 } → judgeOf sheet s ≡ record { answer = 0; alive = true }
     → T (keeps (vanOf sheet) (dayOf sheet) (planIn s .route)) × Belongs (dayOf sheet) (planIn s) (planIn s .route)
 
 -- beyond 01: on an opened sheet a dead state has no rule-keeping round
-DeadNone : Type 0
+abbrev pub DeadNone : Type 0
 DeadNone = (sheet : List ℕ) (s : State) → refusal15 sheet ≡ 0 → judgeOf sheet s ≡ record { answer = 0; alive = false }
     → (R : List ℕ) → Belongs (dayOf sheet) (planIn s) R → T (not (keeps (vanOf sheet) (dayOf sheet) R))
 
 -- stepping back restores the state from before the matching level, and the records below it stand as they stood
-StepsBack : Type 0
+abbrev pub StepsBack : Type 0
 StepsBack = (sheet : List ℕ) (s s₁ s₂ : State) (t t₁ t₂ : List ℕ) (a b k c d : ℕ) → Typed s → Took sheet s t 6 a b k s₁ t₁
     → Steps sheet (s₁ .depth) s₁ t₁ s₂ t₂ → s₂ .depth ≡ s₁ .depth
     → Took sheet s₂ t₂ 7 c d 0 s t₂ × (take (2 * s .records) t₂ ≡ take (2 * s .records) t)
 
 -- from a fresh state any accepted steps keep the records at or below n(n − 2); with that room 17, 19 and 20 are never met
-RecordsBounded : Type 0
+abbrev pub RecordsBounded : Type 0
 RecordsBounded = (sheet : List ℕ) (s : State) (t t′ : List ℕ) → refusal14 sheet ≡ 0 → Steps sheet 0 (freshState (nOf sheet)) t s t′
     → s .records ≤ nOf sheet * (nOf sheet - 2)
 
-NeverShort : Type 0
+abbrev pub NeverShort : Type 0
 NeverShort = (sheet : List ℕ) (s : State) (t t′ : List ℕ) (kind a b : ℕ) → refusal14 sheet ≡ 0 → nOf sheet * (nOf sheet - 2) ≤ roomOf t → Steps sheet 0 (freshState (nOf sheet)) t s t′
     → (stepOf sheet s t′ kind a b .0 .answer ≡ 17 → ⊥) × (stepOf sheet s t′ kind a b .0 .answer ≡ 19 → ⊥) × (stepOf sheet s t′ kind a b .0 .answer ≡ 20 → ⊥)
 
 -- ---- demand 3: a run's end, settled once more, has the gaps and the verdict that 01 works out from the start
 
-WorkedOut : Type 0
+abbrev pub WorkedOut : Type 0
 WorkedOut = (sheet : List ℕ) (s s₁ s₂ : State) (t t₁ t₂ X : List ℕ) (a b k : ℕ) → refusal15 sheet ≡ 0 → Typed s → inForm (nOf sheet) s ≡ true
     → Run sheet s t s₁ t₁ X → Took sheet s₁ t₁ 5 a b k s₂ t₂
     → ((x p : ℕ) → planIn s₂ .places x p ≡ settled (vanOf sheet) (dayOf sheet) (worked (planIn s) (planIn s₁ .route) X (planIn s₁ .marks)) .places x p)
     × (judgeOf sheet s₂ .alive ≡ alive (vanOf sheet) (dayOf sheet) (settled (vanOf sheet) (dayOf sheet) (worked (planIn s) (planIn s₁ .route) X (planIn s₁ .marks))))
 
 -- two such runs that end with the same route, excluded wards and unplaced required wards
-RunsAlike : Type 0
+abbrev pub RunsAlike : Type 0
 RunsAlike = (sheet : List ℕ) (s s₁ s₂ s₃ s₄ : State) (t t′ t₁ t₂ t₃ t₄ X Y : List ℕ) (a b k a′ b′ k′ : ℕ) → refusal15 sheet ≡ 0 → Typed s → inForm (nOf sheet) s ≡ true
     → Run sheet s t s₁ t₁ X → Took sheet s₁ t₁ 5 a b k s₂ t₂
     → Run sheet s t′ s₃ t₃ Y → Took sheet s₃ t₃ 5 a′ b′ k′ s₄ t₄
