@@ -1,5 +1,6 @@
 //! The second program: the planner of 01 once more, in the plainest way, from 01 alone.
 
+pub mod check;
 pub mod compare;
 pub mod face;
 pub mod facts;

@@ -3,11 +3,12 @@ use std::process::exit;
 
 use second::compare::{listings, probes, Plan};
 use second::options::Options;
-use second::{listing, papers, probe, slips};
+use second::{check, listing, papers, probe, slips};
 
 const USAGE: &str = "usage: second listing < sheet
        second probe < cases
        second self
+       second check [--seed S] [--cases N] [--case K]
        second compare --kind probe|listing [--seed S] [--cases N] [--batch M] [--keep FOLDER] -- program...";
 
 fn input() -> Result<Vec<u8>, String> {
@@ -37,6 +38,33 @@ fn run_self() -> Result<bool, String> {
         well &= holds;
     }
     Ok(well)
+}
+
+/// `--case K` runs that one case alone, to look at it again.
+fn run_check(options: &Options) -> Result<bool, String> {
+    slips::switch_from_environment();
+    let seed = options.number("seed", 1)?;
+    let cases = options.number("cases", 20_000)?;
+    let single = options.text("case").is_some();
+    let first = options.number("case", 0)?;
+    println!("check: seed {seed}, {} cases", if single { 1 } else { cases });
+    let mut tally = check::expected();
+    for number in if single { first..first + 1 } else { 0..cases } {
+        if let Err(trouble) = check::one(seed, number, &mut tally) {
+            print!("{trouble}");
+            println!("again: second check --seed {seed} --case {number}");
+            return Ok(false);
+        }
+    }
+    tally.print();
+    if single {
+        return Ok(true);
+    }
+    for name in tally.missing() {
+        println!("never met: {name}");
+    }
+    println!("check: seed {seed}, {cases} cases, all held");
+    Ok(tally.missing().is_empty())
 }
 
 fn run_compare(options: &Options) -> Result<bool, String> {
@@ -72,6 +100,7 @@ fn run(arguments: &[String]) -> Result<bool, String> {
         "listing" => run_listing(),
         "probe" => run_probe(),
         "self" => run_self(),
+        "check" => run_check(&options),
         "compare" => run_compare(&options),
         _ => Err(USAGE.to_string()),
     }

@@ -3,6 +3,7 @@
 
 pub mod damage;
 pub mod draft;
+pub mod edges;
 pub mod full;
 pub mod probes;
 pub mod sheets;

@@ -1,7 +1,8 @@
 //! Cases for `probe`, in families taken by turns, so that a run of some hundreds meets every
 //! question and every refusal.
 
-use super::{damage, draft, sheets, states, steps, trails};
+use super::draft::{self, Draft};
+use super::{damage, edges, sheets, states, steps, trails};
 use crate::probe::{Case, MOST_BYTES, OPEN, PLACES, SECTION, STEP, VERDICT};
 use crate::rng::Rng;
 use crate::sheet::Sheet;
@@ -12,7 +13,7 @@ use crate::step::step_on;
 pub fn case(seed: u64, number: u64) -> Case {
     let mut rng = Rng::of(seed, number);
     let rng = &mut rng;
-    match number % 12 {
+    match number % 15 {
         0 => opening(rng),
         1 => section(rng),
         2 | 3 => asking(rng),
@@ -21,7 +22,7 @@ pub fn case(seed: u64, number: u64) -> Case {
         7 => tight_room(rng),
         8 => stepping_back(rng),
         9 => made_up_back(rng),
-        10 => settling(rng),
+        10..=13 => at_the_edge(rng),
         _ => anything(rng),
     }
 }
@@ -32,6 +33,11 @@ fn sized(rng: &mut Rng, rare: usize) -> usize {
 
 /// A sheet that steps run on; one in eight breaks the triangle, which steps do not ask.
 fn runnable(rng: &mut Rng) -> (Vec<u8>, Sheet) {
+    let made = draft_for_steps(rng);
+    (made.bytes(), made.sheet())
+}
+
+fn draft_for_steps(rng: &mut Rng) -> Draft {
     let size = sized(rng, 60);
     let mut made = sheets::plain(rng, size);
     if rng.one_in(8) && size > 2 {
@@ -40,7 +46,7 @@ fn runnable(rng: &mut Rng) -> (Vec<u8>, Sheet) {
     if rng.one_in(3) {
         made.steps = (0..rng.below(9)).map(|_| [rng.next() as u32, 1, 2]).collect();
     }
-    (made.bytes(), made.sheet())
+    made
 }
 
 fn damaged(rng: &mut Rng) -> Vec<u8> {
@@ -175,15 +181,24 @@ fn made_up_back(rng: &mut Rng) -> Case {
     Case { question: STEP, words: [7, 0, 0], state, bytes, trail }
 }
 
-fn settling(rng: &mut Rng) -> Case {
-    let (bytes, sheet) = runnable(rng);
+/// Settling, open places and verdict where the sheet is bent to the edge of a test.
+fn at_the_edge(rng: &mut Rng) -> Case {
+    let mut made = draft_for_steps(rng);
+    if rng.below(4) > 0 {
+        edges::loosen(rng, &mut made);
+    }
+    let sheet = made.sheet();
     let mut state = if rng.one_in(2) { states::made_up(rng, &sheet) } else { reached(rng, &sheet).0 };
-    let records = rng.below(4) as u64;
+    for _ in 0..1 + rng.below(2) {
+        edges::sharpen(rng, &mut made, &state);
+    }
     state.records = 0;
     state.level_count = 0;
     state.levels = [0; 64];
+    let records = rng.below(4) as u64;
     states::put_levels(rng, &mut state, records);
-    Case { question: STEP, words: [5, steps::odd(rng), 1], state, bytes, trail: vec![3; 140] }
+    let question = *rng.pick(&[STEP, STEP, STEP, VERDICT]);
+    Case { question, words: [5, steps::odd(rng), 1], state, bytes: made.bytes(), trail: vec![3; 140] }
 }
 
 /// A long trail, a full sheet, or nothing that makes sense.
