@@ -42,9 +42,9 @@ fn scene(rng: &mut Rng) -> Scene {
         edges::loosen(rng, &mut draft);
     }
     let sheet = draft.sheet();
-    let count = rng.below(14);
+    let count = *rng.pick(&[0, 0, 2, 5, 14]);
     let (state, mut trail) = states::reached(rng, &sheet, count);
-    let state = if rng.one_in(2) { states::made_up(rng, &sheet) } else { state };
+    let state = if rng.one_in(3) { states::made_up(rng, &sheet) } else { state };
     for _ in 0..rng.below(3) {
         edges::sharpen(rng, &mut draft, &state);
     }
