@@ -32,7 +32,7 @@ fn job(rng: &mut Rng, draft: &mut Draft) {
         1 => j[1] = *rng.pick(&[0, end, end + 1, odd]),
         2 => j[2] = *rng.pick(&[0, end, end + 1, odd]),
         3 => j[2] = j[1],
-        4 => j[3] = *rng.pick(&[0, 1001, 1000, 65_536, u32::MAX]),
+        4 => j[3] = *rng.pick(&[0, 1001, 1001, 1000, 65_537, u32::MAX]),
         5 => *j = [1, 1, 1, 1],
         6 => *j = [2, 1, end, 1],
         7 => *j = [3, 1, 1, 1],
@@ -47,7 +47,7 @@ fn above(rng: &mut Rng) -> u32 {
 /// A word of sections 1 to 5 against its rule (or just within it).
 pub fn value(rng: &mut Rng, draft: &mut Draft) {
     let n = draft.n();
-    match rng.below(9) {
+    match rng.below(10) {
         0 => draft.limits[0] = *rng.pick(&[1001, 1000, u32::MAX]),
         1 => draft.limits[1] = above(rng),
         2 => draft.nodes[rng.below(n)][rng.below(3)] = above(rng),
@@ -55,7 +55,7 @@ pub fn value(rng: &mut Rng, draft: &mut Draft) {
             let node = &mut draft.nodes[rng.below(n)];
             node[0] = node[1].wrapping_add(1);
         }
-        4 | 5 => job(rng, draft),
+        4 | 5 | 9 => job(rng, draft),
         6 => draft.seconds[rng.below(n * n)] = above(rng),
         7 => draft.metres[rng.below(n * n)] = above(rng),
         _ => draft.seconds[(n + 1) * rng.below(n)] = above(rng),
@@ -107,6 +107,19 @@ pub fn length(rng: &mut Rng, bytes: &mut Vec<u8>) {
         3 => bytes.extend(vec![0; 1 + rng.below(3)]),
         _ => bytes.truncate(bytes.len() - 4),
     }
+}
+
+/// A wrong value in a section that is also cut short, often by one word: the shortness counts.
+pub fn short_and_wrong(rng: &mut Rng, mut draft: Draft) -> Vec<u8> {
+    let n = draft.n();
+    value(rng, &mut draft);
+    let lengths = [2, 3 * n, 4 * draft.jobs.len(), n * n, n * n, 3 * draft.steps.len()];
+    let last = rng.below(6);
+    let end: usize = lengths[..=last].iter().map(|length| 1 + length).sum();
+    let cut = if rng.one_in(2) { 1 } else { 1 + rng.below(lengths[last] + 1) };
+    let mut bytes = draft.bytes();
+    bytes.truncate(4 * end.saturating_sub(cut));
+    bytes
 }
 
 fn one(rng: &mut Rng, draft: &mut Draft) {

@@ -13,16 +13,16 @@ use crate::step::step_on;
 pub fn case(seed: u64, number: u64) -> Case {
     let mut rng = Rng::of(seed, number);
     let rng = &mut rng;
-    match number % 15 {
-        0 => opening(rng),
-        1 => section(rng),
-        2 | 3 => asking(rng),
-        4 | 5 => stepping(rng, false),
-        6 => stepping(rng, true),
-        7 => tight_room(rng),
-        8 => stepping_back(rng),
-        9 => made_up_back(rng),
-        10..=13 => at_the_edge(rng),
+    match number % 20 {
+        0..=3 => opening(rng),
+        4 => section(rng),
+        5 | 6 => asking(rng),
+        7..=9 => stepping(rng, false),
+        10 => stepping(rng, true),
+        11 => tight_room(rng),
+        12 => stepping_back(rng),
+        13 | 14 => made_up_back(rng),
+        15..=18 => at_the_edge(rng),
         _ => anything(rng),
     }
 }
@@ -52,8 +52,9 @@ fn draft_for_steps(rng: &mut Rng) -> Draft {
 fn damaged(rng: &mut Rng) -> Vec<u8> {
     let size = sized(rng, 90);
     let made = sheets::with_steps(rng, size, 3);
-    match rng.below(12) {
+    match rng.below(14) {
         0 => vec![],
+        12 | 13 => damage::short_and_wrong(rng, made),
         1 => (0..4 * rng.below(40)).map(|_| rng.next() as u8).collect(),
         2 => overlong(rng),
         _ => damage::sheet(rng, made),
@@ -125,7 +126,13 @@ fn stepping(rng: &mut Rng, broken: bool) -> Case {
     }
     let mut words = steps::pick(rng, &sheet, &state);
     if rng.one_in(5) {
-        words[rng.below(3)] = if rng.one_in(2) { steps::odd(rng) } else { rng.below(sheet.n()) as u64 };
+        let at = rng.below(3);
+        words[at] = match rng.below(3) {
+            0 => steps::odd(rng),
+            1 => rng.below(sheet.n()) as u64,
+            // The same number to anyone who reads only the low bits.
+            _ => words[at] ^ *rng.pick(&[64, 256, 1 << 16, 1 << 32]),
+        };
     }
     if broken {
         match rng.below(4) {
@@ -160,8 +167,8 @@ fn stepping_back(rng: &mut Rng) -> Case {
         let records = state.records;
         states::put_levels(rng, &mut state, records);
     }
-    if rng.one_in(3) {
-        trails::spoil(rng, &mut trail);
+    if rng.one_in(2) {
+        trails::spoil(rng, sheet.n(), &mut trail);
     }
     Case { question: STEP, words: [7, rng.next(), rng.next()], state, bytes, trail }
 }
@@ -174,8 +181,8 @@ fn made_up_back(rng: &mut Rng) -> Case {
     let mut trail = trails::fitting(rng, &sheet, &state, count);
     let records = trail.len() as u64 / 2;
     states::put_levels(rng, &mut state, records);
-    if rng.one_in(3) {
-        trails::spoil(rng, &mut trail);
+    if rng.one_in(2) {
+        trails::spoil(rng, sheet.n(), &mut trail);
     }
     trail.extend(vec![9; rng.below(4)]);
     Case { question: STEP, words: [7, 0, 0], state, bytes, trail }

@@ -40,21 +40,37 @@ pub fn fitting(rng: &mut Rng, sheet: &Sheet, state: &State, count: usize) -> Vec
     newest_first.iter().rev().flatten().copied().collect()
 }
 
-/// One word is made another: a little off, or far off.
-pub fn spoil(rng: &mut Rng, trail: &mut [u64]) {
-    if trail.is_empty() {
+/// One record is spoiled: a word a little off or far off, or a rule of fitting broken on purpose.
+pub fn spoil(rng: &mut Rng, n: usize, trail: &mut [u64]) {
+    if trail.len() < 2 {
         return;
     }
-    let at = rng.below(trail.len());
-    trail[at] = match rng.below(9) {
-        0 => trail[at] ^ 1 << rng.below(64),
-        1 => trail[at].wrapping_add(1),
-        2 => trail[at].wrapping_sub(1),
-        3 => trail[at].wrapping_add(256),
-        4 => trail[at].wrapping_sub(256),
-        5 => trail[at] | 1 << 32,
-        6 => trail[at] & trail[at].wrapping_sub(1),
-        7 => 256 * rng.below(5) as u64 + rng.below(66) as u64,
+    let at = 2 * rng.below(trail.len() / 2);
+    let node = trail[at] % 256;
+    match rng.below(8) {
+        0 => trail[at] = any_word(rng, trail[at]),
+        1 => trail[at + 1] = any_word(rng, trail[at + 1]),
+        // The node's own leg, the end's, or any other.
+        2 => trail[at + 1] |= 1 << (node % 64),
+        3 => trail[at + 1] |= 1 << (n - 1),
+        4 => trail[at + 1] |= 1 << rng.below(64),
+        // Another number whose low bits are the same.
+        5 => trail[at] ^= *rng.pick(&[64, 128, 192, 1 << 16, 1 << 32, 1 << 63]),
+        // A marking that may never have been.
+        6 => (trail[at], trail[at + 1]) = (256 * MARKED + rng.below(n) as u64, 0),
+        _ => (trail[at], trail[at + 1]) = (256 * rng.below(5) as u64 + node, rng.below(4) as u64),
+    }
+}
+
+fn any_word(rng: &mut Rng, word: u64) -> u64 {
+    match rng.below(8) {
+        0 => word ^ 1 << rng.below(64),
+        1 => word.wrapping_add(1),
+        2 => word.wrapping_sub(1),
+        3 => word.wrapping_add(256),
+        4 => word.wrapping_sub(256),
+        5 => word & word.wrapping_sub(1),
+        6 => 256 * rng.below(5) as u64 + rng.below(66) as u64,
         _ => rng.next(),
-    };
+    }
 }
