@@ -1,14 +1,19 @@
 use std::io::{BufWriter, Read, Write};
+use std::path::PathBuf;
 use std::process::exit;
 
 use second::compare::{listings, probes, Plan};
+use second::gen::full;
 use second::options::Options;
-use second::{check, listing, papers, probe, slips};
+use second::rng::Rng;
+use second::{check, listing, papers, probe, slips, text};
 
 const USAGE: &str = "usage: second listing < sheet
        second probe < cases
        second self
        second check [--seed S] [--cases N] [--case K]
+       second sample [--nodes N] [--steps K] [--seed S] > text
+       second cases --kind probe|listing --out FOLDER [--seed S] [--cases N] [--batch M]
        second compare --kind probe|listing [--seed S] [--cases N] [--batch M] [--keep FOLDER] -- program...";
 
 fn input() -> Result<Vec<u8>, String> {
@@ -27,8 +32,8 @@ fn run_probe() -> Result<bool, String> {
 
 fn run_listing() -> Result<bool, String> {
     slips::switch_from_environment();
-    let text = listing::listing(&input()?);
-    Ok(std::io::stdout().write_all(text.as_bytes()).is_ok())
+    let lines = listing::listing(&input()?);
+    Ok(std::io::stdout().write_all(lines.as_bytes()).is_ok())
 }
 
 fn run_self() -> Result<bool, String> {
@@ -67,20 +72,51 @@ fn run_check(options: &Options) -> Result<bool, String> {
     Ok(tally.missing().is_empty())
 }
 
-fn run_compare(options: &Options) -> Result<bool, String> {
-    if options.command.is_empty() {
-        return Err("name the program to compare with behind --".to_string());
+/// A whole day of generated work, as text.
+fn run_sample(options: &Options) -> Result<bool, String> {
+    let nodes = options.number("nodes", 64)?;
+    if !(4..=64).contains(&nodes) {
+        return Err("--nodes wants 4 to 64".to_string());
     }
-    let kind = options.text("kind").unwrap_or("probe");
+    let rng = &mut Rng::of(options.number("seed", 1)?, nodes);
+    let mut draft = full::day(rng, nodes as usize);
+    draft.steps = full::story(rng, &draft.sheet(), options.number("steps", 240)?.min(2_000) as usize);
+    print!("{}", text::from_bytes(&draft.bytes(), true)?);
+    Ok(true)
+}
+
+fn plan(options: &Options) -> Result<(String, Plan), String> {
+    let kind = options.text("kind").unwrap_or("probe").to_string();
     let plan = Plan {
         seed: options.number("seed", 1)?,
-        cases: options.number("cases", if kind == "probe" { 6_000 } else { 640 })?,
+        cases: options.number("cases", if kind == "probe" { 20_000 } else { 1_280 })?,
         batch: options.number("batch", 250)?.max(1),
         keep: options.text("keep").map(Into::into),
         program: options.command.clone(),
     };
+    Ok((kind, plan))
+}
+
+/// Inputs and expected outputs as files, for a program that cannot be started from here.
+fn run_cases(options: &Options) -> Result<bool, String> {
+    let (kind, plan) = plan(options)?;
+    let folder = PathBuf::from(options.text("out").ok_or("--out FOLDER is wanted")?);
+    let count = match kind.as_str() {
+        "probe" => probes::write_files(&plan, &folder)?,
+        "listing" => listings::write_files(&plan, &folder)?,
+        other => return Err(format!("no kind '{other}'")),
+    };
+    println!("cases {kind}: seed {}, {} cases in {count} files", plan.seed, plan.cases);
+    Ok(true)
+}
+
+fn run_compare(options: &Options) -> Result<bool, String> {
+    if options.command.is_empty() {
+        return Err("name the program to compare with behind --".to_string());
+    }
+    let (kind, plan) = plan(options)?;
     println!("compare {kind}: seed {}, {} cases", plan.seed, plan.cases);
-    let (differences, tally) = match kind {
+    let (differences, tally) = match kind.as_str() {
         "probe" => probes::compare(&plan)?,
         "listing" => listings::compare(&plan)?,
         other => return Err(format!("no kind '{other}'")),
@@ -101,6 +137,8 @@ fn run(arguments: &[String]) -> Result<bool, String> {
         "probe" => run_probe(),
         "self" => run_self(),
         "check" => run_check(&options),
+        "sample" => run_sample(&options),
+        "cases" => run_cases(&options),
         "compare" => run_compare(&options),
         _ => Err(USAGE.to_string()),
     }

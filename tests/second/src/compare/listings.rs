@@ -1,5 +1,7 @@
 //! One sheet a process, against the other program's listing.
 
+use std::path::Path;
+
 use super::coverage::{note_listing, of_listings};
 use super::{runner, Plan, SHOWN};
 use crate::gen::{damage, full, sheets, steps};
@@ -63,6 +65,14 @@ fn two_nodes(rng: &mut Rng) -> Vec<u8> {
     let mut draft = sheets::plain(rng, 2);
     draft.steps = steps::list(rng, &draft.sheet(), 12);
     draft.bytes()
+}
+
+pub fn write_files(plan: &Plan, folder: &Path) -> Result<u64, String> {
+    for number in 0..plan.cases {
+        let bytes = sheet(plan.seed, number);
+        runner::put_pair(folder, &format!("listing-{number:04}"), &bytes, listing(&bytes).as_bytes())?;
+    }
+    Ok(plan.cases)
 }
 
 pub fn compare(plan: &Plan) -> Result<(u64, Tally), String> {

@@ -1,5 +1,7 @@
 //! Many cases through one process of the other program's `probe`.
 
+use std::path::Path;
+
 use super::coverage::{note_probe, of_probes};
 use super::{runner, Plan, SHOWN};
 use crate::gen::probes::case;
@@ -61,6 +63,20 @@ pub fn expected(batch: &Batch) -> Vec<u8> {
         out.push(b'\n');
     });
     out
+}
+
+/// Batches as files; the number of them.
+pub fn write_files(plan: &Plan, folder: &Path) -> Result<u64, String> {
+    let mut from = 0;
+    let mut count = 0;
+    while from < plan.cases {
+        let to = (from + plan.batch).min(plan.cases);
+        let made = batch(plan.seed, from, to, &mut of_probes());
+        runner::put_pair(folder, &format!("probe-{count:04}"), &made.input, &expected(&made))?;
+        from = to;
+        count += 1;
+    }
+    Ok(count)
 }
 
 /// Compares all batches; the number of differing lines, and the coverage.

@@ -36,3 +36,11 @@ pub fn keep(folder: &Path, name: &str, input: &[u8], expected: &[u8], came: &[u8
         .and_then(|_| put("came", came))
         .map_err(|why| format!("cannot keep {name}: {why}"))
 }
+
+/// An input and what is expected of it, as `name.in` and `name.expected`.
+pub fn put_pair(folder: &Path, name: &str, input: &[u8], expected: &[u8]) -> Result<(), String> {
+    std::fs::create_dir_all(folder)
+        .and_then(|_| std::fs::write(folder.join(format!("{name}.in")), input))
+        .and_then(|_| std::fs::write(folder.join(format!("{name}.expected")), expected))
+        .map_err(|why| format!("cannot write {name}: {why}"))
+}
