@@ -38,7 +38,8 @@ fn late(sheet: &Sheet, with: &[usize], at: usize) -> bool {
 /// Loads of the route's own whole jobs and of this one job, along the list `with`, on the legs
 /// where this job is aboard.
 fn fits(sheet: &Sheet, path: &[usize], job: &Job, with: &[usize]) -> bool {
-    (0..with.len() - 1).all(|leg| !rides(job, with, leg) || load_on(sheet, path, with, leg) + job.load <= sheet.capacity)
+    (0..with.len() - 1)
+        .all(|leg| !rides(job, with, leg) || load_on(sheet, path, with, leg) + job.load <= sheet.capacity)
 }
 
 fn load_on(sheet: &Sheet, path: &[usize], with: &[usize], leg: usize) -> i64 {

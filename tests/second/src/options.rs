@@ -13,7 +13,8 @@ impl Options {
             if name == "--" {
                 return Ok(Options { pairs, command: rest.cloned().collect() });
             }
-            let value = rest.next().filter(|_| name.starts_with("--")).ok_or(format!("cannot read '{name}'"))?;
+            let value =
+                rest.next().filter(|_| name.starts_with("--")).ok_or(format!("cannot read '{name}'"))?;
             pairs.push((name[2..].to_string(), value.clone()));
         }
         Ok(Options { pairs, command: vec![] })

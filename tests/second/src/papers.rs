@@ -42,7 +42,7 @@ pub fn bytes_with(changes: &[(usize, u32)]) -> Vec<u8> {
 }
 
 fn sheet_with(changes: &[(usize, u32)]) -> Sheet {
-    read(&bytes_with(changes)).ok().expect("01's sheet is accepted")
+    read(&bytes_with(changes)).unwrap_or_else(|no| panic!("01's sheet is refused by {no}"))
 }
 
 /// Fresh, then 2 placed after 0: route 0 2 3.
@@ -97,7 +97,8 @@ fn p8() -> bool {
 
 /// The examples that 01 marks as run only.
 pub fn run_only() -> Vec<(&'static str, bool)> {
-    let two = to_bytes("2 0 0 | 2, 0 0 0, 0 9 0 | 0 | 4, 0 1 1 0 | 4, 0 0 0 0 | 3, 5 0 0, 1 0 1, 3 1 0").expect("text");
+    let two = to_bytes("2 0 0 | 2, 0 0 0, 0 9 0 | 0 | 4, 0 1 1 0 | 4, 0 0 0 0 | 3, 5 0 0, 1 0 1, 3 1 0")
+        .expect("text");
     let listed = "step 1 answer 0 open 0 records 0 rounds 0 alive 1\n\
         step 2 answer 12 open 0 records 0 rounds 0 alive 1\n\
         step 3 answer 12 open 0 records 0 rounds 0 alive 1\nroute 0 1\n";
@@ -107,6 +108,10 @@ pub fn run_only() -> Vec<(&'static str, bool)> {
         ("empty input", face::open(&[]).0 == 1 && listing(&[]) == "refused 1\n"),
         ("65 nodes", face::open(&bytes_with(&[(3, 65)])).0 == 2),
         ("2 nodes", listing(&two) == listed),
-        ("room 0", step(&bytes, &fresh, &[], [1, 0, 2]).answer == 17 && step(&bytes, &fresh, &[0], [1, 0, 2]).answer == 17),
+        (
+            "room 0",
+            step(&bytes, &fresh, &[], [1, 0, 2]).answer == 17
+                && step(&bytes, &fresh, &[0], [1, 0, 2]).answer == 17,
+        ),
     ]
 }

@@ -37,7 +37,14 @@ pub struct Heads {
 
 impl Case {
     pub fn encode(&self, out: &mut Vec<u8>) {
-        let head = [self.bytes.len() as u64, self.trail.len() as u64, self.question, self.words[0], self.words[1], self.words[2]];
+        let head = [
+            self.bytes.len() as u64,
+            self.trail.len() as u64,
+            self.question,
+            self.words[0],
+            self.words[1],
+            self.words[2],
+        ];
         for word in head.iter().chain(&self.state.to_words()) {
             out.extend(word.to_le_bytes());
         }

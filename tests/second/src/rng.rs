@@ -5,12 +5,13 @@ pub struct Rng(u64);
 impl Rng {
     /// Case `number` of a run has its own stream, so one case can be made again alone.
     pub fn of(seed: u64, number: u64) -> Rng {
-        let mut rng = Rng(seed.wrapping_mul(0x9e37_79b9_7f4a_7c15) ^ number.wrapping_mul(0xd1b5_4a32_d192_ed03));
-        rng.next();
+        let mut rng =
+            Rng(seed.wrapping_mul(0x9e37_79b9_7f4a_7c15) ^ number.wrapping_mul(0xd1b5_4a32_d192_ed03));
+        rng.any();
         rng
     }
 
-    pub fn next(&mut self) -> u64 {
+    pub fn any(&mut self) -> u64 {
         self.0 = self.0.wrapping_add(0x9e37_79b9_7f4a_7c15);
         let mut z = self.0;
         z = (z ^ z >> 30).wrapping_mul(0xbf58_476d_1ce4_e5b9);
@@ -20,11 +21,11 @@ impl Rng {
 
     /// 0 to bound − 1.
     pub fn below(&mut self, bound: usize) -> usize {
-        (self.next() % bound as u64) as usize
+        (self.any() % bound as u64) as usize
     }
 
     pub fn between(&mut self, low: i64, high: i64) -> i64 {
-        low + (self.next() % (high - low + 1) as u64) as i64
+        low + (self.any() % (high - low + 1) as u64) as i64
     }
 
     /// True once in `times`.

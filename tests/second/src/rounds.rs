@@ -37,7 +37,8 @@ pub fn belongs(n: usize, state: &State, round: &[usize]) -> bool {
     if met != path {
         return false;
     }
-    let others_open = round.iter().all(|&x| path.contains(&x) || state.is_open(x, stop_before(&path, round, x)));
+    let others_open =
+        round.iter().all(|&x| path.contains(&x) || state.is_open(x, stop_before(&path, round, x)));
     let required_in = (0..n).all(|x| !state.is_marked(x) || round.contains(&x));
     others_open && required_in
 }

@@ -47,10 +47,7 @@ pub const PROGRAM_BYTES: usize = 60_048;
 const MILLION: i64 = 1_000_000;
 
 pub fn words(bytes: &[u8]) -> Vec<i64> {
-    bytes
-        .chunks_exact(4)
-        .map(|c| i64::from(u32::from_le_bytes([c[0], c[1], c[2], c[3]])))
-        .collect()
+    bytes.chunks_exact(4).map(|c| i64::from(u32::from_le_bytes([c[0], c[1], c[2], c[3]]))).collect()
 }
 
 /// Count, then shortness; hands back where the entries are and moves behind them.
@@ -122,7 +119,8 @@ pub fn read(bytes: &[u8]) -> Result<Sheet, u64> {
     let of_metres = section(&w, &mut at, n * n, n * n, 1)?;
     let metres = table(&w[of_metres.0..of_metres.1])?;
     let of_steps = section(&w, &mut at, 0, 2000, 3)?;
-    let steps = w[of_steps.0..of_steps.1].chunks(3).map(|c| [c[0] as u64, c[1] as u64, c[2] as u64]).collect();
+    let steps =
+        w[of_steps.0..of_steps.1].chunks(3).map(|c| [c[0] as u64, c[1] as u64, c[2] as u64]).collect();
     if at != w.len() {
         return Err(1);
     }

@@ -17,7 +17,15 @@ pub struct State {
 
 impl State {
     pub fn zero() -> State {
-        State { route: [0; 64], stops: 0, sets: [0; 64], marks: 0, levels: [0; 64], level_count: 0, records: 0 }
+        State {
+            route: [0; 64],
+            stops: 0,
+            sets: [0; 64],
+            marks: 0,
+            levels: [0; 64],
+            level_count: 0,
+            records: 0,
+        }
     }
 
     pub fn fresh(n: usize) -> State {

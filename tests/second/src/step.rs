@@ -23,7 +23,9 @@ struct Change {
 
 pub fn step(bytes: &[u8], state: &State, trail: &[u64], words: [u64; 3]) -> Outcome {
     match sheet::read(bytes) {
-        Ok(sheet) if slips::on(slips::FIVE_ON_A_STEP) && sheet::triangle_broken(&sheet) => refused(5, state, trail),
+        Ok(sheet) if slips::on(slips::FIVE_ON_A_STEP) && sheet::triangle_broken(&sheet) => {
+            refused(5, state, trail)
+        }
         Ok(sheet) => step_on(&sheet, state, trail, words),
         Err(number) => refused(number, state, trail),
     }

@@ -38,14 +38,24 @@ pub fn transfer(sheet: &Sheet, state: &State, facts: &Facts, job: &Job, x: usize
     let partner = if x_first { job.b } else { job.a };
     match facts.position(partner) {
         Some(at) if x_first => i >= at || too_full(sheet, facts, job.load, i, at - 1),
-        Some(at) if slips::on(slips::SPLIT_LEG_NOT_COUNTED) => i < at || (i > at && too_full(sheet, facts, job.load, at, i - 1)),
+        Some(at) if slips::on(slips::SPLIT_LEG_NOT_COUNTED) => {
+            i < at || (i > at && too_full(sheet, facts, job.load, at, i - 1))
+        }
         Some(at) => i < at || too_full(sheet, facts, job.load, at, i),
         None => !supported(sheet, state, facts, job, partner, x_first, i),
     }
 }
 
 /// The partner has an open place in right order with room on all legs between.
-fn supported(sheet: &Sheet, state: &State, facts: &Facts, job: &Job, partner: usize, x_first: bool, i: usize) -> bool {
+fn supported(
+    sheet: &Sheet,
+    state: &State,
+    facts: &Facts,
+    job: &Job,
+    partner: usize,
+    x_first: bool,
+    i: usize,
+) -> bool {
     for j in 0..=facts.last_leg() {
         if !state.is_open(partner, facts.path[j]) {
             continue;

@@ -72,7 +72,10 @@ fn section(words: &[i64], width: usize, row: usize) -> String {
     let gap = if row == 0 { " " } else { "\n  " };
     if width > 0 {
         let groups: Vec<String> = entries.chunks(width).map(plain).collect();
-        return std::iter::once(words[0].to_string()).chain(groups).collect::<Vec<_>>().join(&format!(",{gap}"));
+        return std::iter::once(words[0].to_string())
+            .chain(groups)
+            .collect::<Vec<_>>()
+            .join(&format!(",{gap}"));
     }
     if entries.len() <= 2 {
         return plain(words);

@@ -130,8 +130,16 @@ fn records_above_the_room_are_a_broken_state() {
 fn order_of_a_steps_refusals() {
     let bytes = bytes_with(&[]);
     for (words, answer) in [
-        ([257, 0, 1], 11), ([1, 3, 1], 12), ([1, 0, 257], 12), ([1, 2, 1], 14), ([1, 1, 1], 14), ([2, 2, 1], 14),
-        ([7, 0, 0], 18), ([5, u64::MAX, 99], 0), ([3, 3, 0], 12), ([4, 0, 0], 12),
+        ([257, 0, 1], 11),
+        ([1, 3, 1], 12),
+        ([1, 0, 257], 12),
+        ([1, 2, 1], 14),
+        ([1, 1, 1], 14),
+        ([2, 2, 1], 14),
+        ([7, 0, 0], 18),
+        ([5, u64::MAX, 99], 0),
+        ([3, 3, 0], 12),
+        ([4, 0, 0], 12),
     ] {
         assert_eq!(step(&bytes, &State::fresh(4), &[0; 32], words).answer, answer, "{words:?}");
     }
@@ -182,7 +190,17 @@ fn undoing_a_placing_cuts_its_leg_and_adds_nothing() {
 #[test]
 fn records_that_do_not_fit() {
     let bytes = bytes_with(&[]);
-    for record in [[514, 0], [514, 0b101], [514, 0b1001], [513, 1], [514 | 1 << 32, 1], [257, 0b100], [257, 0b1000], [769, 0], [1026, 1]] {
+    for record in [
+        [514, 0],
+        [514, 0b101],
+        [514, 0b1001],
+        [513, 1],
+        [514 | 1 << 32, 1],
+        [257, 0b100],
+        [257, 0b1000],
+        [769, 0],
+        [1026, 1],
+    ] {
         let out = step(&bytes, &placed_by_hand(), &record, [7, 0, 0]);
         assert_eq!((out.answer, out.state), (20, placed_by_hand()), "{record:?}");
     }

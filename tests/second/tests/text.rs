@@ -24,7 +24,10 @@ fn there_and_back_for_any_words() {
 fn says_what_it_cannot_read() {
     for (text, why) in [
         ("2 x", "line 1, column 3: 'x' is not a number"),
-        ("2 2\n 60 | 4294967296", "line 2, column 7: '4294967296' does not fit a 32-bit word (at most 4294967295)"),
+        (
+            "2 2\n 60 | 4294967296",
+            "line 2, column 7: '4294967296' does not fit a 32-bit word (at most 4294967295)",
+        ),
         ("-1", "line 1, column 1: '-1' is below 0, and a sheet has no negative numbers"),
         ("1.5", "line 1, column 1: '1.5' is not a number"),
         ("1;2", "line 1, column 1: '1;2' is not a number"),

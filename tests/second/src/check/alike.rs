@@ -13,8 +13,12 @@ use crate::tally::Tally;
 use crate::verdict::alive;
 
 pub const NAMES: &[&str] = &[
-    "runs: settle as worked out", "runs: two that end alike settle alike", "runs: with a placing",
-    "runs: with an exclusion", "runs: the two in different order", "runs: alike, with placings and a settling between",
+    "runs: settle as worked out",
+    "runs: two that end alike settle alike",
+    "runs: with a placing",
+    "runs: with an exclusion",
+    "runs: the two in different order",
+    "runs: alike, with placings and a settling between",
 ];
 
 /// A run: its accepted steps and the state it ends in.
@@ -57,7 +61,9 @@ pub fn check(rng: &mut Rng, scene: &Scene, tally: &mut Tally) -> Result<(), Trou
     let settled = settle(&scene.sheet, &one.end).0;
     let ideal = settle(&scene.sheet, &worked_out(scene, &one)).0;
     let same = alike(&scene.sheet, &settled, &ideal);
-    hold(same, NAMES[0], scene, &scene.state, || format!("steps {:?}\nsets {:?}\nworked out {:?}\n", one.log, &settled.sets[..7], &ideal.sets[..7]))?;
+    hold(same, NAMES[0], scene, &scene.state, || {
+        format!("steps {:?}\nsets {:?}\nworked out {:?}\n", one.log, &settled.sets[..7], &ideal.sets[..7])
+    })?;
     tally.add(NAMES[0]);
     if one.log.iter().any(|w| w[0] == 1) {
         tally.add(NAMES[2]);
@@ -118,7 +124,11 @@ fn second_run(rng: &mut Rng, scene: &Scene, one: &Run) -> Option<Run> {
     rng.shuffle(&mut deeds);
     let mut run = Run::from(scene);
     for (kind, x) in deeds {
-        let words = if kind == 1 { [1, predecessor(&goal, &run.end.path(), x) as u64, x as u64] } else { [kind, x as u64, 0] };
+        let words = if kind == 1 {
+            [1, predecessor(&goal, &run.end.path(), x) as u64, x as u64]
+        } else {
+            [kind, x as u64, 0]
+        };
         if !run.try_step(&scene.sheet, words) {
             return None;
         }
@@ -143,7 +153,13 @@ fn predecessor(goal: &[usize], now: &[usize], x: usize) -> usize {
 fn compare(scene: &Scene, one: &Run, other: &Run, settled: &State, tally: &mut Tally) -> Result<(), Trouble> {
     let again = settle(&scene.sheet, &other.end).0;
     hold(alike(&scene.sheet, settled, &again), NAMES[1], scene, &scene.state, || {
-        format!("steps {:?}\nand   {:?}\nsets {:?}\nand  {:?}\n", one.log, other.log, &settled.sets[..7], &again.sets[..7])
+        format!(
+            "steps {:?}\nand   {:?}\nsets {:?}\nand  {:?}\n",
+            one.log,
+            other.log,
+            &settled.sets[..7],
+            &again.sets[..7]
+        )
     })?;
     tally.add(NAMES[1]);
     if one.log != other.log {

@@ -8,7 +8,8 @@ use crate::state::State;
 use crate::step::step_on;
 use crate::tally::Tally;
 
-pub const NAMES: &[&str] = &["stepping back restores the state", "records within n(n-2)", "accepted steps keep the form"];
+pub const NAMES: &[&str] =
+    &["stepping back restores the state", "records within n(n-2)", "accepted steps keep the form"];
 
 pub fn check(rng: &mut Rng, scene: &Scene, tally: &mut Tally) -> Result<(), Trouble> {
     restores(rng, scene, tally)?;
@@ -41,7 +42,9 @@ fn restores(rng: &mut Rng, scene: &Scene, tally: &mut Tally) -> Result<(), Troub
     }
     let old = 2 * before.records as usize;
     let same = state == *before && trail[..old] == scene.trail[..old];
-    hold(same, NAMES[0], scene, before, || format!("steps {log:?}\nended in {}\n", super::trouble::describe(&state)))?;
+    hold(same, NAMES[0], scene, before, || {
+        format!("steps {log:?}\nended in {}\n", super::trouble::describe(&state))
+    })?;
     tally.add(NAMES[0]);
     Ok(())
 }

@@ -10,8 +10,13 @@ use crate::step::step_on;
 use crate::tally::Tally;
 
 pub const NAMES: &[&str] = &[
-    "kept rounds: step 1", "kept rounds: step 2", "kept rounds: step 3", "kept rounds: step 4",
-    "kept rounds: some lost", "kept rounds: a level loses none", "fresh: every round belongs",
+    "kept rounds: step 1",
+    "kept rounds: step 2",
+    "kept rounds: step 3",
+    "kept rounds: step 4",
+    "kept rounds: some lost",
+    "kept rounds: a level loses none",
+    "fresh: every round belongs",
 ];
 
 pub fn check(rng: &mut Rng, scene: &Scene, tally: &mut Tally) -> Result<(), Trouble> {
@@ -48,7 +53,9 @@ fn one(scene: &Scene, words: [u64; 3], tally: &mut Tally) -> Result<(), Trouble>
     });
     let after = rounds_of(n, &out.state);
     let name = if words[0] == 6 { NAMES[5].to_string() } else { format!("kept rounds: step {}", words[0]) };
-    hold(after == kept, &name, scene, &scene.state, || format!("step {words:?}\nkept {kept:?}\nbelong after {after:?}\n"))?;
+    hold(after == kept, &name, scene, &scene.state, || {
+        format!("step {words:?}\nkept {kept:?}\nbelong after {after:?}\n")
+    })?;
     if kept.len() < before.len() {
         tally.add(NAMES[4]);
     }

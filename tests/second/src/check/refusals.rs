@@ -6,7 +6,11 @@ use crate::probe::{OPEN, SECTION, STEP};
 use crate::state::State;
 use crate::tally::Tally;
 
-pub const NAMES: &[&str] = &["refused: state and trail as before, rounds 0", "refused opening: every number 0", "questions change nothing"];
+pub const NAMES: &[&str] = &[
+    "refused: state and trail as before, rounds 0",
+    "refused opening: every number 0",
+    "questions change nothing",
+];
 
 /// A few cases of the comparison's kind for each case of the check.
 pub fn check(seed: u64, number: u64, tally: &mut Tally) -> Result<(), Trouble> {
@@ -31,7 +35,12 @@ fn one(seed: u64, number: u64, tally: &mut Tally) -> Result<(), Trouble> {
     };
     if !well {
         let note = format!("probe case {number}, step {:?}\n", case.words);
-        return Err(Trouble { property: name.to_string(), sheet: case.bytes, state: case.state, note });
+        return Err(Trouble {
+            property: name.to_string(),
+            sheet: case.bytes,
+            state: Box::new(case.state),
+            note,
+        });
     }
     tally.add(name);
     if heads.answer != 0 {

@@ -20,10 +20,16 @@ pub const NAMES: &[&str] = &[
     "verdict: as its words say",
     "no gap and alive: the route keeps the rules",
     "dead: no round keeps the rules",
-    "settling: 0 rounds", "settling: 1 rounds", "settling: 2 rounds",
+    "settling: 0 rounds",
+    "settling: 1 rounds",
+    "settling: 2 rounds",
     "settling: some rule-keeping round there",
     "settling: of a dead state",
-    "struck by window", "struck by metres", "struck by a load", "struck by transfer, partner placed", "struck by transfer, neither placed",
+    "struck by window",
+    "struck by metres",
+    "struck by a load",
+    "struck by transfer, partner placed",
+    "struck by transfer, neither placed",
 ];
 
 pub fn check(scene: &Scene, tally: &mut Tally) -> Result<(), Trouble> {
@@ -59,7 +65,12 @@ fn exactly(scene: &Scene, out: &Outcome, tally: &mut Tally) -> Result<(), Troubl
     }
     let same = now.sets == out.state.sets && rounds == out.rounds;
     hold(same, NAMES[0], scene, &scene.state, || {
-        format!("by insertion {rounds} rounds, sets {:?}\nsettling {} rounds, sets {:?}\n", &now.sets[..7], out.rounds, &out.state.sets[..7])
+        format!(
+            "by insertion {rounds} rounds, sets {:?}\nsettling {} rounds, sets {:?}\n",
+            &now.sets[..7],
+            out.rounds,
+            &out.state.sets[..7]
+        )
     })?;
     tally.add(NAMES[0]);
     hold(rounds <= 2, NAMES[1], scene, &scene.state, || format!("{rounds} rounds\n"))?;
@@ -114,7 +125,8 @@ fn verdict(scene: &Scene, state: &State, tally: &mut Tally) -> Result<(), Troubl
     let says = alive(sheet, state);
     let turned = sheet.jobs.iter().any(|job| job.kind == 3 && turned(&path, job.a, job.b));
     let stranded = (1..sheet.n() - 1).any(|x| owed(sheet, state, x) && state.sets[x] == 0);
-    let sound = in_time(sheet, &path) && in_metres(sheet, &path) && load_kept(sheet, &path) && !turned && !stranded;
+    let sound =
+        in_time(sheet, &path) && in_metres(sheet, &path) && load_kept(sheet, &path) && !turned && !stranded;
     hold(says == sound, NAMES[4], scene, state, || format!("alive {says}\n"))?;
     tally.add(NAMES[4]);
     if says && state.open_places() == 0 {
@@ -149,11 +161,15 @@ fn note_reasons(scene: &Scene, tally: &mut Tally) {
             if !state.is_open(x, facts.path[i]) || !strike::struck(sheet, state, &facts, x, i) {
                 continue;
             }
-            let by_transfer = sheet.jobs.iter().find(|j| j.kind == 3 && (j.a == x || j.b == x) && strike::transfer(sheet, state, &facts, j, x, i));
+            let by_transfer = sheet.jobs.iter().find(|j| {
+                j.kind == 3 && (j.a == x || j.b == x) && strike::transfer(sheet, state, &facts, j, x, i)
+            });
             tally.add(match by_transfer {
                 _ if strike::window(sheet, &facts, x, i) => "struck by window",
                 _ if strike::metres(sheet, &facts, x, i) => "struck by metres",
-                Some(_) if sheet.partner(x).is_some_and(|y| state.on_route(y)) => "struck by transfer, partner placed",
+                Some(_) if sheet.partner(x).is_some_and(|y| state.on_route(y)) => {
+                    "struck by transfer, partner placed"
+                }
                 Some(_) => "struck by transfer, neither placed",
                 None => "struck by a load",
             });

@@ -9,18 +9,29 @@ use crate::text::from_bytes;
 pub struct Trouble {
     pub property: String,
     pub sheet: Vec<u8>,
-    pub state: State,
+    pub state: Box<State>,
     pub note: String,
 }
 
 impl Trouble {
     pub fn of(property: &str, scene: &Scene, state: &State, note: String) -> Trouble {
-        Trouble { property: property.to_string(), sheet: scene.bytes.clone(), state: state.clone(), note }
+        Trouble {
+            property: property.to_string(),
+            sheet: scene.bytes.clone(),
+            state: Box::new(state.clone()),
+            note,
+        }
     }
 }
 
 /// Ok if it holds.
-pub fn hold(holds: bool, property: &str, scene: &Scene, state: &State, note: impl FnOnce() -> String) -> Result<(), Trouble> {
+pub fn hold(
+    holds: bool,
+    property: &str,
+    scene: &Scene,
+    state: &State,
+    note: impl FnOnce() -> String,
+) -> Result<(), Trouble> {
     if holds {
         return Ok(());
     }
@@ -42,7 +53,8 @@ impl fmt::Display for Trouble {
 pub fn describe(state: &State) -> String {
     let stops = (state.stops as usize).min(64);
     let used = (state.level_count as usize).min(64);
-    let sets: Vec<String> = (0..64).filter(|&x| state.sets[x] != 0).map(|x| format!("{x}:{:b}", state.sets[x])).collect();
+    let sets: Vec<String> =
+        (0..64).filter(|&x| state.sets[x] != 0).map(|x| format!("{x}:{:b}", state.sets[x])).collect();
     format!(
         "route {:?} sets [{}] marks {:b} levels {:?} records {}",
         &state.route[..stops],

@@ -15,6 +15,27 @@ const OF_KIND: [(u64, &[u64]); 7] = [
     (7, &[18, 20]),
 ];
 
+/// Besides the answers: things that must be among the cases.
+const MORE: &[&str] = &[
+    "verdict: alive",
+    "verdict: dead",
+    "settling: rounds 0",
+    "settling: rounds 1",
+    "settling: rounds 2",
+    "section: number not in 1 to 6",
+    "section: bytes of a sheet refused by 5",
+    "step: accepted on a sheet refused by 5",
+    "bad case: cut short",
+    "bad case: sheet over its bound",
+    "bad case: trail over its bound",
+    "sheet: above 60,048 bytes",
+    "sheet: 64 nodes",
+    "sheet: 2 nodes",
+    "trail: odd length",
+    "trail: empty",
+    "trail: 8,192 words",
+];
+
 pub fn of_probes() -> Tally {
     let mut names = vec![];
     for number in 0..=5 {
@@ -38,14 +59,7 @@ pub fn of_probes() -> Tally {
     for number in 1..=4 {
         names.push(format!("section: empty by refusal {number}"));
     }
-    for more in [
-        "verdict: alive", "verdict: dead", "settling: rounds 0", "settling: rounds 1", "settling: rounds 2",
-        "section: number not in 1 to 6", "section: bytes of a sheet refused by 5", "step: accepted on a sheet refused by 5",
-        "bad case: cut short", "bad case: sheet over its bound", "bad case: trail over its bound",
-        "sheet: above 60,048 bytes", "sheet: 64 nodes", "sheet: 2 nodes", "trail: odd length", "trail: empty", "trail: 8,192 words",
-    ] {
-        names.push(more.to_string());
-    }
+    names.extend(MORE.iter().map(|name| name.to_string()));
     Tally::expecting(names)
 }
 
@@ -120,7 +134,15 @@ pub fn of_listings() -> Tally {
     for number in 0..=2 {
         names.push(format!("rounds {number}"));
     }
-    for more in ["alive 0", "alive 1", "no steps", "above 60,048 bytes", "exactly 60,048 bytes", "64 nodes", "2 nodes"] {
+    for more in [
+        "alive 0",
+        "alive 1",
+        "no steps",
+        "above 60,048 bytes",
+        "exactly 60,048 bytes",
+        "64 nodes",
+        "2 nodes",
+    ] {
         names.push(more.to_string());
     }
     Tally::expecting(names)

@@ -99,7 +99,11 @@ pub fn compare(plan: &Plan) -> Result<(u64, Tally), String> {
 
 fn tell(plan: &Plan, number: u64, bytes: &[u8], ours: &str, theirs: &[u8]) -> Result<(), String> {
     let came = String::from_utf8_lossy(theirs).to_string();
-    let mut pairs = ours.lines().map(Some).chain(std::iter::repeat(None)).zip(came.lines().map(Some).chain(std::iter::repeat(None)));
+    let mut pairs = ours
+        .lines()
+        .map(Some)
+        .chain(std::iter::repeat(None))
+        .zip(came.lines().map(Some).chain(std::iter::repeat(None)));
     let (a, b) = pairs.find(|(a, b)| a != b || a.is_none()).unwrap_or((None, None));
     println!("sheet {number} differs (seed {}):", plan.seed);
     println!("  expected {}\n  came     {}", a.unwrap_or("no line"), b.unwrap_or("no line"));

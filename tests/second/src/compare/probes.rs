@@ -102,7 +102,14 @@ pub fn compare(plan: &Plan) -> Result<(u64, Tally), String> {
 }
 
 /// Finds the lines that differ and shows the first few.
-fn tell(plan: &Plan, from: u64, made: &Batch, ours: &[u8], theirs: &[u8], before: u64) -> Result<u64, String> {
+fn tell(
+    plan: &Plan,
+    from: u64,
+    made: &Batch,
+    ours: &[u8],
+    theirs: &[u8],
+    before: u64,
+) -> Result<u64, String> {
     let split = |text: &[u8]| -> Vec<Vec<u8>> { text.split(|&b| b == b'\n').map(|l| l.to_vec()).collect() };
     let (ours, theirs) = (split(ours), split(theirs));
     let mut count = 0;

@@ -46,7 +46,7 @@ impl Draft {
 
     /// Only of drafts that keep 1 to 4.
     pub fn sheet(&self) -> Sheet {
-        read(&self.bytes()).ok().expect("a draft made whole")
+        read(&self.bytes()).unwrap_or_else(|no| panic!("a draft made whole is refused by {no}"))
     }
 }
 

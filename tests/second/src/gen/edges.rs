@@ -52,7 +52,10 @@ fn sharpen_place(rng: &mut Rng, draft: &mut Draft, state: &State, x: usize, leg:
         }
         1 => latest(draft, k, arrival - off),
         2 => {
-            let on: i64 = facts.path[i + 1..].windows(2).map(|w| sheet.nodes[w[0]].service + sheet.seconds(w[0], w[1])).sum();
+            let on: i64 = facts.path[i + 1..]
+                .windows(2)
+                .map(|w| sheet.nodes[w[0]].service + sheet.seconds(w[0], w[1]))
+                .sum();
             latest(draft, last, arrival + on - off);
         }
         3 => {

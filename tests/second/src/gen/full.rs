@@ -15,7 +15,8 @@ const START: i64 = 21_600;
 /// Corners in a sweep: street by street, up one and down the next.
 fn corners(rng: &mut Rng, n: usize) -> Vec<(i64, i64)> {
     let streets = 1 + n as i64 / 8;
-    let mut inner: Vec<(i64, i64)> = (0..n - 2).map(|_| (rng.between(0, streets - 1), rng.between(1, 90))).collect();
+    let mut inner: Vec<(i64, i64)> =
+        (0..n - 2).map(|_| (rng.between(0, streets - 1), rng.between(1, 90))).collect();
     inner.sort_by_key(|&(street, along)| (street, if street % 2 == 0 { along } else { -along }));
     let mut all = vec![(0, 0)];
     all.extend(inner.iter().map(|&(street, along)| (street * 40, along * 10)));

@@ -14,11 +14,11 @@ pub fn case(seed: u64, number: u64) -> Case {
     let mut rng = Rng::of(seed, number);
     let rng = &mut rng;
     match number % 20 {
-        0..=3 => opening(rng),
+        0..=2 => opening(rng),
+        3 | 10 => stepping(rng, true),
         4 => section(rng),
         5 | 6 => asking(rng),
         7..=9 => stepping(rng, false),
-        10 => stepping(rng, true),
         11 => tight_room(rng),
         12 => stepping_back(rng),
         13 | 14 => made_up_back(rng),
@@ -28,7 +28,11 @@ pub fn case(seed: u64, number: u64) -> Case {
 }
 
 fn sized(rng: &mut Rng, rare: usize) -> usize {
-    if rng.one_in(rare) { 64 } else { sheets::any_size(rng) }
+    if rng.one_in(rare) {
+        64
+    } else {
+        sheets::any_size(rng)
+    }
 }
 
 /// A sheet that steps run on; one in eight breaks the triangle, which steps do not ask.
@@ -44,7 +48,7 @@ fn draft_for_steps(rng: &mut Rng) -> Draft {
         damage::triangle(rng, &mut made);
     }
     if rng.one_in(3) {
-        made.steps = (0..rng.below(9)).map(|_| [rng.next() as u32, 1, 2]).collect();
+        made.steps = (0..rng.below(9)).map(|_| [rng.any() as u32, 1, 2]).collect();
     }
     made
 }
@@ -55,7 +59,7 @@ fn damaged(rng: &mut Rng) -> Vec<u8> {
     match rng.below(14) {
         0 => vec![],
         12 | 13 => damage::short_and_wrong(rng, made),
-        1 => (0..4 * rng.below(40)).map(|_| rng.next() as u8).collect(),
+        1 => (0..4 * rng.below(40)).map(|_| rng.any() as u8).collect(),
         2 => overlong(rng),
         _ => damage::sheet(rng, made),
     }
@@ -63,7 +67,8 @@ fn damaged(rng: &mut Rng) -> Vec<u8> {
 
 /// More than the program reads; here judged in the normal order.
 fn overlong(rng: &mut Rng) -> Vec<u8> {
-    let heads: [&[u32]; 5] = [&[3], &[2, 1001], &[2, 1, 1, 65], &[2, 1, 1, 2, 5, 4, 0], &[2, 1, 1, 2, 0, 0, 0, 0, 0, 0, 0]];
+    let heads: [&[u32]; 5] =
+        [&[3], &[2, 1001], &[2, 1, 1, 65], &[2, 1, 1, 2, 5, 4, 0], &[2, 1, 1, 2, 0, 0, 0, 0, 0, 0, 0]];
     let mut words = rng.pick(&heads).to_vec();
     words.resize(MOST_BYTES as usize / 4 - rng.below(300), 0);
     draft::to_bytes(&words)
@@ -73,8 +78,8 @@ fn opening(rng: &mut Rng) -> Case {
     let size = sized(rng, 40);
     let bytes = if rng.one_in(4) { sheets::with_steps(rng, size, 4).bytes() } else { damaged(rng) };
     let state = states::garbage(rng);
-    let trail = (0..rng.below(5)).map(|_| rng.next()).collect();
-    Case { question: OPEN, words: [rng.next(), 1, 2], state, bytes, trail }
+    let trail = (0..rng.below(5)).map(|_| rng.any()).collect();
+    Case { question: OPEN, words: [rng.any(), 1, 2], state, bytes, trail }
 }
 
 /// The number stands in all three words, so that it does not matter which one is read.
@@ -98,13 +103,13 @@ fn asking(rng: &mut Rng) -> Case {
         let records = *rng.pick(&[0, 3, 1 << 40, u64::MAX - 1]);
         states::put_levels(rng, &mut state, records);
     }
-    if rng.one_in(4) {
+    if rng.one_in(3) {
         states::break_one(rng, sheet.n(), &mut state);
     }
     if rng.one_in(5) {
         bytes = damaged(rng);
     }
-    Case { question, words: [rng.next(); 3], state, bytes, trail: vec![7; rng.below(3)] }
+    Case { question, words: [rng.any(); 3], state, bytes, trail: vec![7; rng.below(3)] }
 }
 
 fn reached(rng: &mut Rng, sheet: &Sheet) -> (State, Vec<u64>) {
@@ -135,9 +140,9 @@ fn stepping(rng: &mut Rng, broken: bool) -> Case {
         };
     }
     if broken {
-        match rng.below(4) {
-            0 => bytes = damaged(rng),
-            1 => state = states::garbage(rng),
+        match rng.below(7) {
+            0 | 1 => bytes = damaged(rng),
+            2 => state = states::garbage(rng),
             _ => states::break_one(rng, sheet.n(), &mut state),
         }
         if rng.one_in(4) {
@@ -170,7 +175,7 @@ fn stepping_back(rng: &mut Rng) -> Case {
     if rng.one_in(2) {
         trails::spoil(rng, sheet.n(), &mut trail);
     }
-    Case { question: STEP, words: [7, rng.next(), rng.next()], state, bytes, trail }
+    Case { question: STEP, words: [7, rng.any(), rng.any()], state, bytes, trail }
 }
 
 /// The same with a made-up state and records that fit it, though nobody wrote them.
@@ -215,7 +220,7 @@ fn anything(rng: &mut Rng) -> Case {
         0 => case.trail.resize(8_192, 1),
         1 => case.state = states::garbage(rng),
         2 => case.question = rng.below(4) as u64,
-        3 => case.words = [rng.next(), rng.next(), rng.next()],
+        3 => case.words = [rng.any(), rng.any(), rng.any()],
         4 => case.bytes.truncate(rng.below(case.bytes.len() + 1)),
         _ => damage::length(rng, &mut case.bytes),
     }

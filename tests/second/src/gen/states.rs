@@ -50,7 +50,7 @@ pub fn put_levels(rng: &mut Rng, state: &mut State, records: u64) {
     state.level_count = *rng.pick(&[0, 1, 1, 2, 5, 63, 64]);
     let used = state.level_count as usize;
     for level in state.levels[..used].iter_mut() {
-        *level = rng.next() % (records + 1);
+        *level = rng.any() % (records + 1);
     }
     state.levels[..used].sort();
 }
@@ -58,10 +58,26 @@ pub fn put_levels(rng: &mut Rng, state: &mut State, records: u64) {
 /// Breaks the form (or, rarely, does not) at one place.
 pub fn break_one(rng: &mut Rng, n: usize, state: &mut State) {
     let stops = (state.stops as usize).clamp(1, 64);
-    match rng.below(14) {
+    match rng.below(18) {
         0 => state.route[rng.below(stops)] = rng.below(n + 2) as u64,
+        14 => state.route[rng.below(stops)] = n as u64,
+        // A stop with an open place, and a place on a leg that is not there.
+        15 => state.sets[state.route[rng.below(stops)] as usize % 64] |= 1,
+        16 => state.sets[1 + rng.below(n - 1)] |= 1 << rng.below(n),
+        17 => state.levels[(state.level_count as usize).min(63)] = state.records.min(1),
         1 => state.route[rng.below(64)] = steps::odd(rng),
-        2 => state.stops = *rng.pick(&[0, 1, state.stops.wrapping_add(1), state.stops.wrapping_sub(1), 64, 65, 1 << 32, u64::MAX]),
+        2 => {
+            state.stops = *rng.pick(&[
+                0,
+                1,
+                state.stops.wrapping_add(1),
+                state.stops.wrapping_sub(1),
+                64,
+                65,
+                1 << 32,
+                u64::MAX,
+            ])
+        }
         3 => state.sets[rng.below(64)] |= 1 << rng.below(64),
         4 => state.sets[rng.below(n)] |= 1 << (n - 1),
         5 => state.sets[0] |= 1,
@@ -89,7 +105,7 @@ pub fn garbage(rng: &mut Rng) -> State {
         .map(|_| match rng.below(3) {
             0 => 0,
             1 => rng.below(64) as u64,
-            _ => rng.next(),
+            _ => rng.any(),
         })
         .collect();
     State::from_words(&words)

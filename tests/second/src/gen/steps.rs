@@ -7,8 +7,24 @@ use crate::step::step_on;
 
 /// Numbers that are wrong as a kind or a node in one way or another, cut to any width.
 const ODD: [u64; 18] = [
-    0, 7, 8, 62, 63, 64, 65, 255, 256, 257, 258, 0x7fff_ffff, 0x8000_0000, 0xffff_ffff,
-    0x1_0000_0001, 0x1_0000_0005, 1 << 63, u64::MAX,
+    0,
+    7,
+    8,
+    62,
+    63,
+    64,
+    65,
+    255,
+    256,
+    257,
+    258,
+    0x7fff_ffff,
+    0x8000_0000,
+    0xffff_ffff,
+    0x1_0000_0001,
+    0x1_0000_0005,
+    1 << 63,
+    u64::MAX,
 ];
 
 pub fn odd(rng: &mut Rng) -> u64 {

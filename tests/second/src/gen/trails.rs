@@ -71,6 +71,6 @@ fn any_word(rng: &mut Rng, word: u64) -> u64 {
         4 => word.wrapping_sub(256),
         5 => word & word.wrapping_sub(1),
         6 => 256 * rng.below(5) as u64 + rng.below(66) as u64,
-        _ => rng.next(),
+        _ => rng.any(),
     }
 }
