@@ -123,10 +123,10 @@ pub fn short_and_wrong(rng: &mut Rng, mut draft: Draft) -> Vec<u8> {
 }
 
 fn one(rng: &mut Rng, draft: &mut Draft) {
-    match rng.below(5) {
-        0 => count(rng, draft),
+    match rng.below(7) {
+        0 | 5 => count(rng, draft),
         1 | 2 => value(rng, draft),
-        3 => doubled(rng, draft),
+        3 | 6 => doubled(rng, draft),
         _ => triangle(rng, draft),
     }
 }

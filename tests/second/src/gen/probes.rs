@@ -97,7 +97,7 @@ fn section(rng: &mut Rng) -> Case {
 /// Open places and verdict, of reached, made-up and broken states.
 fn asking(rng: &mut Rng) -> Case {
     let (mut bytes, sheet) = runnable(rng);
-    let question = *rng.pick(&[PLACES, VERDICT, VERDICT]);
+    let question = *rng.pick(&[PLACES, VERDICT]);
     let mut state = if rng.one_in(2) { states::made_up(rng, &sheet) } else { reached(rng, &sheet).0 };
     if rng.one_in(3) {
         let records = *rng.pick(&[0, 3, 1 << 40, u64::MAX - 1]);
@@ -106,7 +106,7 @@ fn asking(rng: &mut Rng) -> Case {
     if rng.one_in(3) {
         states::break_one(rng, sheet.n(), &mut state);
     }
-    if rng.one_in(5) {
+    if rng.one_in(3) {
         bytes = damaged(rng);
     }
     Case { question, words: [rng.any(); 3], state, bytes, trail: vec![7; rng.below(3)] }

@@ -54,9 +54,18 @@ fn of_kind(rng: &mut Rng, sheet: &Sheet, state: &State, kind: u64) -> [u64; 3] {
             Some((x, leg)) => [kind, leg as u64, x as u64],
             None => [kind, node(rng), node(rng)],
         },
-        3 | 4 => [kind, node(rng), odd(rng)],
+        3 | 4 => [kind, unplaced(rng, sheet, state), odd(rng)],
         _ => [kind, odd(rng), odd(rng)],
     }
+}
+
+/// Mostly an inner node off the route; now and then any.
+fn unplaced(rng: &mut Rng, sheet: &Sheet, state: &State) -> u64 {
+    let free: Vec<usize> = (1..sheet.n() - 1).filter(|&x| !state.on_route(x)).collect();
+    if free.is_empty() || rng.one_in(5) {
+        return rng.below(sheet.n()) as u64;
+    }
+    *rng.pick(&free) as u64
 }
 
 /// Any kind, words mostly in range.
