@@ -4,17 +4,17 @@ static i32 square[MOST_NODES][MOST_NODES];
 
 /* With a diagonal of 0, triples that are not different can never break the rule, so the inner
    loop needs no question about them. */
-static int triangle_broken(const u8 *table, u32 n)
+static int triangle_broken(const u8 *table, u64 n)
 {
     i32 bad = 0;
-    for (u32 i = 0; i < n; i++) {
-        for (u32 k = 0; k < n; k++) square[i][k] = (i32)word(table + 4 * (i * n + k));
+    for (u64 i = 0; i < n; i++) {
+        for (u64 k = 0; k < n; k++) square[i][k] = (i32)word(table + 4 * (i * n + k));
         square[i][i] = 0;
     }
-    for (u32 i = 0; i < n && !bad; i++)
-        for (u32 j = 0; j < n; j++) {
+    for (u64 i = 0; i < n && !bad; i++)
+        for (u64 j = 0; j < n; j++) {
             i32 first = square[i][j];
-            for (u32 k = 0; k < n; k++) bad |= square[i][k] > first + square[j][k];
+            for (u64 k = 0; k < n; k++) bad |= square[i][k] > first + square[j][k];
         }
     return bad;
 }

@@ -93,7 +93,8 @@ static u64 read_table(Reader *r, const Sheet *s, const u8 **table)
     u32 count, bad = 0;
     u64 no = section(r, s->n * s->n, s->n * s->n, 1, table, &count);
     if (no) return no;
-    for (u32 i = 0; i < count; i++) bad |= word(*table + 4 * i) > 1000000;
+    const u8 *entries = *table;
+    for (u64 i = 0; i < count; i++) bad |= word(entries + 4 * i) > 1000000;
     return bad ? 3 : 0;
 }
 
