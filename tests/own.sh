@@ -20,7 +20,7 @@ try() {
     got=$?
     if [ "$got" -eq "$wanted" ]; then
         passed=$((passed + 1))
-        echo "ok      $name: $(tail -n 1 "$work/out")"
+        echo "ok      $name: $(grep -v '^$' "$work/out" | tail -n 1)"
     else
         failed=$((failed + 1))
         echo "FAILED  $name: status $got"

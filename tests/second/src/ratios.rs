@@ -4,7 +4,7 @@
 use std::process::exit;
 use std::time::Instant;
 
-use second::compare::runner;
+use second::compare::runner::{self, End};
 use second::gen::full;
 use second::rng::Rng;
 
@@ -28,7 +28,7 @@ fn run(command: &[String], operation: u64, times: u64, sheet: &[u8]) -> Result<(
         input.extend(times.to_le_bytes());
         input.extend(sheet);
         let begin = Instant::now();
-        let output = runner::run(command, input)?;
+        let output = runner::run(command, input, End::Well)?;
         let outside = begin.elapsed().as_nanos() as f64;
         Ok((String::from_utf8_lossy(&output).to_string(), outside))
     };

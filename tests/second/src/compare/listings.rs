@@ -3,7 +3,8 @@
 use std::path::Path;
 
 use super::coverage::{note_listing, of_listings};
-use super::{runner, Plan, SHOWN};
+use super::runner::{self, End};
+use super::{Plan, SHOWN};
 use crate::gen::{damage, full, sheets, steps};
 use crate::listing::listing;
 use crate::rng::Rng;
@@ -82,7 +83,7 @@ pub fn compare(plan: &Plan) -> Result<(u64, Tally), String> {
         let bytes = sheet(plan.seed, number);
         let ours = listing(&bytes);
         note_listing(&mut tally, &bytes, &ours);
-        let theirs = match runner::run(&plan.program, bytes.clone()) {
+        let theirs = match runner::run(&plan.program, bytes.clone(), End::Well) {
             Ok(theirs) => theirs,
             Err(why) => why.into_bytes(),
         };
