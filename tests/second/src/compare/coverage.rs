@@ -17,6 +17,7 @@ const OF_KIND: [(u64, &[u64]); 7] = [
 
 /// Besides the answers: things that must be among the cases.
 const MORE: &[&str] = &[
+    "placing with room 0: answer 17",
     "verdict: alive",
     "verdict: dead",
     "settling: rounds 0",
@@ -100,6 +101,9 @@ fn note_step(tally: &mut Tally, case: &Case, answer: u64, rounds: u64, broken: b
     if (1..=7).contains(&kind) && (answer == 0 || answer > 11) {
         tally.add(format!("step kind {kind}: answer {answer}"));
     }
+    if kind == 1 && answer == 17 && case.trail.len() < 2 {
+        tally.add("placing with room 0: answer 17");
+    }
     if kind == 5 && answer == 0 {
         tally.add(format!("settling: rounds {rounds}"));
     }
@@ -142,6 +146,8 @@ pub fn of_listings() -> Tally {
         "exactly 60,048 bytes",
         "64 nodes",
         "2 nodes",
+        "empty input",
+        "65 nodes",
     ] {
         names.push(more.to_string());
     }
@@ -162,6 +168,12 @@ pub fn note_listing(tally: &mut Tally, bytes: &[u8], expected: &str) {
         if sheet.n() == 64 || sheet.n() == 2 {
             tally.add(format!("{} nodes", sheet.n()));
         }
+    }
+    if bytes.is_empty() {
+        tally.add("empty input");
+    }
+    if bytes.get(12..16) == Some(&[65, 0, 0, 0]) && expected == "refused 2\n" {
+        tally.add("65 nodes");
     }
     if expected.starts_with("route") {
         tally.add("no steps");

@@ -7,6 +7,7 @@ use super::runner::{self, End};
 use super::{Plan, SHOWN};
 use crate::gen::{damage, full, sheets, steps};
 use crate::listing::listing;
+use crate::papers::bytes_with;
 use crate::rng::Rng;
 use crate::tally::Tally;
 
@@ -17,6 +18,7 @@ pub fn sheet(seed: u64, number: u64) -> Vec<u8> {
     match number % 16 {
         0 if number % 64 == 0 => fullest(rng, 0),
         0 if number % 64 == 16 => fullest(rng, 1 + number as usize % 5),
+        0 if number % 64 == 32 => examples(rng, number),
         0 => without_steps(rng),
         1 => whole_day(rng),
         2..=5 => {
@@ -41,6 +43,18 @@ fn fullest(rng: &mut Rng, more: usize) -> Vec<u8> {
     let mut bytes = draft.bytes();
     bytes.resize(bytes.len() + more, 0);
     bytes
+}
+
+/// 01's own examples: nothing at all, 65 nodes, and its sheet with one number altered.
+fn examples(rng: &mut Rng, number: u64) -> Vec<u8> {
+    match number / 64 % 4 {
+        0 => vec![],
+        1 => bytes_with(&[(3, 65)]),
+        _ => {
+            let (word, value) = *rng.pick(&[(11, 24), (2, 30), (2, 29), (1, 1), (11, 19), (14, 10), (1, 2)]);
+            bytes_with(&[(word, value)])
+        }
+    }
 }
 
 fn without_steps(rng: &mut Rng) -> Vec<u8> {

@@ -155,8 +155,9 @@ fn stepping(rng: &mut Rng, broken: bool) -> Case {
 /// The trail is cut to just too little, just enough, or a little more than the step needs.
 fn tight_room(rng: &mut Rng) -> Case {
     let (bytes, sheet) = runnable(rng);
-    let (state, mut trail) = reached(rng, &sheet);
-    let words = steps::pick_of(rng, &sheet, &state, &[1, 2, 3, 4, 5, 5]);
+    let (state, mut trail) =
+        if rng.one_in(4) { (State::fresh(sheet.n()), vec![]) } else { reached(rng, &sheet) };
+    let words = steps::pick_of(rng, &sheet, &state, &[1, 1, 2, 3, 4, 5, 5]);
     trail.resize(2 * state.records as usize + 200, 5);
     let needed = step_on(&sheet, &state, &trail, words).state.records - state.records;
     let room = state.records + needed + rng.below(3) as u64;
