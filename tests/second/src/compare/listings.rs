@@ -5,7 +5,7 @@ use std::path::Path;
 use super::coverage::{note_listing, of_listings};
 use super::runner::{self, End};
 use super::{Plan, SHOWN};
-use crate::gen::{damage, full, sheets, steps};
+use crate::gen::{damage, edges, full, sheets, states, steps};
 use crate::listing::listing;
 use crate::papers::bytes_with;
 use crate::rng::Rng;
@@ -28,6 +28,7 @@ pub fn sheet(seed: u64, number: u64) -> Vec<u8> {
         }
         6 => levels_only(rng),
         7 => two_nodes(rng),
+        8..=11 => at_the_edge(rng),
         _ => {
             let size = sheets::any_size(rng);
             let count = 5 + rng.below(50);
@@ -65,6 +66,20 @@ fn without_steps(rng: &mut Rng) -> Vec<u8> {
 fn whole_day(rng: &mut Rng) -> Vec<u8> {
     let mut draft = full::day(rng, 64);
     draft.steps = full::story(rng, &draft.sheet(), 60);
+    draft.bytes()
+}
+
+/// Bent to the edge of a test for a state that some steps lead to.
+fn at_the_edge(rng: &mut Rng) -> Vec<u8> {
+    let size = sheets::any_size(rng).min(20);
+    let mut draft = sheets::plain(rng, size);
+    edges::loosen(rng, &mut draft);
+    let count = rng.below(8);
+    let (state, _) = states::reached(rng, &draft.sheet(), count);
+    for _ in 0..1 + rng.below(3) {
+        edges::sharpen(rng, &mut draft, &state);
+    }
+    draft.steps = steps::list(rng, &draft.sheet(), 30);
     draft.bytes()
 }
 
