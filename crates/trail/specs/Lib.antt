@@ -7,3 +7,4 @@ pub mod TrailLaws
 pub mod UndoLaws
 pub mod Steps
 pub mod StepLaws
+pub mod Small
