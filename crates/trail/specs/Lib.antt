@@ -8,3 +8,8 @@ pub mod UndoLaws
 pub mod Steps
 pub mod StepLaws
 pub mod Small
+pub mod Spells
+pub mod Run
+pub mod Since
+pub mod StepBack
+pub mod Bound

@@ -154,11 +154,15 @@ heir-word p x w h = decided (has w p) (λ e. rw (heir-yes p x w e) (with-fits w 
 
 pub small-words : {n : ℕ} {b : Board} {a w : ℕ} {c : Board} → Sound n b → Words b → Small n b a w c → Words c
 small-words {n = n} {b = b} s h (shrinks x v f t l i j k) =
-    rw k (record { fits = λ y m. decided (eqb y x)
-        (λ e. rw (eqb-true y x e, put-same b x v (omega (arith, s .wide .sets, inner-in n x (f .node) .1, s .small))) l)
-        (λ e. rw (put-other b x v y (eqb-false y x e)) (h .fits y m)) })
+    rw k (record {
+      fits = λ y m. decided (eqb y x)
+          (λ e. rw (eqb-true y x e, put-same b x v (omega (arith, s .wide .sets, inner-in n x (f .node) .1, s .small))) l)
+          (λ e. rw (put-other b x v y (eqb-false y x e)) (h .fits y m));
+    })
 small-words {n = n} {b = b} s h (places p x f o i j k) =
-    rw k (record { fits = λ y m. decided (eqb y x)
-        (λ e. rw (eqb-true y x e, placed-none n b p x (s .small) (s .wide) (s .form) f) (omega arith))
-        (λ e. rw (placed-set n b p x (s .small) (s .wide) (s .form) f y m (eqb-false y x e)) (heir-word p x (setOf b y) (h .fits y m))) })
+    rw k (record {
+      fits = λ y m. decided (eqb y x)
+          (λ e. rw (eqb-true y x e, placed-none n b p x (s .small) (s .wide) (s .form) f) (omega arith))
+          (λ e. rw (placed-set n b p x (s .small) (s .wide) (s .form) f y m (eqb-false y x e)) (heir-word p x (setOf b y) (h .fits y m)));
+    })
 small-words {b = b} s h (marks x f o i j k) = rw k (marked-words b x h)
