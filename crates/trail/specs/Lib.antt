@@ -13,3 +13,4 @@ pub mod Run
 pub mod Since
 pub mod StepBack
 pub mod Bound
+pub mod Examples
