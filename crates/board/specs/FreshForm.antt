@@ -90,7 +90,7 @@ module _ (n : ℕ) (two : 2 ≤ n) (small : n ≤ 64) where
       go false = omega arith
 
   pub fresh-held : Held (freshOf n)
-  fresh-held = record { wide = fresh-wide; levels = refl; words = record { fits = fresh-word } }
+  fresh-held = record { wide = fresh-wide; levels = refl; words = record { fits = fresh-word; marks = omega arith } }
 
 -- the fresh state is in form
 pub fresh-in-form : (n : ℕ) → 2 ≤ n → n ≤ 64 → inForm n (freshState n) ≡ true

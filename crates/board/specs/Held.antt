@@ -6,9 +6,10 @@ use Rattle.board.specs.Board.{Board, boardOf, setOf}
 use Rattle.board.specs.FormLaws.{Wide}
 use Rattle.board.specs.declared.State.{State}
 
--- each set is a word
+-- each set is a word, and so are the marks
 pub record Words (b : Board) : Type 0 where
   pub fits : (y : ℕ) → y < 64 → setOf b y < 2 ^ 64
+  pub marks : b .marks < 2 ^ 64
 
 pub record Held (s : State) : Type 0 where
   pub wide : Wide (boardOf s)

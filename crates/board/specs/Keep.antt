@@ -393,11 +393,11 @@ module _ (n : ℕ) (b : Board) (x w : ℕ) (small : n ≤ 64) (wide : Wide b) (f
       (λ z. absurd (false-true (sym (without-same v x) ∙ ap (λ (q : ℕ). has (without v x) q) (sym (eqb-true i x z)) ∙ h)))
       (λ z. without-other (legsOf b) x i (eqb-false i x z) ∙ within-has v (legsOf b) e i l (without-part v x i h))))
 
-  unplaced-set : (y : ℕ) → y < 64 → (y ≡ x → ⊥) → setOf (unplaced b x w) y ≡ strike x (setOf b y)
+  pub unplaced-set : (y : ℕ) → y < 64 → (y ≡ x → ⊥) → setOf (unplaced b x w) y ≡ strike x (setOf b y)
   unfolding setOf unplaced
   unplaced-set y l d = map-put (strike x) (b .sets) x w y (omega (arith, wide .sets)) d
 
-  unplaced-here : setOf (unplaced b x w) x ≡ w
+  pub unplaced-here : setOf (unplaced b x w) x ≡ w
   unfolding setOf unplaced
   unplaced-here = map-here (strike x) (b .sets) x w (omega (arith, wide .sets, inner-in n x node .1))
 

@@ -237,9 +237,11 @@ module _ (n : ℕ) (two : 2 ≤ n) (small : n ≤ 64) (t : List ℕ) (r : State)
     under = λ i h. absurd (omega arith);
     floor = λ i h l. omega arith;
     below = λ i h. refl;
+    long = refl;
   })
 
-  reached : Since n (freshBoard n) 0 0 [] t r u
+  -- what holds of every state reached: it is in form, and its trail spells the way from the fresh board
+  pub reached : Since n (freshBoard n) 0 0 [] t r u
   reached = runs-since fresh-sound (fresh-held n two small .words) start run
 
   all-records : worth n (boardOf r) + r .records ≤ n * (n - 2)
@@ -262,10 +264,6 @@ module _ (n : ℕ) (two : 2 ≤ n) (small : n ≤ 64) (t : List ℕ) (r : State)
   pub settle-room : (new : List ℕ) → Smaller (r .sets) new → r .records + shrunk (r .sets) new 64 ≤ n * (n - 2)
   unfolding worth
   settle-room new g = omega (arith, all-records, settle-less n (boardOf r) new sound (reached .held .words) g 64 (omega arith))
-
-  -- the state stays in form (19)
-  pub reached-form : InForm n r
-  reached-form = reached .form
 
   -- and every record above the last level fits (20)
   pub reached-fits : 0 < r .depth → undoLevel n r u .0 ≡ true

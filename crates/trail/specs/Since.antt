@@ -23,7 +23,7 @@ use Rattle.board.specs.Held.{Words, Held}
 use Rattle.board.specs.Keep.{Splits}
 use Rattle.board.specs.declared.State.{State}
 use Rattle.trail.specs.Trail.{roomOf, pushed, firstOf, secondOf, shrunk, Noted, noteOne, noteBelow}
-use Rattle.trail.specs.TrailLaws.{pushed-first, pushed-second, pushed-room, pushed-other, shrunk-upto, shrunk-differ, note-same, note-differ, note-all}
+use Rattle.trail.specs.TrailLaws.{pushed-first, pushed-second, pushed-long, pushed-room, pushed-other, shrunk-upto, shrunk-differ, note-same, note-differ, note-all}
 use Rattle.trail.specs.Refusals.{placeRefusal, excludeRefusal, requireRefusal}
 use Rattle.trail.specs.Undo.{strictly, undoMany}
 use Rattle.trail.specs.Steps.{Ran, answered, stepOf, recorded, placeStep, closeStep, excludeStep, requireStep, settleStep, levelStep, backStep, baseOf, undoLevel, dropped}
@@ -44,6 +44,7 @@ pub record Since (n : ℕ) (b : Board) (k d : ℕ) (levels t₀ : List ℕ) (s :
   pub under : (i : ℕ) → i < d → getD (s .levels) i 0 ≡ getD levels i 0
   pub floor : (i : ℕ) → d ≤ i → i < s .depth → k ≤ getD (s .levels) i 0
   pub below : (i : ℕ) → i < 2 * k → getD t i 0 ≡ getD t₀ i 0
+  pub long : length t ≡ length t₀
 
 -- an accepted step: its refusal is 0, and it ran
 pub accepted : (k : ℕ) (s : State) (t : List ℕ) (ran : Ran) (r : State) (u : List ℕ) → stepOf k s t ran ≡ answered 0 r u → (k ≡ 0) × (ran ≡ answered 0 r u)
@@ -143,6 +144,7 @@ module _ (n : ℕ) (b : Board) (k d : ℕ) (levels t₀ : List ℕ) where
         under = h .under;
         floor = h .floor;
         below = λ i z. pushed-other t r a w i (λ y. omega (arith, h .least)) (λ y. omega (arith, h .least)) ∙ h .below i z;
+        long = pushed-long t r a w ∙ h .long;
       }
 
   -- to what a step ran to
@@ -289,6 +291,7 @@ module _ (n : ℕ) (b : Board) (k d : ℕ) (levels t₀ : List ℕ) where
             (λ v. rw (eqb-true i (s .depth) v, same) (h .least))
             (λ v. let w = eqb-false i (s .depth) v in rw (getD-set-other (s .levels) (s .depth) i (s .records) 0 w) (h .floor i z (omega (arith, w))));
         below = h .below;
+        long = h .long;
       })
 
   -- ---- stepping back to a level that was opened since
@@ -319,6 +322,7 @@ module _ (n : ℕ) (b : Board) (k d : ℕ) (levels t₀ : List ℕ) where
         under = λ i z. getD-set-other (s .levels) (s .depth - 1) i 0 0 (λ y. omega (arith, dm, m)) ∙ h .under i z;
         floor = λ i z y. rw (getD-set-other (s .levels) (s .depth - 1) i 0 0 (λ v. omega arith)) (h .floor i z (omega arith));
         below = h .below;
+        long = h .long;
       }))
 
   -- an accepted step: all but stepping back go on from here

@@ -147,22 +147,33 @@ small-undo {n = n} {b = b} s (marks x f o i j k) = rw (i, j, k) (marks-undo n b 
 -- and the sets stay words
 marked-words : (b : Board) (x : ℕ) → Words b → Words (marked b x)
 unfolding setOf marked
-marked-words b x h = record { fits = h .fits }
+marked-words b x h = record { fits = h .fits; marks = with-fits (b .marks) x (h .marks) }
+
+put-marks : (b : Board) (x v : ℕ) → putSet b x v .marks ≡ b .marks
+unfolding putSet
+put-marks b x v = refl
+
+placed-marks : (b : Board) (p x : ℕ) → placed b p x .marks ≡ b .marks
+unfolding placed
+placed-marks b p x = refl
+
+-- a set put is a word
+pub put-words : (b : Board) (x v : ℕ) → x < length (b .sets) → v < 2 ^ 64 → Words b → Words (putSet b x v)
+put-words b x v l f h = record {
+  fits = λ y m. decided (eqb y x) (λ e. rw (eqb-true y x e, put-same b x v l) f) (λ e. rw (put-other b x v y (eqb-false y x e)) (h .fits y m));
+  marks = rw (put-marks b x v) (h .marks);
+}
 
 heir-word : (p x w : ℕ) → w < 2 ^ 64 → heir p x w < 2 ^ 64
 heir-word p x w h = decided (has w p) (λ e. rw (heir-yes p x w e) (with-fits w x h)) (λ e. rw (heir-no p x w e) h)
 
 pub small-words : {n : ℕ} {b : Board} {a w : ℕ} {c : Board} → Sound n b → Words b → Small n b a w c → Words c
-small-words {n = n} {b = b} s h (shrinks x v f t l i j k) =
-    rw k (record {
-      fits = λ y m. decided (eqb y x)
-          (λ e. rw (eqb-true y x e, put-same b x v (omega (arith, s .wide .sets, inner-in n x (f .node) .1, s .small))) l)
-          (λ e. rw (put-other b x v y (eqb-false y x e)) (h .fits y m));
-    })
+small-words {n = n} {b = b} s h (shrinks x v f t l i j k) = rw k (put-words b x v (omega (arith, s .wide .sets, inner-in n x (f .node) .1, s .small)) l h)
 small-words {n = n} {b = b} s h (places p x f o i j k) =
     rw k (record {
       fits = λ y m. decided (eqb y x)
           (λ e. rw (eqb-true y x e, placed-none n b p x (s .small) (s .wide) (s .form) f) (omega arith))
           (λ e. rw (placed-set n b p x (s .small) (s .wide) (s .form) f y m (eqb-false y x e)) (heir-word p x (setOf b y) (h .fits y m)));
+      marks = rw (placed-marks b p x) (h .marks);
     })
 small-words {b = b} s h (marks x f o i j k) = rw k (marked-words b x h)

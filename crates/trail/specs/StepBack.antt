@@ -1,12 +1,12 @@
 -- The step-back theorem, and every accepted step keeps the form.
 use mathlib.Core.Path.{_≡_, refl, ap, sym, _∙_, subst}
-use mathlib.Core.Logic.{_⊎_, inl, inr}
+use mathlib.Core.Logic.{⊎-elim}
 use mathlib.Core.Bool.{Bool, true, false}
 use mathlib.Core.List.{List}
-use Prim.Native.Nat.{ℕ, zero, suc, _+_, _-_, _*_, _≤_, _<_}
+use Prim.Native.Nat.{ℕ, zero, suc, _+_, _-_, _*_, _≤_, _<_, _^_, min}
 use native.Mathlib.Omega.{arith}
-use lib.ListN.{length, getD, set, length-set}
-use lib.Seq.{getD-set-same, getD-set-other, ext-getD}
+use lib.ListN.{length, getD, take, set, length-set, length-take}
+use lib.Seq.{getD-set-same, getD-set-other, getD-take, ext-getD}
 use lib.Dec.{eqb, ltb}
 use borrow.Author.Tests.{eqb-true, eqb-false, ltb-true, ltb-false}
 use Rattle.laws.specs.Logic.{decided}
@@ -18,11 +18,18 @@ use Rattle.board.specs.declared.State.{State}
 use Rattle.trail.specs.Trail.{roomOf}
 use Rattle.trail.specs.Undo.{undoMany}
 use Rattle.trail.specs.UndoLaws.{many-sound}
+use Rattle.trail.specs.UndoWords.{many-words}
 use Rattle.trail.specs.Steps.{Ran, answered, levelStep, backStep, baseOf, undoLevel, dropped}
 use Rattle.trail.specs.StepLaws.{back-fits}
 use Rattle.trail.specs.Spells.{Spells, spells-undo, spells-nothing}
-use Rattle.trail.specs.Run.{Move, place, close, exclude, require, settle, level, back, Run}
-use Rattle.trail.specs.Since.{Since, Stepped, accepted, levels-drop, step-since, move-since}
+use Rattle.trail.specs.Run.{Move, level, Run}
+use Rattle.trail.specs.Since.{Since, accepted, levels-drop, step-since, move-since}
+
+-- two lists with the same first entries
+take-same : (k : ℕ) (l m : List ℕ) → length l ≡ length m → ((i : ℕ) → i < k → getD l i 0 ≡ getD m i 0) → take k l ≡ take k m
+take-same k l m e h =
+    ext-getD 0 (take k l) (take k m) (length-take k l ∙ ap (min k) e ∙ sym (length-take k m))
+    (λ i b. let b' : i < k = omega (arith, b, length-take k l) in getD-take k l i 0 b' ∙ h i b' ∙ sym (getD-take k m i 0 b'))
 
 -- where nothing has happened yet
 pub here-since : (n : ℕ) (s : State) (t : List ℕ) → n ≤ 64 → Held s → InForm n s → s .records ≤ roomOf t → Since n (boardOf s) (s .records) (s .depth) (s .levels) t s t
@@ -39,6 +46,7 @@ here-since n s t small held form room =
       under = λ i h. refl;
       floor = λ i h l. absurd (omega arith);
       below = λ i h. refl;
+      long = refl;
     }
 
 run-since : {n : ℕ} {b : Board} {k d : ℕ} {levels t₀ : List ℕ} {s : State} {t : List ℕ} {r : State} {u : List ℕ} → Sound n b → Words b
@@ -88,12 +96,14 @@ module _ (n : ℕ) (s₀ : State) (t₀ : List ℕ) (small : n ≤ 64) (held : H
         under = λ i z. refl;
         floor = λ i z l. absurd (omega (arith, deep-1));
         below = h .below;
+        long = h .long;
       }
 
   -- ---- and accepted steps that do not drop it lead to s
 
   module _ (s : State) (t : List ℕ) (run : Run n (s₀ .depth) s₁ t₁ s t) (last : s .depth ≡ s₀ .depth + 1) where
-    since : Since n (boardOf s₀) (s₀ .records) (s₀ .depth + 1) (s₁ .levels) t₀ s t
+    -- what holds of s: the trail spells the steps since the level, and the state is in form
+    pub since : Since n (boardOf s₀) (s₀ .records) (s₀ .depth + 1) (s₁ .levels) t₀ s t
     since = run-since base (held .words) opened-since run
 
     back-depth : s .depth - 1 ≡ s₀ .depth
@@ -134,26 +144,41 @@ module _ (n : ℕ) (s₀ : State) (t₀ : List ℕ) (small : n ≤ 64) (held : H
     step-back = back-fits n s t true (boardOf s₀) (omega (arith, last)) back-undo refl ∙ ap (λ (r : State). answered 0 r t) back-state
 
     -- the records below the level are untouched
-    pub step-back-below : (i : ℕ) → i < 2 * s₀ .records → getD t i 0 ≡ getD t₀ i 0
-    step-back-below = since .below
+    pub step-back-below : take (2 * s₀ .records) t ≡ take (2 * s₀ .records) t₀
+    step-back-below = take-same (2 * s₀ .records) t t₀ (since .long) (since .below)
 
 -- ---- every accepted step keeps the form, whoever wrote the trail
 
-pub back-keeps : (n : ℕ) (s : State) (t : List ℕ) (r : State) (u : List ℕ) → n ≤ 64 → Held s → InForm n s → backStep n s t ≡ answered 0 r u → InForm n r
+-- a trail of words
+pub record Wordy (t : List ℕ) : Type 0 where
+  pub word : (i : ℕ) → getD t i 0 < 2 ^ 64
+
+-- what an accepted step leaves: a state in form, with arrays of 64 and words of 64 bits, its records within the trail, which is as long
+pub record Kept (n : ℕ) (t : List ℕ) (r : State) (u : List ℕ) : Type 0 where
+  pub form : InForm n r
+  pub held : Held r
+  pub room : r .records ≤ roomOf u
+  pub long : length u ≡ length t
+
+back-keeps : (n : ℕ) (s : State) (t : List ℕ) (r : State) (u : List ℕ) → n ≤ 64 → Held s → InForm n s → s .records ≤ roomOf t → Wordy t → backStep n s t ≡ answered 0 r u → Kept n t r u
 unfolding backStep undoLevel dropped baseOf
-back-keeps n s t r u small held form e =
+back-keeps n s t r u small held form room wordy e =
     let base = getD (s .levels) (s .depth - 1) 0 in
     let o = undoMany (s .records - base) n (boardOf s) (s .records) t in
     let a = accepted (orElse (unless (ltb 0 (s .depth)) 18) (unless (o .0) 20)) s t (answered 0 (dropped s (o .1)) t) r u e in
     let some = ltb-true 0 (s .depth) (unless-zero (ltb 0 (s .depth)) 17 (or-else-zero (unless (ltb 0 (s .depth)) 18) _ (a .0) .0)) in
-    let g = many-sound (s .records - base) n (boardOf s) (s .records) t (record { small = small; wide = held .wide; form = form .board }) in
-    subst (λ (q : Ran). InForm n (q .0 .state)) (a .1)
-    (record { board = g .form; levels = levels-drop (s .depth) (s .records) (s .levels) (held .levels) some (form .levels) })
+    let high : base ≤ s .records = form .levels .held (s .depth - 1) (omega (arith, some)) in
+    let sound : Sound n (boardOf s) = record { small = small; wide = held .wide; form = form .board } in
+    let g = many-sound (s .records - base) n (boardOf s) (s .records) t sound in
+    subst (λ (q : Ran). Kept n t (q .0 .state) (q .1)) (a .1)
+    (record {
+      form = record { board = g .form; levels = levels-drop (s .depth) (s .records) (s .levels) (held .levels) some (form .levels) };
+      held = record { wide = g .wide; levels = length-set (s .levels) (s .depth - 1) 0 ∙ held .levels; words = many-words (s .records - base) n (boardOf s) (s .records) t sound (held .words) (wordy .word) };
+      room = omega (arith, room, high);
+      long = refl;
+    })
 
-pub move-keeps : (n : ℕ) (s : State) (t : List ℕ) (r : State) (u : List ℕ) → n ≤ 64 → Held s → InForm n s → s .records ≤ roomOf t → Move n s t r u → InForm n r
-move-keeps n s t r u small held form room m =
-    ahead m (step-since n (boardOf s) (s .records) (s .depth) (s .levels) t s t r u (here-since n s t small held form room) m)
-  where
-    ahead : Move n s t r u → Stepped n (boardOf s) (s .records) (s .depth) (s .levels) t s t r u → InForm n r
-    ahead m (inl h) = h .form
-    ahead m (inr e) = back-keeps n s t r u small held form e
+pub move-keeps : (n : ℕ) (s : State) (t : List ℕ) (r : State) (u : List ℕ) → n ≤ 64 → Held s → InForm n s → s .records ≤ roomOf t → Wordy t → Move n s t r u → Kept n t r u
+move-keeps n s t r u small held form room wordy m =
+    ⊎-elim (λ h. record { form = h .form; held = h .held; room = h .room; long = h .long }) (back-keeps n s t r u small held form room wordy)
+    (step-since n (boardOf s) (s .records) (s .depth) (s .levels) t s t r u (here-since n s t small held form room) m)
