@@ -4,7 +4,7 @@ use Prim.Native.Nat.{ℕ, zero, suc, _+_, _-_, _*_, _<_, _≤_}
 use mathlib.Core.Bool.{Bool, true, false, not, _&&_}
 use mathlib.Core.List.{List, [], _∷_}
 use native.Mathlib.Omega.{arith}
-use lib.Dec.{T, T-not}
+use lib.Dec.{T, eqb→eq}
 use lib.IntN.{ℤ}
 use lib.ListN.{getD, take, length, length-take}
 use lib.Seq.{getD-take}
@@ -16,10 +16,11 @@ use Rattle.rules.specs.Day.{Day, Van}
 use Rattle.rules.specs.Plan.{Plan, Places}
 use Rattle.rules.specs.Rounds.{Distinct}
 use Rattle.rules.specs.Settle.{round}
-use Rattle.rules.specs.Asked.{Formed}
+use Rattle.rules.specs.Asked.{Formed, endsWith}
 use Rattle.rules.proofs.AlongLaws.{leg-index, mem-at}
 use Rattle.rules.proofs.Left.{_⊆_, round-less}
-use Rattle.rules.proofs.Fixpoint.{Seen, inner-low}
+use Rattle.rules.proofs.Inner.{inner-low}
+use Rattle.rules.proofs.Fixpoint.{Seen}
 use Rattle.sheet.specs.Section.{mOf}
 use Rattle.sheet.specs.declared.Layout.{Layout}
 use Rattle.day.specs.Jobs.{jobIn}
@@ -33,9 +34,9 @@ use Rattle.settle.specs.Sets.{placesOf, setsOf, planFrom, Small, word-ex
 use Rattle.settle.specs.Round.{Timed}
 use Rattle.settle.specs.Ready.{Ready, Read, nodes-are, nodes-most}
 
-some-stops : (k : ℕ) (tail : List ℕ) → T (mem k tail) → 1 ≤ length tail
-some-stops k [] t = absurd t
-some-stops k (x ∷ tail) t = omega arith
+some-stops : (k : ℕ) → 1 ≤ k → (tail : List ℕ) → T (endsWith k (0 ∷ tail)) → 1 ≤ length tail
+some-stops k h [] t = absurd (omega (arith, eqb→eq 0 k t))
+some-stops k h (x ∷ tail) t = omega arith
 
 module _ {s : List ℕ} {at : Layout} {l : List ℕ} {n : ℕ} {ws : List ℕ} {marks : ℕ} (r : Ready s at l n ws marks) where
   abbrev m : List ℕ
@@ -44,14 +45,16 @@ module _ {s : List ℕ} {at : Layout} {l : List ℕ} {n : ℕ} {ws : List ℕ} {
   size : length m ≡ n
   size = let a = r .long in let b = r .most in simp length-take (omega arith)
 
-  pub two-stops : 2 ≤ n
-  two-stops = omega (arith, size, ap length (r .form .starts), some-stops (dayOf s .n - 1) (r .form .tail) (r .form .ends))
-
   pub few-nodes : dayOf s .n ≤ 64
   few-nodes = r .laid .fine .n-high
 
   pub some-nodes : 2 ≤ dayOf s .n
   some-nodes = r .laid .fine .n-low
+
+  pub two-stops : 2 ≤ n
+  two-stops =
+      let t = some-stops (dayOf s .n - 1) (omega (arith, some-nodes)) (r .form .tail) (subst (λ (k : List ℕ). T (endsWith (dayOf s .n - 1) k)) (r .form .starts) (r .form .ends)) in
+      omega (arith, size, ap length (r .form .starts))
 
   pub route-of : Route (at .nodes) l n
   route-of = record { long = r .long; some = two-stops; most = r .most; nodes = rw (nodes-are (r .laid)) (r .form .nodes) }

@@ -2,3 +2,4 @@ pub mod Legs
 pub mod Rounds
 pub mod Struck
 pub mod Facts
+pub mod Order
