@@ -3,3 +3,5 @@ pub mod Rounds
 pub mod Struck
 pub mod Facts
 pub mod Order
+pub mod Owed
+pub mod Road

@@ -62,9 +62,9 @@ module _ (l : List ℕ) (n : ℕ) (most : n ≤ 64) (fits : n ≤ length l) {k :
   pub on-is : (x : ℕ) → onSpot spots x ≡ mem x m
   on-is x = ap (λ (q : ℕ). ltb q 64) (at .at x) ∙ T-ext (ltb (spot l n x) 64) (mem x m)
       (λ t. ⊎-elim (λ p. absurd (omega (arith, p .0, ltb→lt (spot l n x) 64 t)))
-        (λ p. subst (λ (v : ℕ). T (mem v m)) (getD-take n l (spot l n x) 0 (p .0) ∙ p .1) (mem-at m (spot l n x) (omega (arith, p .0, size)))) (spot-cases l n x))
+      (λ p. subst (λ (v : ℕ). T (mem v m)) (getD-take n l (spot l n x) 0 (p .0) ∙ p .1) (mem-at m (spot l n x) (omega (arith, p .0, size)))) (spot-cases l n x))
       (λ t. let f = mem-found x m t in let g : f .i < n = omega (arith, f .high, size) in
-          lt→ltb (spot l n x) 64 (omega (arith, spot-found l n most fits nodes x (f .i) g (f .is))))
+      lt→ltb (spot l n x) 64 (omega (arith, spot-found l n most fits nodes x (f .i) g (f .is))))
 
   wrong-is : (a b : ℕ) → (ltb (getD spots b 64) (getD spots a 64) && onSpot spots a) ≡ wrong a b m
   wrong-is a b =
@@ -76,8 +76,8 @@ module _ (l : List ℕ) (n : ℕ) (most : n ≤ 64) (fits : n ≤ length l) {k :
           let p = ltb→lt (spot l n b) (spot l n a) (and-l (ltb (spot l n b) (spot l n a)) (ltb (spot l n a) 64) t) in
           let q = ltb→lt (spot l n a) 64 (and-r (ltb (spot l n b) (spot l n a)) (ltb (spot l n a) 64) t) in
           ⊎-elim (λ z. absurd (omega (arith, z .0, q))) (λ fa. ⊎-elim (λ z. absurd (omega (arith, z .0, p, q)))
-            (λ fb. wrong-i a b nodes (spot l n b) (spot l n a) p (omega (arith, fa .0, size)) (getD-take n l (spot l n b) 0 (fb .0) ∙ fb .1) (getD-take n l (spot l n a) 0 (fa .0) ∙ fa .1))
-            (spot-cases l n b)) (spot-cases l n a)
+          (λ fb. wrong-i a b nodes (spot l n b) (spot l n a) p (omega (arith, fa .0, size)) (getD-take n l (spot l n b) 0 (fb .0) ∙ fb .1) (getD-take n l (spot l n a) 0 (fa .0) ∙ fa .1))
+          (spot-cases l n b)) (spot-cases l n a)
 
       back : T (wrong a b m) → T (ltb (spot l n b) (spot l n a) && ltb (spot l n a) 64)
       back t =

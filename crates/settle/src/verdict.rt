@@ -5,7 +5,6 @@ ghost use Prim.Native.Nat.{ℕ, _+_, _-_, _*_, _<_, _≤_};
 ghost use lib.ListN.{getD, length, take};
 ghost use lib.Dec.{eqb, leb, ltb};
 ghost use Rattle.laws.specs.Below.{allBelow};
-ghost use Rattle.laws.specs.Lists.{any};
 ghost use Rattle.bits.specs.Places.{has};
 ghost use Rattle.rules.specs.Time.{inTime};
 ghost use Rattle.rules.specs.Verdict.{partnered, owed, alive};
@@ -14,7 +13,10 @@ ghost use Rattle.day.specs.Jobs.{jobIn};
 ghost use Rattle.day.specs.Tell.{dayOf};
 ghost use Rattle.along.specs.Route.{Route};
 ghost use Rattle.along.specs.Spots.{Spots};
+ghost use Rattle.settle.specs.Sets.{planFrom};
+ghost use Rattle.settle.specs.Ready.{Ready, Ridden, roadOk, vanIn};
 ghost use Rattle.settle.specs.Verdict.{onSpot, called, standing, markOk, endsOk, orderOk, ofJob};
+use crate::Van;
 use along::spots::spot;
 use rules::Job;
 use sheet::Layout;
@@ -200,4 +202,70 @@ fn in_capacity(h: &[usize; 64], legs: usize, capacity: usize) -> bool
         i += 1;
     }
     true
+}
+
+// Whether x is owed: unplaced, and marked or with a transfer partner that is marked or on the route.
+pub fn owed(s: &[u8], at: Layout, route: &[usize; 64], stops: usize, marks: u64, x: usize) -> bool
+    requires { ⌜ Laid (now s) at × Route (at .nodes) (now route) stops ⌝ }
+    ensures { λ r. ⌜ r ≡ owed (dayOf (now (s .entry))) (take stops (now (route .entry))) (has marks) x ⌝ }
+{
+    let spots = along::spots::spots(route, stops);
+    let on = placed(&spots, x);
+    let marked = bits::has(marks, x);
+    let pair = paired(s, at, &spots, marks, x);
+    !on & (marked | pair)
+}
+
+// No node is owed and has no open place.
+fn none_owed(s: &[u8], at: Layout, spots: &[usize; 64], sets: &[u64; 64], marks: u64) -> bool
+    requires { ⌜ Laid (now s) at × (length (now spots) ≡ 64) × (length (now sets) ≡ 64) ⌝ }
+    ensures { λ r. ⌜ r ≡ (allBelow (at .nodes - 2) (markOk (onSpot (now (spots .entry))) (now (sets .entry)) marks) && allBelow (at .jobs) (ofJob (endsOk (onSpot (now (spots .entry))) (now (sets .entry)) marks) (jobIn (now (s .entry))))) ⌝ }
+{
+    let inner = at.nodes - 2;
+    let marked = marks_kept(spots, sets, marks, inner);
+    let paired = jobs_kept(s, at, spots, sets, marks);
+    marked & paired
+}
+
+// The route keeps window, metres and loads and has no transfer in wrong order.
+fn road_kept(
+    s: &[u8],
+    at: Layout,
+    van: Van,
+    route: &[usize; 64],
+    stops: usize,
+    spots: &[usize; 64],
+    e: &[usize; 64],
+    h: &[usize; 64],
+    total: usize,
+) -> bool
+    requires { ⌜ Laid (now s) at × Route (at .nodes) (now route) stops × Spots (now route) stops (now spots) × Ridden (dayOf (now s)) (now route) stops (now e) (now h) total ⌝ }
+    ensures { λ r. ⌜ r ≡ roadOk (vanIn van) (dayOf (now (s .entry))) (take stops (now (route .entry))) ⌝ }
+{
+    let windows = in_windows(s, at, route, e, stops);
+    let loads = in_capacity(h, stops - 1, van.capacity);
+    let order = in_order(s, at, spots);
+    windows & (total <= van.limit) & loads & order
+}
+
+// The verdict of a state in form.
+pub fn alive(
+    s: &[u8],
+    at: Layout,
+    van: Van,
+    route: &[usize; 64],
+    stops: usize,
+    sets: &[u64; 64],
+    marks: u64,
+) -> bool
+    requires { ⌜ Ready (now s) at (now route) stops (now sets) marks ⌝ }
+    ensures { λ r. ⌜ r ≡ alive (vanIn van) (dayOf (now (s .entry))) (planFrom (now (route .entry)) stops (now (sets .entry)) marks) ⌝ }
+{
+    let e = along::times::starts(s, at, route, stops);
+    let spots = along::spots::spots(route, stops);
+    let h = along::loads::loads(s, at, route, stops, &spots);
+    let total = along::times::length(s, at, route, stops);
+    let stand = none_owed(s, at, &spots, sets, marks);
+    let road = road_kept(s, at, van, route, stops, &spots, &e, &h, total);
+    stand & road
 }

@@ -1,10 +1,9 @@
-use mathlib.Core.Path.{_≡_, sym, ap, _∙_}
-use mathlib.Core.Bool.{Bool, true, not, _||_}
-use Prim.Native.Nat.{ℕ, _+_, _-_, _≤_}
+use mathlib.Core.Path.{_≡_, ap, _∙_}
+use mathlib.Core.Bool.{true}
+use Prim.Native.Nat.{_-_, _≤_}
 use native.Mathlib.Omega.{arith}
 use lib.ListN.{getD}
-use lib.Dec.{leb, ltb, eqb}
-use Rattle.laws.specs.Below.{allBelow, below-none, below-next, below-fails, below-stops, below-goes, below-done}
+use Rattle.laws.specs.Below.{allBelow, below-none, below-stops, below-goes, below-done}
 use lib.IntN.{ℤ, pos}
 use lib.Signed.{leZ}
 use Rattle.rules.specs.Time.{inTime}
@@ -13,10 +12,6 @@ use Rattle.along.specs.Route.{node-at, low}
 use Rattle.along.proofs.Signed.{moment-kept}
 use Rattle.settle.proofs.verdict.in_windows.Statement.{statement}
 use Rattle.settle.proofs.verdict.in_windows.Tie as tie
-use Rattle.settle.proofs.verdict.in_windows.Reads as reads
-use Rattle.settle.proofs.verdict.in_windows.Lts as lts
-use Rattle.along.proofs.times.in_time.Reads as in-time-reads
-use Rattle.along.proofs.times.last_moment.Reads as last-moment-reads
 
 abbrev Inv-loop : tie.InvT-loop
 Inv-loop s at route e stops i₀ i = (i ≤ stops) × (allBelow i (λ k. inTime (dayOf s) (getD route k 0) (getD e k 0)) ≡ true)
@@ -24,51 +19,39 @@ Inv-loop s at route e stops i₀ i = (i ≤ stops) × (allBelow i (λ k. inTime 
 abbrev μ-loop : tie.MeasureT-loop
 μ-loop s at route e stops i₀ i = stops - i
 
--- src/verdict.rt:177:5
 loop-holds : tie.Need-loop-holds Inv-loop μ-loop
 loop-holds c = (omega arith, below-none _)
 
--- src/verdict.rt:178:17
 mul-x : tie.Need-mul-x Inv-loop μ-loop
 mul-x c = omega arith
 
--- src/verdict.rt:178:17
 element-copy-out-x : tie.Need-element-copy-out-x Inv-loop μ-loop
 element-copy-out-x c = omega arith
 
--- src/verdict.rt:179:17
 mul-t : tie.Need-mul-t Inv-loop μ-loop
 mul-t c = omega arith
 
--- src/verdict.rt:179:17
 element-copy-out-t : tie.Need-element-copy-out-t Inv-loop μ-loop
 element-copy-out-t c = omega arith
 
--- src/verdict.rt:180:43
 last-moment-requires : tie.Need-last-moment-requires Inv-loop μ-loop
 last-moment-requires c κs = let p = c .before .before .before .before .before .pre in (p .0, node-at (p .1) (c .before .before .before .loop .i) (omega arith))
 
--- src/verdict.rt:180:13
 in-time-requires : tie.Need-in-time-requires Inv-loop μ-loop
 in-time-requires c κs = omega (arith, c .before .before .before .before .before .before .pre .3 (c .before .before .before .before .loop .i) (omega arith))
 
--- src/verdict.rt:182:13
 returns : tie.Need-returns Inv-loop μ-loop
 returns c = let a = c .before .before .before .before .before .before .before .before .args in let i = c .before .before .before .before .before .before .loop .i in below-stops (a .stops) i (λ k. inTime (dayOf (a .s .now)) (getD (a .route .now) k 0) (getD (a .e .now) k 0)) (omega arith) (c .before .in-time .ensures ∙ ap (λ (z : ℤ). leZ (pos (getD (a .e .now) i 0)) z) (moment-kept (dayOf (a .s .now)) (low (a .s .now)) (getD (a .route .now) i 0) (c .before .before .last-moment .ensures))) (c .if1 .taken)
 
--- src/verdict.rt:184:9
 add-i : tie.Need-add-i Inv-loop μ-loop
 add-i c = omega arith
 
--- src/verdict.rt:177:5
 loop-less : tie.Need-loop-less Inv-loop μ-loop
 loop-less c = omega arith
 
--- src/verdict.rt:177:5
 loop-again : tie.Need-loop-again Inv-loop μ-loop
 loop-again c = let a = c .before .before .before .before .before .before .before .before .args in let i = c .before .before .before .before .before .before .loop .i in (omega arith, below-goes i (λ k. inTime (dayOf (a .s .now)) (getD (a .route .now) k 0) (getD (a .e .now) k 0)) (c .before .before .before .before .before .before .loop .inv .1) (c .before .in-time .ensures ∙ ap (λ (z : ℤ). leZ (pos (getD (a .e .now) i 0)) z) (moment-kept (dayOf (a .s .now)) (low (a .s .now)) (getD (a .route .now) i 0) (c .before .before .last-moment .ensures))) (c .if1 .left))
 
--- src/verdict.rt:172:1
 returns-2 : tie.Need-returns-2 Inv-loop μ-loop
 returns-2 c = below-done _ _ _ (c .before .loop .inv .0) (c .loop-test .left) (c .before .loop .inv .1)
 

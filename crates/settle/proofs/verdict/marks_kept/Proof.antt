@@ -1,17 +1,11 @@
-use mathlib.Core.Path.{_≡_, sym, ap, _∙_}
-use mathlib.Core.Bool.{Bool, true, not, _||_}
-use Prim.Native.Nat.{ℕ, _+_, _-_, _≤_}
+use mathlib.Core.Path.{_≡_}
+use mathlib.Core.Bool.{true, not, _||_}
+use Prim.Native.Nat.{_-_, _≤_}
 use native.Mathlib.Omega.{arith}
-use lib.ListN.{getD}
-use lib.Dec.{leb, ltb, eqb}
-use Rattle.laws.specs.Below.{allBelow, below-none, below-next, below-fails, below-stops, below-goes, below-done}
+use Rattle.laws.specs.Below.{allBelow, below-none, below-stops, below-goes, below-done}
 use Rattle.settle.specs.Verdict.{onSpot, markOk}
 use Rattle.settle.proofs.verdict.marks_kept.Statement.{statement}
 use Rattle.settle.proofs.verdict.marks_kept.Tie as tie
-use Rattle.settle.proofs.verdict.marks_kept.Reads as reads
-use Rattle.settle.proofs.verdict.marks_kept.Lts as lts
-use Rattle.bits.proofs.has.Reads as has-reads
-use Rattle.settle.proofs.verdict.stands.Reads as stands-reads
 
 abbrev Inv-loop : tie.InvT-loop
 Inv-loop spots sets marks inner i₀ i = (i ≤ inner) × (allBelow i (markOk (onSpot spots) sets marks) ≡ true)
@@ -19,45 +13,35 @@ Inv-loop spots sets marks inner i₀ i = (i ≤ inner) × (allBelow i (markOk (o
 abbrev μ-loop : tie.MeasureT-loop
 μ-loop spots sets marks inner i₀ i = inner - i
 
--- src/verdict.rt:89:5
 loop-holds : tie.Need-loop-holds Inv-loop μ-loop
 loop-holds c = (omega arith, below-none _)
 
--- src/verdict.rt:90:39
 add-has : tie.Need-add-has Inv-loop μ-loop
 add-has c = omega arith
 
--- src/verdict.rt:90:13
 has-requires : tie.Need-has-requires Inv-loop μ-loop
 has-requires c κs = omega arith
 
--- src/verdict.rt:91:41
 add-stands : tie.Need-add-stands Inv-loop μ-loop
 add-stands c = omega arith
 
--- src/verdict.rt:91:13
 stands-requires : tie.Need-stands-requires Inv-loop μ-loop
 stands-requires c κs = (c .before .before .before .pre .0, c .before .before .before .pre .1)
 
--- src/verdict.rt:94:13
 returns : tie.Need-returns Inv-loop μ-loop
 unfolding markOk
 returns c = let a = c .before .before .before .before .before .args in below-stops (a .inner) (c .before .before .before .before .loop .i) _ (omega arith) (λ u. not (c .before .before .has .ensures u) || c .before .stands .ensures u) (c .if1 .taken)
 
--- src/verdict.rt:96:9
 add-i : tie.Need-add-i Inv-loop μ-loop
 add-i c = omega arith
 
--- src/verdict.rt:89:5
 loop-less : tie.Need-loop-less Inv-loop μ-loop
 loop-less c = omega arith
 
--- src/verdict.rt:89:5
 loop-again : tie.Need-loop-again Inv-loop μ-loop
 unfolding markOk
 loop-again c = let a = c .before .before .before .before .before .args in (omega arith, below-goes (c .before .before .before .before .loop .i) _ (c .before .before .before .before .loop .inv .1) (λ u. not (c .before .before .has .ensures u) || c .before .stands .ensures u) (c .if1 .left))
 
--- src/verdict.rt:84:1
 returns-2 : tie.Need-returns-2 Inv-loop μ-loop
 returns-2 c = below-done _ _ _ (omega arith) (omega arith) (c .before .loop .inv .1)
 

@@ -2,39 +2,28 @@ use Rattle.settle.specs.Verdict.{order-clean, order-soiled, order-transf
 use borrow.Author.Needs.{needs}
 use Rattle.settle.proofs.verdict.right_way.Statement.{statement}
 use Rattle.settle.proofs.verdict.right_way.Tie as tie
-use Rattle.settle.proofs.verdict.right_way.Reads as reads
-use Rattle.settle.proofs.verdict.right_way.Lts as lts
-use Rattle.along.proofs.spots.spot.Reads as spot-reads
 
--- src/verdict.rt:143:44
 enum-told : tie.Need-enum-told
 enum-told c = search needs
 
--- src/verdict.rt:144:45
 enum-told-2 : tie.Need-enum-told-2
 enum-told-2 c = search needs
 
--- src/verdict.rt:145:25
 enum-known-job : tie.Need-enum-known-job
 enum-known-job c = search needs
 
--- src/verdict.rt:146:17
 spot-requires : tie.Need-spot-requires
 spot-requires c κs = search needs
 
--- src/verdict.rt:147:17
 spot-requires-2 : tie.Need-spot-requires-2
 spot-requires-2 c κs = search needs
 
--- src/verdict.rt:138:1
 returns : tie.Need-returns
 returns c = rw (c .enum-told .given .1) (order-clean _ _ _)
 
--- src/verdict.rt:138:1
 returns-2 : tie.Need-returns-2
 returns-2 c = rw (c .enum-told2 .given .1) (order-soiled _ _ _)
 
--- src/verdict.rt:138:1
 returns-3 : tie.Need-returns-3
 returns-3 c = rw (c .before .before .before .job .given .1) (order-transfer _ _ _ _ (c .before .spot .ensures) (c .spot2 .ensures))
 

@@ -3,20 +3,13 @@ use lib.Dec.{eqb}
 use borrow.Author.Needs.{needs}
 use Rattle.settle.proofs.verdict.stands.Statement.{statement}
 use Rattle.settle.proofs.verdict.stands.Tie as tie
-use Rattle.settle.proofs.verdict.stands.Reads as reads
-use Rattle.settle.proofs.verdict.stands.Lts as lts
-use Rattle.settle.proofs.round.places.Reads as places-reads
-use Rattle.settle.proofs.verdict.placed.Reads as placed-reads
 
--- src/verdict.rt:78:9
 placed-requires : tie.Need-placed-requires
 placed-requires c κs = search needs
 
--- src/verdict.rt:79:9
 places-requires : tie.Need-places-requires
 places-requires c κs = search needs
 
--- src/verdict.rt:74:1
 returns : tie.Need-returns
 returns c = λ u. c .before .placed .ensures u || not (eqb (c .places .ensures u) 0)
 
