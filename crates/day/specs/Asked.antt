@@ -1,20 +1,21 @@
 -- What the refusals give the theorems: the jobs of a sheet that 1 to 4 do not refuse, and the tables of one that 5 does not refuse either.
-use Prim.Native.Nat.{ℕ, zero, suc, _+_, _-_, _≤_, _<_}
-use mathlib.Core.Path.{_≡_, refl, sym, ap, _∙_, subst}
+use Prim.Native.Nat.{ℕ, _+_, _-_, _<_}
+use mathlib.Core.Path.{_≡_, refl, sym, ap, _∙_}
 use mathlib.Core.Bool.{true, false, not, _&&_, _||_}
 use mathlib.Core.List.{List}
 use mathlib.Core.Logic.{⊎-elim, _⊎_, inl, inr, _≢_}
 use native.Mathlib.Omega.{arith}
 use lib.Dec.{leb, ltb, eqb}
-use borrow.Author.Tests.{not-true, leb-true, ltb-true, ltb-false, eqb-true, eqb-false, ne-eqb}
+use borrow.Author.Tests.{not-true, leb-true, ltb-true, ltb-false, eqb-false, ne-eqb}
 use Rattle.laws.specs.Logic.{decided, and-true, or-false}
-use Rattle.laws.specs.Lists.{In, here, there}
+use Rattle.laws.specs.Lists.{In, mem-in}
 use Rattle.laws.specs.Choice.{or-else-zero, unless-zero}
 use Rattle.laws.specs.Below.{below-at}
 use Rattle.laws.specs.Table.{At, in-tab}
 use Rattle.sheet.specs.Rule.{isInner}
 use Rattle.sheet.specs.Section.{nOf, mOf}
 use Rattle.rules.specs.Day.{downFrom}
+use Rattle.rules.proofs.Inner.{mem-down}
 use Rattle.rules.specs.Asked.{Shortest, Triangle, OneEnd, Proper}
 use Rattle.rules.specs.declared.Job.the-variants.{Transfer}
 use Rattle.day.specs.Jobs.{jobIn, loadOk, jobFine}
@@ -26,15 +27,8 @@ use Rattle.day.specs.Tell.{dayOf}
 
 -- ---- the nodes of a transfer
 
-down-in : (x m : ℕ) → 1 ≤ x → x ≤ m → In x (downFrom m)
-down-in x zero a b = absurd (omega arith)
-down-in x (suc m) a b =
-    decided (eqb x (suc m))
-    (λ e. subst (λ (v : ℕ). In v (downFrom (suc m))) (sym (eqb-true x (suc m) e)) here)
-    (λ e. let n = eqb-false x (suc m) e in there (down-in x m a (omega (arith, n))))
-
 inner-in : (n x : ℕ) → isInner n x ≡ true → In x (downFrom (n - 2))
-inner-in n x e = let p = and-true (leb 1 x) (leb x (n - 2)) e in down-in x (n - 2) (leb-true 1 x (p .0)) (leb-true x (n - 2) (p .1))
+inner-in n x e = let p = and-true (leb 1 x) (leb x (n - 2)) e in mem-in x (downFrom (n - 2)) (mem-down (n - 2) x (leb-true 1 x (p .0)) (leb-true x (n - 2) (p .1)))
 
 pub proper : (s : List ℕ) → refusal14 s ≡ 0 → Proper (dayOf s)
 proper s h = record {

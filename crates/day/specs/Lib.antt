@@ -1,6 +1,7 @@
--- What a sheet says. Jobs: its jobs, by cases. Twice: refusal 4. Seen: one pass that finds it. Tables: the tables and refusal 5. Row: one row
--- of a table held as numbers. Refuse: the refusals 1 to 5. Section: the section reader. Tell: the day and the van of the rules.
--- Fit: what the refusals give the theorems. Example: the sheet of document 01, and its refusals computed.
+-- What a sheet says. Jobs: its jobs, by cases. Twice: refusal 4. Seen: one pass that finds it. Fit: the jobs of an accepted sheet.
+-- Tables: the tables and refusal 5. Row: one row of a table held as numbers. Refuse: the refusals 1 to 5. Tell: the day and the van of the
+-- rules. Range: every number in its range. Section: the section reader. Asked: what the refusals give the theorems.
+-- Example: the sheet of document 01. Computed: its refusals and what it says.
 pub mod Jobs
 pub mod Twice
 pub mod Seen

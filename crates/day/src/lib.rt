@@ -5,17 +5,9 @@ pub mod tables;
 
 ghost use mathlib.Core.Path.{_≡_};
 ghost use Prim.Native.Nat.{_+_, _*_, _≤_};
-ghost use Rattle.laws.specs.Choice.{unless};
 ghost use Rattle.day.specs.Refuse.{refusal14, refusal15};
 ghost use Rattle.day.specs.Section.{spanOf, sectionOf};
 use sheet::Layout;
-
-// The number of a test that failed, 0 where it passed.
-fn number_of(ok: bool, number: usize) -> usize
-    ensures { λ r. ⌜ r ≡ unless ok number ⌝ }
-{
-    if ok { 0 } else { number }
-}
 
 // 1 to 4, or 0: what every call on a sheet asks.
 pub fn refusal_1_to_4(s: &[u8]) -> usize
@@ -26,7 +18,7 @@ pub fn refusal_1_to_4(s: &[u8]) -> usize
         return a;
     }
     let l = sheet::layout_of(s);
-    number_of(jobs::all_apart(s, l), sheet::TWICE)
+    sheet::number_of(jobs::all_apart(s, l), sheet::TWICE)
 }
 
 // 1 to 5, or 0: what opening asks.
@@ -40,7 +32,7 @@ pub fn refusal_1_to_5(s: &[u8]) -> usize
     let l = sheet::layout_of(s);
     let seconds = tables::triangle_ok(s, l.seconds, l.nodes);
     let metres = tables::triangle_ok(s, l.metres, l.nodes);
-    number_of(seconds & metres, sheet::TRIANGLE)
+    sheet::number_of(seconds & metres, sheet::TRIANGLE)
 }
 
 // A stretch of words.

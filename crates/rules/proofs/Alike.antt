@@ -3,84 +3,38 @@
 use mathlib.Core.Path.{_≡_, refl, subst, sym, ap, _∙_}
 use Prim.Native.Nat.{ℕ}
 use native.Mathlib.Omega.{arith}
-use mathlib.Core.Bool.{Bool, cond, not, _&&_, _||_, and-true, or-true}
+use mathlib.Core.Bool.{Bool, not, _&&_, and-true}
 use mathlib.Core.List.{List, [], _∷_}
-use mathlib.Core.Logic.{⊎-elim}
-use lib.Dec.{T, leb, eqb, eqb→eq, eqb-refl}
-use Rattle.laws.specs.Logic.{T→true, N→false, false→N, T-ext, decided, and-i, and-l, and-r, or-e}
-use Rattle.laws.specs.Lists.{mem, hd, all, any, Sub, nil, keep, skip, mem-hd, mem-ne}
-use Rattle.rules.specs.Day.{Day, Van, inner}
-use Rattle.rules.specs.Leg.{legStops, everyLeg}
-use Rattle.rules.specs.Time.{onTime}
-use Rattle.rules.specs.Metres.{driven}
-use Rattle.rules.specs.Load.{carries}
+use lib.Dec.{T}
+use Rattle.laws.specs.Logic.{T→true, T-ext, and-i, and-l, and-r}
+use Rattle.laws.specs.Lists.{mem, hd}
+use Rattle.rules.specs.Day.{Day, Van}
+use Rattle.rules.specs.Leg.{legStops}
 use Rattle.rules.specs.Plan.{Plan, Places, Marks}
-use Rattle.rules.specs.Rounds.{Distinct, more, Within, stop, extra}
 use Rattle.rules.specs.Settle.{round, settle, settled}
-use Rattle.rules.specs.Verdict.{partnered, owed, wrongWay, alive}
+use Rattle.rules.specs.Verdict.{alive}
 use Rattle.rules.specs.Worked.{Run, origin, workedPlaces, worked}
 use Rattle.rules.specs.Asked.{Triangle, OneEnd, Formed}
-use Rattle.rules.proofs.Cuts.{Cut, same, move, cut-next, cut-name}
+use Rattle.rules.proofs.Cuts.{Cut}
 use Rattle.rules.proofs.Inner.{inner-low}
 use Rattle.rules.proofs.Left.{_⊆_}
 use Rattle.rules.proofs.Fixpoint.{Seen, settle-less, settle-fixed, settle-greatest, settle-wider}
-use Rattle.rules.proofs.Longer.{lies-one, lies-same, entered-on, left-on, Ancestor, Comes, within-self}
-use Rattle.rules.proofs.Forms.{Laid, formed-laid}
+use Rattle.rules.proofs.Longer.{lies-one, lies-same, leg-named, leg-mem, Ancestor, Comes, within-self}
+use Rattle.rules.proofs.Forms.{Laid, formed-laid, laid-seen}
 use Rattle.rules.proofs.Runs.{Course, course-laid, coursed, course-within, course-from, course-shut, course-kept}
-use Rattle.rules.proofs.Nodes.{within-sub}
-
--- ---- the last starting stop at or before a stop of the end route
-
--- at the stop q₀, where the last starting stop so far is p
-abbrev originAt : List ℕ → ℕ → ℕ → List ℕ → ℕ → ℕ
-originAt rt p q₀ B q = cond (eqb q₀ q) p (origin rt p B q)
-
-origin-here : (rt : List ℕ) (p q : ℕ) (B : List ℕ) → originAt rt p q B q ≡ p
-origin-here rt p q B = rw (T→true (eqb q q) (eqb-refl q))
-
-origin-next : (rt : List ℕ) (p q₀ k : ℕ) (B : List ℕ) (q : ℕ) {b : Bool} → T (not (eqb q₀ q)) → mem k rt ≡ b → originAt rt p q₀ (k ∷ B) q ≡ originAt rt (cond b k p) k B q
-origin-next rt p q₀ k B q n e = rw (N→false (eqb q₀ q) n, e)
-
--- it leaves the leg of the starting route in which the leg lies
-origin-lies : {n z p q₀ q k′ : ℕ} {o : Places} {e r A B A₀ B₀ A′ B′ : List ℕ} → ((y m : ℕ) → T (o y m) → T (not (mem y (z ∷ r)))) → Cut (z ∷ []) e (q₀ ∷ A₀) B₀
-    → Cut (q₀ ∷ A₀) B₀ (q ∷ A′) (k′ ∷ B′) → Within o p B B₀ → Cut (z ∷ []) r (p ∷ A) B → Sub (p ∷ A) (q₀ ∷ A₀) → Distinct n (q₀ ∷ B₀)
-    → (a : Ancestor z e r (q ∷ A′) k′ B′) × (originAt (z ∷ r) p q₀ B₀ q ≡ a .p)
-origin-lies {z = z} {p} {q₀} {r = r} off c₀ same (stop {k = k} {R = R} w) c u g =
-    (record { p = _; A = _; k = _; B = _; lies = record { long = c₀; short = c; behind = u; ahead = keep (within-sub w) } }, origin-here (z ∷ r) p q₀ (k ∷ R))
-origin-lies {z = z} {p} {q₀} {r = r} off c₀ same (extra {x = x} {R = R} t w) c u g =
-    (record { p = _; A = _; k = _; B = _; lies = record { long = c₀; short = c; behind = u; ahead = skip (within-sub w) } }, origin-here (z ∷ r) p q₀ (x ∷ R))
-origin-lies {z = z} {p} {q₀} {q} {r = r} off c₀ (move m) (stop {k = k} {R = R} w) c u (more a b g) =
-    let i = origin-lies off (cut-next c₀) m w (cut-next c) (keep u) g in
-    (i .0, origin-next (z ∷ r) p q₀ k R q (mem-ne q₀ q (k ∷ R) b (cut-name m)) (T→true (mem k (z ∷ r)) (entered-on c)) ∙ i .1)
-origin-lies {z = z} {p} {q₀} {q} {r = r} off c₀ (move m) (extra {x = x} {R = R} t w) c u (more a b g) =
-    let i = origin-lies off (cut-next c₀) m w c (skip u) g in
-    (i .0, origin-next (z ∷ r) p q₀ x R q (mem-ne q₀ q (x ∷ R) b (cut-name m)) (N→false (mem x (z ∷ r)) (off x p t)) ∙ i .1)
-
-pub origin-leg : {n z q k′ : ℕ} {o : Places} {e r A′ B′ : List ℕ} → ((y m : ℕ) → T (o y m) → T (not (mem y (z ∷ r)))) → Distinct n (z ∷ e) → Within o z r e
-    → Cut (z ∷ []) e (q ∷ A′) (k′ ∷ B′) → (a : Ancestor z e r (q ∷ A′) k′ B′) × (origin (z ∷ r) z (z ∷ e) q ≡ a .p)
-origin-leg {z = z} {q} {e = e} {r = r} off g w c =
-    let i = origin-lies off same c w same (keep nil) g in
-    (i .0, ap (λ (b : Bool). originAt (z ∷ r) (cond b z z) z e q) (T→true (mem z (z ∷ r)) (mem-hd z r)) ∙ i .1)
-
--- ---- the leg of a name
-
-leg-named : (q c : ℕ) (A B : List ℕ) → T (mem q (legStops (c ∷ B))) → (A′ : List ℕ) × (k′ : ℕ) × (B′ : List ℕ) × Cut (c ∷ A) B (q ∷ A′) (k′ ∷ B′)
-leg-named q c A [] h = absurd h
-leg-named q c A (k ∷ B) h =
-    ⊎-elim (λ e. (A, k, B, subst (λ (m : ℕ). Cut (c ∷ A) (k ∷ B) (m ∷ A) (k ∷ B)) (eqb→eq c q e) same))
-    (λ m. let u = leg-named q k (c ∷ A) B m in (u .0, u .1, u .2, move (u .3))) (or-e (eqb c q) (mem q (legStops (k ∷ B))) h)
-
-leg-mem : (q c : ℕ) (B : List ℕ) → T (mem q (legStops (c ∷ B))) → T (mem q (c ∷ B))
-leg-mem q c B h = left-on (leg-named q c [] B h .3)
+use Rattle.rules.proofs.Origin.{origin-leg}
+use Rattle.rules.proofs.Verdicts.{alive-same}
 
 -- ---- the worked-out places and those of the run
 
 module _ (a : Plan) (z : ℕ) (e X : List ℕ) (y q : ℕ) where
-  worked-e : T (workedPlaces a (z ∷ e) X y q) → T (mem q (legStops (z ∷ e))) × T (not (mem y X)) × T (not (mem y (z ∷ e))) × T (a .places y (origin (a .route) z (z ∷ e) q))
+  worked-e : T (workedPlaces a (z ∷ e) X y q)
+      → T (mem q (legStops (z ∷ e))) × T (not (mem y X)) × T (not (mem y (z ∷ e))) × T (a .places y (origin (a .route) z (z ∷ e) q))
   unfolding workedPlaces
   worked-e h = (search (and-l, and-r), search (and-l, and-r), search (and-l, and-r), search (and-l, and-r))
 
-  worked-i : T (mem q (legStops (z ∷ e))) → T (not (mem y X)) → T (not (mem y (z ∷ e))) → T (a .places y (origin (a .route) z (z ∷ e) q)) → T (workedPlaces a (z ∷ e) X y q)
+  worked-i : T (mem q (legStops (z ∷ e))) → T (not (mem y X)) → T (not (mem y (z ∷ e))) → T (a .places y (origin (a .route) z (z ∷ e) q))
+      → T (workedPlaces a (z ∷ e) X y q)
   unfolding workedPlaces
   worked-i h i j k = search (and-i)
 
@@ -139,26 +93,8 @@ module _ (v : Van) (d : Day) (tri : Triangle d) (one : OneEnd (d .jobs)) (z : �
 
   course-alike : (y q : ℕ) → settle v d (z ∷ e) o y q ≡ W* y q
   course-alike y q = T-ext (settle v d (z ∷ e) o y q) (W* y q)
-      (settle-wider v d one (z ∷ e) (laid .nodes) o (λ y q t. (laid .inside y q t, leg-mem q z e (laid .leg y q t))) W end-worked y q)
+      (settle-wider v d one (z ∷ e) (laid .nodes) o (laid-seen laid) W end-worked y q)
       (settle-greatest v d (z ∷ e) W* o worked-end worked-rests y q)
-
--- ---- the verdict reads the route, the places, and the marks of unplaced nodes
-
-module _ (d : Day) (rt : List ℕ) (m m′ : Marks) (agree : (y : ℕ) → T (not (mem y rt)) → m y ≡ m′ y) where
-  called-same : (y : ℕ) → (m y || mem y rt) ≡ (m′ y || mem y rt)
-  called-same y = decided (mem y rt) (λ e. rw e (or-true (m y) ∙ sym (or-true (m′ y)))) (λ e. ap (λ (b : Bool). b || mem y rt) (agree y (false→N (mem y rt) e)))
-
-  owed-same : (x : ℕ) → owed d rt m x ≡ owed d rt m′ x
-  unfolding owed
-  owed-same x = decided (mem x rt) (λ e. rw e) (λ e. λ i. not (mem x rt) && (agree x (false→N (mem x rt) e) i || any (partnered (λ y. called-same y i) x) (d .jobs)))
-
-pub alive-same : (v : Van) (d : Day) (a b : Plan) → a .route ≡ b .route → ((x p : ℕ) → a .places x p ≡ b .places x p) → ((y : ℕ) → T (not (mem y (a .route))) → a .marks y ≡ b .marks y)
-    → alive v d a ≡ alive v d b
-unfolding alive
-alive-same v d a b e places marks =
-    (λ i. all (λ x. not (owed-same d (a .route) (a .marks) (b .marks) marks x i) || any (λ p. places x p i) (a .route)) (inner d)
-    && onTime d [] (a .route) && leb (driven d (a .route)) (v .limit) && everyLeg (carries v d) (a .route) && all (λ j. not (wrongWay (a .route) j)) (d .jobs))
-    ∙ ap (λ (rt : List ℕ). alive v d (record { route = rt; places = b .places; marks = b .marks })) e
 
 -- ---- demand 3
 

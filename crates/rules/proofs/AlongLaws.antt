@@ -72,7 +72,8 @@ pub driven-next : (d : Day) (l : List ℕ) (i : ℕ) → suc i < length l
 driven-next d l i h = rw (take-suc l (suc i) 0 h, take-suc l i 0 (omega arith)) (driven-snoc d (take i l) (getD l i 0) (getD l (suc i) 0))
 
 less-sum : (a b c : ℕ) → leb (a - b) c ≡ leb a (c + b)
-less-sum a b c = T-ext (leb (a - b) c) (leb a (c + b)) (λ h. le→leb a (c + b) (omega (arith, leb→le (a - b) c h))) (λ h. le→leb (a - b) c (omega (arith, leb→le a (c + b) h)))
+less-sum a b c =
+    T-ext (leb (a - b) c) (leb a (c + b)) (λ h. le→leb a (c + b) (omega (arith, leb→le (a - b) c h))) (λ h. le→leb (a - b) c (omega (arith, leb→le a (c + b) h)))
 
 -- ---- window and metres of x in the i-th leg, by the numbers of its two stops
 
@@ -118,7 +119,8 @@ unfolding allBelow
 every-all f [] = refl
 every-all f (z ∷ r) =
     let e : suc (length r) - 1 ≡ length r = omega arith in
-    rw e (below-all (length r) (atLeg f (z ∷ r)) (atLeg (legsAhead f) (z ∷ r)) (λ i h. ahead-next f (z ∷ r) i (omega arith)) (ahead-end f (z ∷ r) (length r) (omega arith)))
+    rw e (below-all (length r) (atLeg f (z ∷ r)) (atLeg (legsAhead f) (z ∷ r)) (λ i h. ahead-next f (z ∷ r) i (omega arith))
+    (ahead-end f (z ∷ r) (length r) (omega arith)))
 
 -- the legs before the i-th, and those from it on
 pub every-split : (f : OfLeg) (l : List ℕ) (i : ℕ) → i < length l → everyLeg f l ≡ (allBelow i (atLeg f l) && atLeg (legsAhead f) l i)
@@ -183,7 +185,8 @@ pub leg-index : (p : ℕ) (l : List ℕ) → T (mem p (legStops l)) → (i : ℕ
 leg-index p [] h = absurd h
 leg-index p (c ∷ []) h = absurd h
 leg-index p (c ∷ k ∷ r) h =
-    ⊎-elim (λ e. (0, omega arith, eqb→eq c p e)) (λ m. let u = leg-index p (k ∷ r) m in (suc (u .0), omega (arith, u .1), u .2)) (or-e (eqb c p) (mem p (legStops (k ∷ r))) h)
+    ⊎-elim (λ e. (0, omega arith, eqb→eq c p e))
+    (λ m. let u = leg-index p (k ∷ r) m in (suc (u .0), omega (arith, u .1), u .2)) (or-e (eqb c p) (mem p (legStops (k ∷ r))) h)
 
 -- a test of every inner node
 pub inner-all : (m : ℕ) (f : ℕ → Bool) → all f (downFrom m) ≡ allBelow m (λ i. f (suc i))
@@ -209,7 +212,8 @@ on-leg f (z ∷ r) g i h = on-leg-from f g i 0 i (omega arith) h
 off-leg-from : (f : OfLeg) (p : ℕ) (A B : List ℕ) → T (not (mem p (legStops (hd A ∷ B)))) → legFrom f p A B ≡ false
 off-leg-from f p A [] h = refl
 off-leg-from f p A (k ∷ B) h =
-    rw (N→false (eqb (hd A) p) (not-or-l (eqb (hd A) p) (mem p (legStops (k ∷ B))) h)) (off-leg-from f p (k ∷ A) B (not-or-r (eqb (hd A) p) (mem p (legStops (k ∷ B))) h))
+    rw (N→false (eqb (hd A) p) (not-or-l (eqb (hd A) p) (mem p (legStops (k ∷ B))) h))
+    (off-leg-from f p (k ∷ A) B (not-or-r (eqb (hd A) p) (mem p (legStops (k ∷ B))) h))
 
 -- a stop that no leg leaves names none
 pub off-leg : (f : OfLeg) (p : ℕ) (l : List ℕ) → T (not (mem p (legStops l))) → onLeg f p l ≡ false

@@ -1,23 +1,20 @@
 -- A round around a route, on a triangle day: what the rules say of the round they say of the route.
 use mathlib.Core.Path.{subst, sym}
 use Prim.Native.Nat.{ℕ}
-use native.Mathlib.Omega.{arith}
 use mathlib.Core.Bool.{not, _&&_}
 use mathlib.Core.List.{List, [], _∷_}
 use mathlib.Core.Logic.{_⊎_, inl, inr}
-use lib.Dec.{T, T-not, eqb, eqb→eq, leb→le, le→leb}
+use lib.Dec.{T, T-not, eqb, eqb→eq}
 use Rattle.laws.specs.Logic.{and-l, and-r, and-mono, or-l, or-r, tf, not-or-l, not-or-r, cond-yes, cond-no}
 use Rattle.laws.specs.Lists.{mem, any, Sub, nil, keep, skip, mem-sub, mem-tl, mem-rest}
-use Rattle.rules.specs.Day.{Day, Van}
-use Rattle.rules.specs.Leg.{legsAhead}
+use Rattle.rules.specs.Day.{Day}
 use Rattle.rules.specs.Time.{start, inTime, onTime}
-use Rattle.rules.specs.Load.{load, carries}
 use Rattle.rules.specs.Plan.{Places}
 use Rattle.rules.specs.Rounds.{Distinct, Within, done, stop, extra, ordered}
 use Rattle.rules.specs.Verdict.{wrong}
 use Rattle.rules.specs.Asked.{Triangle}
 use Rattle.rules.proofs.Cuts.{Cut, cut-next}
-use Rattle.rules.proofs.Grows.{start-grows, load-grows}
+use Rattle.rules.proofs.Grows.{start-grows}
 use Rattle.rules.proofs.Nodes.{distinct-off, distinct-tail, distinct-behind}
 use Rattle.rules.proofs.Windows.{in-time-sooner}
 
@@ -28,13 +25,6 @@ module _ (d : Day) (tri : Triangle d) {z : ℕ} {R : List ℕ} (nodes : Distinct
       and-mono (inTime d k (start d A′ k)) (onTime d (k ∷ A′) B′) (inTime d k (start d A k)) (onTime d (k ∷ A) B)
       (in-time-sooner d k (start-grows d tri s (distinct-behind nodes (cut-next c) .0))) (time-grows (cut-next c) (keep s) t) h
   time-grows {A′ = A′} c s (skip {x = y} {m = B′} t) h = time-grows (cut-next c) (skip s) t (and-r (inTime d y (start d A′ y)) (onTime d (y ∷ A′) B′) h)
-
-pub loads-grow : (v : Van) (d : Day) {A A′ B B′ : List ℕ} → Sub A A′ → Sub B B′ → T (legsAhead (carries v d) A′ B′) → T (legsAhead (carries v d) A B)
-loads-grow v d s nil h = h
-loads-grow v d {A} {A′} s (keep {x = k} {l = B} {m = B′} t) h =
-    and-mono (carries v d A′ (k ∷ B′)) (legsAhead (carries v d) (k ∷ A′) B′) (carries v d A (k ∷ B)) (legsAhead (carries v d) (k ∷ A) B)
-    (λ u. le→leb (load d A (k ∷ B)) (v .capacity) (omega (arith, load-grows d s (keep {x = k} t), leb→le (load d A′ (k ∷ B′)) (v .capacity) u))) (loads-grow v d (keep s) t) h
-loads-grow v d {A′ = A′} s (skip {x = y} {m = B′} t) h = loads-grow v d (skip s) t (and-r (carries v d A′ (y ∷ B′)) (legsAhead (carries v d) (y ∷ A′) B′) h)
 
 wrong-mem : (a b : ℕ) (l : List ℕ) → T (wrong a b l) → T (mem a l)
 wrong-mem a b [] h = h

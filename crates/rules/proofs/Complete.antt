@@ -21,9 +21,9 @@ use Rattle.rules.specs.Asked.{Triangle, Proper, Formed}
 use Rattle.rules.specs.declared.Job.{Job}
 use Rattle.rules.specs.declared.Job.the-variants.{Clean, Soiled, Transfer}
 use Rattle.rules.proofs.Cuts.{same}
-use Rattle.rules.proofs.Grows.{driven-grows}
+use Rattle.rules.proofs.Grows.{driven-grows, carries-grows, ahead-grows}
 use Rattle.rules.proofs.Keeps.{keeps-time, keeps-metres, keeps-order, keeps-loads}
-use Rattle.rules.proofs.Around.{time-grows, loads-grow, not-wrong, ordered-both, within-place}
+use Rattle.rules.proofs.Around.{time-grows, not-wrong, ordered-both, within-place}
 use Rattle.rules.proofs.Nodes.{within-sub}
 
 -- ---- no place open and alive
@@ -147,7 +147,7 @@ module _ (v : Van) (d : Day) (o : Places) (marks : ℕ → Bool) {z : ℕ} {r R 
   route-metres = le→leb (driven d (z ∷ r)) (v .limit) (omega (arith, driven-grows d tri (within-sub w) nodes, keeps-metres v d (z ∷ R) h))
 
   route-loads : T (everyLeg (carries v d) (z ∷ r))
-  route-loads = loads-grow v d (keep nil) (within-sub w) (keeps-loads v d (z ∷ R) h)
+  route-loads = ahead-grows (carries v d) (λ A A′ B B′. carries-grows v d) (keep nil) (within-sub w) (keeps-loads v d (z ∷ R) h)
 
   plan-alive : T (alive v d (record { route = z ∷ r; places = o; marks = marks }))
   unfolding alive

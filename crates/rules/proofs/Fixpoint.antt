@@ -24,11 +24,13 @@ use Rattle.rules.proofs.Ways.{reach-way, way-reach, back-way, way-from}
 
 -- ---- more places open, more places stay
 
-wider-leg : (f g : OfLeg) (p : ℕ) → ((A : List ℕ) (k : ℕ) (B : List ℕ) → T (f A (k ∷ B)) → T (g A (k ∷ B))) → (A B : List ℕ) → T (legFrom f p A B) → T (legFrom g p A B)
+wider-leg : (f g : OfLeg) (p : ℕ) → ((A : List ℕ) (k : ℕ) (B : List ℕ) → T (f A (k ∷ B)) → T (g A (k ∷ B))) → (A B : List ℕ) → T (legFrom f p A B)
+    → T (legFrom g p A B)
 wider-leg f g p h A [] t = t
 wider-leg f g p h A (k ∷ B) t = go (eqb (hd A) p) (wider-leg f g p h (k ∷ A) B) t
   where
-    go : (c : Bool) → (T (legFrom f p (k ∷ A) B) → T (legFrom g p (k ∷ A) B)) → T (cond c (f A (k ∷ B)) (legFrom f p (k ∷ A) B)) → T (cond c (g A (k ∷ B)) (legFrom g p (k ∷ A) B))
+    go : (c : Bool) → (T (legFrom f p (k ∷ A) B) → T (legFrom g p (k ∷ A) B)) → T (cond c (f A (k ∷ B)) (legFrom f p (k ∷ A) B))
+        → T (cond c (g A (k ∷ B)) (legFrom g p (k ∷ A) B))
     go true i u = h A k B u
     go false i u = i u
 
@@ -73,7 +75,8 @@ unfolding settleIn
 settleIn-less zero v d rt o x p t = t
 settleIn-less (suc f) v d rt o x p t = go (strikes v d rt o) (settleIn-less f v d rt (round v d rt o) x p) t
   where
-    go : (b : Bool) → (T (settleIn f v d rt (round v d rt o) x p) → T (round v d rt o x p)) → T ((elim b as (λ c. Places) [ true ↦ settleIn f v d rt (round v d rt o) | false ↦ o ]) x p) → T (o x p)
+    go : (b : Bool) → (T (settleIn f v d rt (round v d rt o) x p) → T (round v d rt o x p))
+        → T ((elim b as (λ c. Places) [ true ↦ settleIn f v d rt (round v d rt o) | false ↦ o ]) x p) → T (o x p)
     go true k u = round-less v d rt o x p (k u)
     go false k u = u
 
@@ -104,7 +107,9 @@ Seen d rt o = (x p : ℕ) → T (o x p) → In x (inner d) × T (mem p rt)
 -- no strike, nothing gone
 calm-less : (v : Van) (d : Day) (rt : List ℕ) (o : Places) → Seen d rt o → (T (strikes v d rt o) → ⊥) → o ⊆ round v d rt o
 unfolding strikes
-calm-less v d rt o seen h x p t = ⊎-elim (λ u. u) (λ u. absurd (h (any-i (λ x. any (gone x) rt) (seen x p t .0) (any-i (gone x) (mem-in p rt (seen x p t .1)) (and-i (o x p) (not (round v d rt o x p)) t u)))))
+calm-less v d rt o seen h x p t =
+    ⊎-elim (λ u. u) (λ u. absurd (h (any-i (λ x. any (gone x) rt) (seen x p t .0)
+    (any-i (gone x) (mem-in p rt (seen x p t .1)) (and-i (o x p) (not (round v d rt o x p)) t u)))))
     (tf (round v d rt o x p))
   where
     gone : ℕ → ℕ → Bool
@@ -140,13 +145,15 @@ module _ (v : Van) (d : Day) (one : OneEnd (d .jobs)) (rt : List ℕ) (g : Disti
 
   -- settling is two rounds
   pub settle-twice : (x p : ℕ) → settle v d rt o x p ≡ round v d rt (round v d rt o) x p
-  settle-twice x p = T-ext (settle v d rt o x p) (o₂ x p) (λ t. subst (λ (b : Bool). T b) (fuel-enough (d .n * d .n) (fuel (settle-less v d rt o x p t)) x p) t) (two-out (d .n * d .n) x p)
+  settle-twice x p = T-ext (settle v d rt o x p) (o₂ x p)
+      (λ t. subst (λ (b : Bool). T b) (fuel-enough (d .n * d .n) (fuel (settle-less v d rt o x p t)) x p) t) (two-out (d .n * d .n) x p)
     where
       fuel : T (o x p) → 2 ≤ d .n * d .n
       fuel t = let l = inner-low d (seen x p t .0) in let m : 2 ≤ d .n = omega arith in omega (arith, mul-le-mul m m)
 
   pub settle-fixed : settle v d rt o ⊆ round v d rt (settle v d rt o)
-  settle-fixed x p t = round-wider v d rt o₂ (settle v d rt o) (two-out (d .n * d .n)) x p (third v d one rt g o x p (subst (λ (b : Bool). T b) (settle-twice x p) t))
+  settle-fixed x p t =
+      round-wider v d rt o₂ (settle v d rt o) (two-out (d .n * d .n)) x p (third v d one rt g o x p (subst (λ (b : Bool). T b) (settle-twice x p) t))
 
   -- settling goes on until a round strikes nothing
   pub settle-rests : strikes v d rt (settle v d rt o) ≡ false
@@ -166,7 +173,8 @@ module _ (v : Van) (d : Day) (one : OneEnd (d .jobs)) (rt : List ℕ) (g : Disti
   settle-exact x p = (
     λ t. (settle-less v d rt o x p t, round-leg v d rt (settle v d rt o) x p (settle-fixed x p t)),
     λ t. settle-greatest v d rt both o (λ y q. beside-e left x p o y q (settle-less v d rt o y q) (t .0))
-        (λ y q. beside-e left x p (round v d rt both) y q (λ s. round-wider v d rt left both more y q (settle-fixed y q s)) (round-left v d rt both x p (beside-at left x p) (stay (t .1)))) x p (beside-at left x p),
+        (λ y q. beside-e left x p (round v d rt both) y q (λ s. round-wider v d rt left both more y q (settle-fixed y q s))
+        (round-left v d rt both x p (beside-at left x p) (stay (t .1)))) x p (beside-at left x p),
   )
     where
       left : Places

@@ -16,9 +16,10 @@ use Rattle.rules.specs.Steps.{putAfter, split, placed, closed, excluded,
 use Rattle.rules.specs.Settle.{settled}
 use Rattle.rules.specs.Asked.{endsWith, Formed}
 use Rattle.rules.proofs.Inner.{inner-low}
+use Rattle.rules.proofs.Longer.{leg-mem}
 use Rattle.rules.proofs.Left.{_⊆_}
 use Rattle.rules.proofs.Placing.{Ins, at, on, Put, put-ins, split-ne, split-e, split-half}
-use Rattle.rules.proofs.Fixpoint.{settle-less}
+use Rattle.rules.proofs.Fixpoint.{Seen, settle-less}
 
 -- the route z ∷ r and the places o are in form
 pub record Laid (d : Day) (z : ℕ) (r : List ℕ) (o : Places) : Type 0 where
@@ -34,6 +35,13 @@ formed-laid {d} {a} f = record {
   off = λ y q h. rw (f .starts) at (f .off y q h);
   leg = λ y q h. rw (f .starts) at (f .leg y q h);
 }
+
+-- so a round of settling looks at every open place
+pub laid-seen : {d : Day} {z : ℕ} {r : List ℕ} {o : Places} → Laid d z r o → Seen d (z ∷ r) o
+laid-seen {z = z} {r = r} l = λ y q t. (l .inside y q t, leg-mem q z r (l .leg y q t))
+
+pub formed-seen : {d : Day} {a : Plan} → Formed d a → Seen d (a .route) (a .places)
+formed-seen f = rw (f .starts) (laid-seen (formed-laid f))
 
 -- fewer places
 pub laid-fewer : {d : Day} {z : ℕ} {r : List ℕ} {o o′ : Places} → o′ ⊆ o → Laid d z r o → Laid d z r o′
@@ -100,7 +108,8 @@ fresh-in-form d h = record {
   nodes = more {x = 0} (omega arith) (not-or-i (eqb (d .n - 1) 0) false (apart (d .n - 1) 0 (λ e. omega (arith, e))) tt) (more {x = d .n - 1} (omega arith) tt none);
   inside = λ y q t. mem-in y (inner d) (and-l (mem y (inner d)) (eqb q 0) t);
   off = λ y q t. let u = inner-low d (mem-in y (inner d) (and-l (mem y (inner d)) (eqb q 0) t)) in
-      not-or-i (eqb 0 y) (mem y ((d .n - 1) ∷ [])) (apart 0 y (λ e. omega (arith, u, e))) (not-or-i (eqb (d .n - 1) y) false (apart (d .n - 1) y (λ e. omega (arith, u, e))) tt);
+      not-or-i (eqb 0 y) (mem y ((d .n - 1) ∷ [])) (apart 0 y (λ e. omega (arith, u, e)))
+      (not-or-i (eqb (d .n - 1) y) false (apart (d .n - 1) y (λ e. omega (arith, u, e))) tt);
   leg = λ y q t. rw (eqb→eq q 0 (and-r (mem y (inner d)) (eqb q 0) t)) tt;
   marked = λ y t. absurd t;
 }

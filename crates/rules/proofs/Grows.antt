@@ -9,6 +9,7 @@ use lib.Dec.{T, eqb, leb→le, le→leb}
 use Rattle.laws.specs.Logic.{and-l, and-r, and-mono, not-or-l, not-or-r, neqb, cond-mono}
 use Rattle.laws.specs.Lists.{mem, In, here, there, Sub, nil, keep, skip, mem-sub}
 use Rattle.rules.specs.Day.{Day, Van}
+use Rattle.rules.specs.Leg.{OfLeg, legsAhead, legsBehind}
 use Rattle.rules.specs.Time.{start, inTime}
 use Rattle.rules.specs.Metres.{driven}
 use Rattle.rules.specs.Load.{aboard, sum, load, carries, room}
@@ -132,8 +133,26 @@ load-grows d {A} {A′} {B} {B′} u v = sum-grows (aboard A B) (aboard A′ B�
 pub room-grows : (v : Van) (d : Day) (w : ℕ) {A A′ B B′ : List ℕ} → Sub A A′ → Sub B B′ → T (room v d w A′ B′) → T (room v d w A B)
 room-grows v d w {A} {A′} {B} {B′} s t h = le→leb (load d A B + w) (v .capacity) (omega (arith, leb→le (load d A′ B′ + w) (v .capacity) h, load-grows d s t))
 
+pub carries-grows : (v : Van) (d : Day) {A A′ B B′ : List ℕ} → Sub A A′ → Sub B B′ → T (carries v d A′ B′) → T (carries v d A B)
+carries-grows v d {A} {A′} {B} {B′} s t h = le→leb (load d A B) (v .capacity) (omega (arith, leb→le (load d A′ B′) (v .capacity) h, load-grows d s t))
+
 -- a job that comes aboard only there leaves room for its load
 pub room-new : (v : Van) (d : Day) (w : ℕ) {A A′ B B′ : List ℕ} {j : Job} → In j (d .jobs) → Sub A A′ → Sub B B′ → aboard A B j + w ≤ aboard A′ B′ j
     → T (carries v d A′ B′) → T (room v d w A B)
 room-new v d w {A} {A′} {B} {B′} i s t e h =
     le→leb (load d A B + w) (v .capacity) (omega (arith, leb→le (load d A′ B′) (v .capacity) h, sum-new (aboard A B) (aboard A′ B′) w (aboard-grows s t) i e))
+
+-- ---- a test that passes on the ancestor of each leg where it passes
+
+module _ (f : OfLeg) (grows : (A A′ B B′ : List ℕ) → Sub A A′ → Sub B B′ → T (f A′ B′) → T (f A B)) where
+  pub ahead-grows : {A A′ B B′ : List ℕ} → Sub A A′ → Sub B B′ → T (legsAhead f A′ B′) → T (legsAhead f A B)
+  ahead-grows s nil h = tt
+  ahead-grows {A} {A′} s (keep {x = k} {l = B} {m = B′} t) h =
+      and-mono (f A′ (k ∷ B′)) (legsAhead f (k ∷ A′) B′) (f A (k ∷ B)) (legsAhead f (k ∷ A) B) (grows A A′ (k ∷ B) (k ∷ B′) s (keep t)) (ahead-grows (keep s) t) h
+  ahead-grows {A′ = A′} s (skip {x = k} {m = B′} t) h = ahead-grows (skip s) t (and-r (f A′ (k ∷ B′)) (legsAhead f (k ∷ A′) B′) h)
+
+  pub behind-grows : {A A′ B B′ : List ℕ} → Sub A A′ → Sub B B′ → T (legsBehind f A′ B′) → T (legsBehind f A B)
+  behind-grows nil t h = tt
+  behind-grows {B = B} {B′ = B′} (keep {x = p} {l = A} {m = A′} s) t h =
+      and-mono (f (p ∷ A′) B′) (legsBehind f A′ (p ∷ B′)) (f (p ∷ A) B) (legsBehind f A (p ∷ B)) (grows (p ∷ A) (p ∷ A′) B B′ (keep s) t) (behind-grows s (keep t)) h
+  behind-grows {B′ = B′} (skip {x = p} {m = A′} s) t h = behind-grows s (skip t) (and-r (f (p ∷ A′) B′) (legsBehind f A′ (p ∷ B′)) h)

@@ -55,4 +55,6 @@ pub mod Given
 -- runs
 pub mod Monotone
 pub mod Runs
+pub mod Origin
+pub mod Verdicts
 pub mod Alike

@@ -5,9 +5,10 @@ use Prim.Native.Nat.{ℕ}
 use mathlib.Core.Bool.{false, not}
 use mathlib.Core.List.{List, [], _∷_}
 use mathlib.Core.Logic.{_⊎_, inl, inr, ⊎-elim}
-use lib.Dec.{T, T-not, eqb}
+use lib.Dec.{T, T-not, eqb, eqb→eq}
 use Rattle.laws.specs.Logic.{or-l, or-e, not-or-i, not-or-l, not-or-r}
 use Rattle.laws.specs.Lists.{mem, hd, Sub, nil, keep, skip, sub-refl, sub-trans, mem-sub, mem-hd, mem-tl}
+use Rattle.rules.specs.Leg.{legStops}
 use Rattle.rules.specs.Plan.{Places}
 use Rattle.rules.specs.Rounds.{Distinct, Within, done, stop, extra}
 use Rattle.rules.proofs.Cuts.{Cut, same, move, cut-next, cut-ahead, cut-behind}
@@ -33,7 +34,8 @@ pub record Lies (z : ℕ) (e r A′ B′ A B : List ℕ) : Type 0 where
   pub behind : Sub A A′
   pub ahead : Sub B B′
 
-cut-one : {A B A₁ B₁ A₂ B₂ A′ B′ : List ℕ} → Cut A B A₁ B₁ → Cut A B A₂ B₂ → ((x : ℕ) → T (mem x B′) → T (not (mem x A′))) → Sub A₁ A′ → Sub B₁ B′ → Sub A₂ A′ → Sub B₂ B′ → (A₁ ≡ A₂) × (B₁ ≡ B₂)
+cut-one : {A B A₁ B₁ A₂ B₂ A′ B′ : List ℕ} → Cut A B A₁ B₁ → Cut A B A₂ B₂ → ((x : ℕ) → T (mem x B′) → T (not (mem x A′))) → Sub A₁ A′ → Sub B₁ B′
+    → Sub A₂ A′ → Sub B₂ B′ → (A₁ ≡ A₂) × (B₁ ≡ B₂)
 cut-one same same s a₁ b₁ a₂ b₂ = (refl, refl)
 cut-one (move c₁) (move c₂) s a₁ b₁ a₂ b₂ = cut-one c₁ c₂ s a₁ b₁ a₂ b₂
 cut-one {A′ = A′} same (move {k = k} {A = A} {B = B} c) s a₁ b₁ a₂ b₂ =
@@ -58,6 +60,16 @@ entered-on {z} {k} {r} {B = B} c = mem-tl k z r (cut-ahead k c (mem-hd k B))
 
 pub left-on : {z p : ℕ} {r A B : List ℕ} → Cut (z ∷ []) r (p ∷ A) B → T (mem p (z ∷ r))
 left-on {z} {p} {r} {A} c = ⊎-elim (λ m. ⊎-elim (or-l (eqb z p) (mem p r)) (λ n. absurd n) (or-e (eqb z p) false m)) (mem-tl p z r) (cut-behind p c (mem-hd p A))
+
+-- the leg of a name
+pub leg-named : (q c : ℕ) (A B : List ℕ) → T (mem q (legStops (c ∷ B))) → (A′ : List ℕ) × (k′ : ℕ) × (B′ : List ℕ) × Cut (c ∷ A) B (q ∷ A′) (k′ ∷ B′)
+leg-named q c A [] h = absurd h
+leg-named q c A (k ∷ B) h =
+    ⊎-elim (λ e. (A, k, B, subst (λ (m : ℕ). Cut (c ∷ A) (k ∷ B) (m ∷ A) (k ∷ B)) (eqb→eq c q e) same))
+    (λ m. let u = leg-named q k (c ∷ A) B m in (u .0, u .1, u .2, move (u .3))) (or-e (eqb c q) (mem q (legStops (k ∷ B))) h)
+
+pub leg-mem : (q c : ℕ) (B : List ℕ) → T (mem q (legStops (c ∷ B))) → T (mem q (c ∷ B))
+leg-mem q c B h = left-on (leg-named q c [] B h .3)
 
 -- ---- the stops in between
 
@@ -101,7 +113,8 @@ record Stands (o : Places) (z : ℕ) (r A′ : List ℕ) (k′ : ℕ) (B′ : Li
   past : Past o z (p ∷ A) A′
   rest : Within o p (k ∷ B) (k′ ∷ B′)
 
-stands : {o : Places} {z p q k′ : ℕ} {r A B A₀ B₀ A′ B′ : List ℕ} → Cut (q ∷ A₀) B₀ A′ (k′ ∷ B′) → Within o p B B₀ → Cut (z ∷ []) r (p ∷ A) B → Past o z (p ∷ A) (q ∷ A₀) → Stands o z r A′ k′ B′
+stands : {o : Places} {z p q k′ : ℕ} {r A B A₀ B₀ A′ B′ : List ℕ} → Cut (q ∷ A₀) B₀ A′ (k′ ∷ B′) → Within o p B B₀ → Cut (z ∷ []) r (p ∷ A) B
+    → Past o z (p ∷ A) (q ∷ A₀) → Stands o z r A′ k′ B′
 stands same (stop w) c u = record { p = _; A = _; k = _; B = _; cut = c; past = u; rest = stop w }
 stands same (extra t w) c u = record { p = _; A = _; k = _; B = _; cut = c; past = u; rest = extra t w }
 stands (move d) (stop w) c u = stands d w (cut-next c) (halt u)

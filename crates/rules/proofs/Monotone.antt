@@ -7,8 +7,8 @@ use mathlib.Core.Bool.{Bool, not}
 use mathlib.Core.List.{List, [], _∷_}
 use mathlib.Core.Logic.{⊎-elim, _⊎_, inl, inr}
 use lib.Dec.{T, T-not, eqb, eqb→eq}
-use Rattle.laws.specs.Logic.{tf, and-r, and-mono, or-mono}
-use Rattle.laws.specs.Lists.{mem, hd, In, here, there, Each, end, also, each-in, all-mono, Sub, nil, keep, skip, mem-sub}
+use Rattle.laws.specs.Logic.{tf, or-mono}
+use Rattle.laws.specs.Lists.{mem, hd, In, here, there, Each, end, also, each-in, all-mono, Sub, keep, skip, mem-sub}
 use Rattle.rules.specs.Day.{Day, Van}
 use Rattle.rules.specs.Leg.{legsAhead, legsBehind}
 use Rattle.rules.specs.Time.{start}
@@ -23,7 +23,7 @@ use Rattle.rules.proofs.Nodes.{distinct-tail, within-sub, distinct-behi
 use Rattle.rules.proofs.Cuts.{Cut, cut-next, cut-nil, cut-trans}
 use Rattle.rules.proofs.Ways.{Way, next, way-cut, reach-way, way-reach, back-way, way-from, way-source}
 use Rattle.rules.proofs.Windows.{window-fits, fits-sooner}
-use Rattle.rules.proofs.Grows.{start-grows, fits-grows, short-around, around-grows, room-grows}
+use Rattle.rules.proofs.Grows.{start-grows, fits-grows, short-around, around-grows, room-grows, ahead-grows, behind-grows}
 use Rattle.rules.proofs.Transfers.{Meets, meets-e, meets-i, Supports, supports-e, supports-i}
 use Rattle.rules.proofs.Left.{stays-e, stays-i}
 use Rattle.rules.proofs.Longer.{off-sides, Lies, entered-on, left-on, lies-one, Comes, ancestor, enters, leaves, follow}
@@ -36,31 +36,19 @@ pub record Over (d : Day) (z : ℕ) (r e : List ℕ) (o W : Places) : Type 0 whe
   pub off : (y q : ℕ) → T (o y q) → T (not (mem y (z ∷ r)))
   pub places : Comes z e r W o
 
--- the law, of a test
+-- the law, of a test. (Its place has to pass every test on the longer route: what 'neither placed' strikes on the shorter one, 'partner placed'
+-- strikes on the longer one if the partner is placed there.)
 abbrev pub Monotone : Test → Type 0
 Monotone t =
     (v : Van) (d : Day) → Triangle d → (z : ℕ) (r e : List ℕ) (o W : Places) → Over d z r e o W
     → (q k′ p k : ℕ) (A′ B′ A B : List ℕ) → Lies z e r (q ∷ A′) (k′ ∷ B′) (p ∷ A) (k ∷ B)
     → (y : ℕ) → y < d .n → T (not (mem y (z ∷ e))) → T (stays v d (z ∷ e) W y (q ∷ A′) (k′ ∷ B′)) → T (t v d (z ∷ r) o y (p ∷ A) (k ∷ B))
 
--- ---- room along the legs
-
-rooms-ahead : (v : Van) (d : Day) (w : ℕ) {A A′ B B′ : List ℕ} → Sub B B′ → Sub A A′ → T (legsAhead (room v d w) A′ B′) → T (legsAhead (room v d w) A B)
-rooms-ahead v d w nil u h = tt
-rooms-ahead v d w {A} {A′} (keep {x = k} {l = B} {m = B′} s) u h =
-    and-mono (room v d w A′ (k ∷ B′)) (legsAhead (room v d w) (k ∷ A′) B′) (room v d w A (k ∷ B)) (legsAhead (room v d w) (k ∷ A) B) (room-grows v d w u (keep s)) (rooms-ahead v d w s (keep u)) h
-rooms-ahead v d w {A} {A′} (skip {x = k} {m = B′} s) u h = rooms-ahead v d w s (skip u) (and-r (room v d w A′ (k ∷ B′)) (legsAhead (room v d w) (k ∷ A′) B′) h)
-
-rooms-behind : (v : Van) (d : Day) (w : ℕ) {A A′ B B′ : List ℕ} → Sub A A′ → Sub B B′ → T (legsBehind (room v d w) A′ B′) → T (legsBehind (room v d w) A B)
-rooms-behind v d w nil u h = tt
-rooms-behind v d w {B} {B′} (keep {x = p} {l = A} {m = A′} s) u h =
-    and-mono (room v d w (p ∷ A′) B′) (legsBehind (room v d w) A′ (p ∷ B′)) (room v d w (p ∷ A) B) (legsBehind (room v d w) A (p ∷ B)) (room-grows v d w (keep s) u) (rooms-behind v d w s (keep u)) h
-rooms-behind v d w {B} {B′} (skip {x = p} {m = A′} s) u h = rooms-behind v d w s (skip u) (and-r (room v d w (p ∷ A′) B′) (legsBehind (room v d w) A′ (p ∷ B′)) h)
-
 -- ---- how far a load reaches
 
 module _ (v : Van) (d : Day) (z : ℕ) (r e : List ℕ) (o W : Places) (over : Over d z r e o W) where
-  way-end : {w k k′ : ℕ} {A A′ B B′ A₁ B₁ : List ℕ} → Lies z e r A′ (k′ ∷ B′) A (k ∷ B) → T (room v d w A′ (k′ ∷ B′)) → Lies z e r A′ (k′ ∷ B′) A₁ B₁ → Way v d w A (k ∷ B) A₁ B₁
+  way-end : {w k k′ : ℕ} {A A′ B B′ A₁ B₁ : List ℕ} → Lies z e r A′ (k′ ∷ B′) A (k ∷ B) → T (room v d w A′ (k′ ∷ B′)) → Lies z e r A′ (k′ ∷ B′) A₁ B₁
+      → Way v d w A (k ∷ B) A₁ B₁
   way-end {w} m t l = let q = lies-one (over .nodes) m l in rw (← q .0, ← q .1) (Way.here (room-grows v d w (m .behind) (m .ahead) t))
 
   -- a way along the longer route is a way along the shorter one, from the leg in which it begins to the leg in which it ends
@@ -145,7 +133,8 @@ module _ (v : Van) (d : Day) (tri : Triangle d) (z : ℕ) (r e : List ℕ) (o W 
   clean-grows = all-mono (cleanFits v d y (q ∷ A′) (k′ ∷ B′)) (cleanFits v d y (p ∷ A) (k ∷ B)) (d .jobs) job (passes clean (there (there here)))
     where
       job : (j : Job) → T (cleanFits v d y (q ∷ A′) (k′ ∷ B′) j) → T (cleanFits v d y (p ∷ A) (k ∷ B) j)
-      job (Clean a w) = or-mono (not (eqb a y)) (legsBehind (room v d w) (q ∷ A′) (k′ ∷ B′)) (not (eqb a y)) (legsBehind (room v d w) (p ∷ A) (k ∷ B)) (λ t. t) (rooms-behind v d w (l .behind) (l .ahead))
+      job (Clean a w) = or-mono (not (eqb a y)) (legsBehind (room v d w) (q ∷ A′) (k′ ∷ B′)) (not (eqb a y)) (legsBehind (room v d w) (p ∷ A) (k ∷ B))
+          (λ t. t) (behind-grows (room v d w) (λ A A′ B B′. room-grows v d w) (l .behind) (l .ahead))
       job (Soiled a w) = λ t. t
       job (Transfer a b w) = λ t. t
 
@@ -154,7 +143,8 @@ module _ (v : Van) (d : Day) (tri : Triangle d) (z : ℕ) (r e : List ℕ) (o W 
     where
       job : (j : Job) → T (soiledFits v d y (q ∷ A′) (k′ ∷ B′) j) → T (soiledFits v d y (p ∷ A) (k ∷ B) j)
       job (Clean a w) = λ t. t
-      job (Soiled a w) = or-mono (not (eqb a y)) (legsAhead (room v d w) (q ∷ A′) (k′ ∷ B′)) (not (eqb a y)) (legsAhead (room v d w) (p ∷ A) (k ∷ B)) (λ t. t) (rooms-ahead v d w (l .ahead) (l .behind))
+      job (Soiled a w) = or-mono (not (eqb a y)) (legsAhead (room v d w) (q ∷ A′) (k′ ∷ B′)) (not (eqb a y)) (legsAhead (room v d w) (p ∷ A) (k ∷ B))
+          (λ t. t) (ahead-grows (room v d w) (λ A A′ B B′. room-grows v d w) (l .behind) (l .ahead))
       job (Transfer a b w) = λ t. t
 
   -- ---- the partner
@@ -170,8 +160,10 @@ module _ (v : Van) (d : Day) (tri : Triangle d) (z : ℕ) (r e : List ℕ) (o W 
 
   partner-grows : T (partnerPlaced v d (z ∷ r) o y (p ∷ A) (k ∷ B))
   partner-grows = meets-i v d (z ∷ r) o y (p ∷ A) (k ∷ B) (record {
-    first = λ b w i on. reach-grows v d z r e o W over (λ p k. eqb k b) (λ p k. eqb k b) (entered-there v d z r e o W over b on) w l (met .first b w i (longer b on));
-    second = λ a w i on. back-grows v d z r e o W over (λ p k. eqb p a) (λ p k. eqb p a) (left-there v d z r e o W over a on) w l (met .second a w i (longer a on));
+    first = λ b w i on. reach-grows v d z r e o W over (λ p k. eqb k b) (λ p k. eqb k b) (entered-there v d z r e o W over b on) w l
+        (met .first b w i (longer b on));
+    second = λ a w i on. back-grows v d z r e o W over (λ p k. eqb p a) (λ p k. eqb p a) (left-there v d z r e o W over a on) w l
+        (met .second a w i (longer a on));
   })
 
   neither-grows : T (neitherPlaced v d (z ∷ r) o y (p ∷ A) (k ∷ B))

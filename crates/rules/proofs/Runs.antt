@@ -55,7 +55,8 @@ pub record Coursed (v : Van) (d : Day) (z : ℕ) (r₀ : List ℕ) (o₀ : Place
   pub is : b .route ≡ z ∷ rest
   pub course : Course v d z r₀ o₀ rest (b .places) X
 
-pub coursed : {v : Van} {d : Day} {z : ℕ} {r₀ X : List ℕ} {a b : Plan} → a .route ≡ z ∷ r₀ → Laid d z r₀ (a .places) → Run v d a b X → Coursed v d z r₀ (a .places) b X
+pub coursed : {v : Van} {d : Day} {z : ℕ} {r₀ X : List ℕ} {a b : Plan} → a .route ≡ z ∷ r₀ → Laid d z r₀ (a .places) → Run v d a b X
+    → Coursed v d z r₀ (a .places) b X
 coursed {r₀ = r₀} e l begin = record { rest = r₀; is = e; course = outset }
 coursed e l (place p x run off open′) =
     let u = coursed e l run in
@@ -121,8 +122,10 @@ module _ {v : Van} {d : Day} {z : ℕ} {r₀ : List ℕ} {o₀ : Places} (l₀ :
 
   pub course-shut : {r X : List ℕ} {o : Places} → Course v d z r₀ o₀ r o X → (y q : ℕ) → T (o y q) → T (not (mem y X))
   course-shut outset y q h = tt
-  course-shut (put {p = p} {x = x} {o = o} c t i) y q h = ⊎-elim (λ e. course-shut c y p (split-half p x o y (rw (eqb→eq q x e) at h))) (λ n. course-shut c y q (split-e p x o y q n h)) (tf (eqb q x))
-  course-shut (shut {X = X} {o = o} x c) y q h = not-or-i (eqb x y) (mem y X) (ne-sym y x (and-r (o y q) (not (eqb y x)) h)) (course-shut c y q (and-l (o y q) (not (eqb y x)) h))
+  course-shut (put {p = p} {x = x} {o = o} c t i) y q h =
+      ⊎-elim (λ e. course-shut c y p (split-half p x o y (rw (eqb→eq q x e) at h))) (λ n. course-shut c y q (split-e p x o y q n h)) (tf (eqb q x))
+  course-shut (shut {X = X} {o = o} x c) y q h =
+      not-or-i (eqb x y) (mem y X) (ne-sym y x (and-r (o y q) (not (eqb y x)) h)) (course-shut c y q (and-l (o y q) (not (eqb y x)) h))
   course-shut (strike {r = r} {o = o} c) y q h = course-shut c y q (round-less v d (z ∷ r) o y q h)
 
   -- places W of a longer route z ∷ e that no round of settling strikes, and that were open at the outset, are open all along the run
@@ -133,7 +136,8 @@ module _ {v : Van} {d : Day} {z : ℕ} {r₀ : List ℕ} {o₀ : Places} (l₀ :
     course-kept (put {p = p₁} {x = x} {r = r} {r′ = r′} {o = o} c t i) w s q k′ p k A′ B′ A B l y h =
         let l₁ = course-laid l₀ c in
         let a = ancestor (ins-within i) (l .short) in
-        split-new o y i (laid-placed i t l₁ .nodes) (l₁ .off x p₁ t) (a .lies) (mem-ne y x (z ∷ e) (out y q h .1) (mem-tl x z e (mem-sub x (within-sub w) (ins-new i))))
+        split-new o y i (laid-placed i t l₁ .nodes) (l₁ .off x p₁ t) (a .lies)
+        (mem-ne y x (z ∷ e) (out y q h .1) (mem-tl x z e (mem-sub x (within-sub w) (ins-new i))))
         (course-kept c (place-old o p₁ x t (l₁ .off x p₁ t) i w) s q k′ (a .p) (a .k) A′ B′ (a .A) (a .B) (lies-trans l (a .lies)) y h)
     course-kept (shut {X = X} {o = o} x c) w s q k′ p k A′ B′ A B l y h =
         and-i (o y p) (not (eqb y x))
@@ -142,6 +146,11 @@ module _ {v : Van} {d : Day} {z : ℕ} {r₀ : List ℕ} {o₀ : Places} (l₀ :
     course-kept (strike {r = r} {o = o} c) w s q k′ p k A′ B′ A B l y h =
         let l₁ = course-laid l₀ c in
         let w₁ = within-more (round-less v d (z ∷ r) o) w in
-        let over : Over d z r e o W = record { nodes = nodes; inside = w₁; off = l₁ .off; places = λ q k′ p k A′ B′ A B l y h. course-kept c w₁ s q k′ p k A′ B′ A B l y h } in
+        let over : Over d z r e o W = record {
+          nodes = nodes;
+          inside = w₁;
+          off = l₁ .off;
+          places = λ q k′ p k A′ B′ A B l y h. course-kept c w₁ s q k′ p k A′ B′ A B l y h;
+        } in
         round-i v d z r o y (l₁ .nodes) (l .short) (course-kept c w₁ s q k′ p k A′ B′ A B l y h)
         (stays-grows v d tri z r e o W over q k′ p k A′ B′ A B l y (out y q h .0) (out y q h .1) (round-stays v d z e W y nodes (l .long) (rest y q h)))

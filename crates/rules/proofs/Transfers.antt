@@ -41,14 +41,18 @@ module _ (v : Van) (d : Day) (rt : List ℕ) (o : Places) (x : ℕ) (A B : List 
 
   pub meets-e : T (partnerPlaced v d rt o x A B) → Meets
   meets-e h = record {
-    first = λ b w i. imp-imp-e (eqb x x) (mem b rt) (reachAhead v d (λ p k. eqb k b) w A B) (and-l (meetB x b w) (meetA x b w) (all-in (meetsPartner v d rt x A B) h i)) (eqb-refl x);
-    second = λ a w i. imp-imp-e (eqb x x) (mem a rt) (reachBack v d (λ p k. eqb p a) w A B) (and-r (meetB a x w) (meetA a x w) (all-in (meetsPartner v d rt x A B) h i)) (eqb-refl x);
+    first = λ b w i. imp-imp-e (eqb x x) (mem b rt) (reachAhead v d (λ p k. eqb k b) w A B)
+        (and-l (meetB x b w) (meetA x b w) (all-in (meetsPartner v d rt x A B) h i)) (eqb-refl x);
+    second = λ a w i. imp-imp-e (eqb x x) (mem a rt) (reachBack v d (λ p k. eqb p a) w A B)
+        (and-r (meetB a x w) (meetA a x w) (all-in (meetsPartner v d rt x A B) h i)) (eqb-refl x);
   }
 
   pub supports-e : T (neitherPlaced v d rt o x A B) → Supports
   supports-e h = record {
-    first = λ b w i. imp-or-e (eqb x x) (mem b rt) (reachAhead v d (λ p k. o b p) w A B) (and-l (holdB x b w) (holdA x b w) (all-in (hasSupport v d rt o x A B) h i)) (eqb-refl x);
-    second = λ a w i. imp-or-e (eqb x x) (mem a rt) (reachBack v d (λ p k. o a p) w A B) (and-r (holdB a x w) (holdA a x w) (all-in (hasSupport v d rt o x A B) h i)) (eqb-refl x);
+    first = λ b w i. imp-or-e (eqb x x) (mem b rt) (reachAhead v d (λ p k. o b p) w A B)
+        (and-l (holdB x b w) (holdA x b w) (all-in (hasSupport v d rt o x A B) h i)) (eqb-refl x);
+    second = λ a w i. imp-or-e (eqb x x) (mem a rt) (reachBack v d (λ p k. o a p) w A B)
+        (and-r (holdB a x w) (holdA a x w) (all-in (hasSupport v d rt o x A B) h i)) (eqb-refl x);
   }
 
   pub meets-i : Meets → T (partnerPlaced v d rt o x A B)

@@ -5,7 +5,6 @@ ghost use lib.ListN.{length};
 ghost use Rattle.laws.specs.Below.{allBelow};
 ghost use Rattle.laws.specs.Choice.{unless};
 ghost use Rattle.sheet.specs.Word.{words, wordAt, Reads};
-ghost use Rattle.sheet.specs.Refusal.{VALUE};
 ghost use Rattle.sheet.specs.Rule.{limitsOk, nodeOk, isInner, jobOk, nodeAtOk, jobAtOk, entryOk};
 ghost use Rattle.sheet.specs.Section.{headRefusal, limitsRefusal, nodesRefusal, jobsRefusal, tableRefusal, stepsRefusal};
 ghost use Rattle.sheet.specs.Section.{tablesRefusal, laterRefusal, refusal13};
@@ -181,11 +180,11 @@ fn entries_ok(s: &[u8], from: usize, m: usize) -> bool
     ok
 }
 
-// The number of a word against its rule, 0 where it is fine.
-fn value(ok: bool) -> usize
-    ensures { λ r. ⌜ r ≡ unless ok VALUE ⌝ }
+// The number of a test that failed, 0 where it passed.
+pub fn number_of(ok: bool, number: usize) -> usize
+    ensures { λ r. ⌜ r ≡ unless ok number ⌝ }
 {
-    if ok { 0 } else { VALUE }
+    if ok { 0 } else { number }
 }
 
 // The entries of a table of n rows.
@@ -203,7 +202,7 @@ fn limits_refusal(s: &[u8]) -> usize
     if h != 0 {
         return h;
     }
-    value(limits_ok(word(s, 1), word(s, 2)))
+    number_of(limits_ok(word(s, 1), word(s, 2)), VALUE)
 }
 
 fn nodes_refusal(s: &[u8]) -> usize
@@ -213,7 +212,7 @@ fn nodes_refusal(s: &[u8]) -> usize
     if h != 0 {
         return h;
     }
-    value(nodes_ok(s, 4, word(s, 3) as usize))
+    number_of(nodes_ok(s, 4, word(s, 3) as usize), VALUE)
 }
 
 fn jobs_refusal(s: &[u8], n: u32, at: usize) -> usize
@@ -224,7 +223,7 @@ fn jobs_refusal(s: &[u8], n: u32, at: usize) -> usize
     if h != 0 {
         return h;
     }
-    value(jobs_ok(s, n, at + 1, word(s, at) as usize))
+    number_of(jobs_ok(s, n, at + 1, word(s, at) as usize), VALUE)
 }
 
 fn table_refusal(s: &[u8], n: usize, at: usize) -> usize
@@ -236,7 +235,7 @@ fn table_refusal(s: &[u8], n: usize, at: usize) -> usize
     if h != 0 {
         return h;
     }
-    value(entries_ok(s, at + 1, m))
+    number_of(entries_ok(s, at + 1, m), VALUE)
 }
 
 fn steps_refusal(s: &[u8], at: usize) -> usize

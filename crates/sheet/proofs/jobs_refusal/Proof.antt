@@ -26,12 +26,12 @@ cast-jobs-ok c = search needs
 jobs-ok-requires : tie.Need-jobs-ok-requires
 jobs-ok-requires c κs = let h = head-zero _ _ _ _ _ (sym (c .before .before .head .ensures) ∙ c .before .if1 .left) in omega arith
 
-value-requires : tie.Need-value-requires
-value-requires c κs = search needs
+number-of-requires : tie.Need-number-of-requires
+number-of-requires c κs = search needs
 
 returns-2 : tie.Need-returns-2
 unfolding jobsRefusal
-returns-2 c = first-goes _ (c .before .before .before .before .head .ensures) (c .before .before .before .if1 .left) (rw (c .value .ensures, c .before .jobs-ok .ensures, c .before .before .word .ensures .is))
+returns-2 c = first-goes _ (c .before .before .before .before .head .ensures) (c .before .before .before .if1 .left) (rw (c .number-of .ensures, c .before .jobs-ok .ensures, c .before .before .word .ensures .is))
 
 pub jobs-refusal-spec : {M : Type 1} → statement M
 jobs-refusal-spec =
@@ -43,5 +43,5 @@ jobs-refusal-spec =
     word-requires
     cast-jobs-ok
     jobs-ok-requires
-    value-requires
+    number-of-requires
     returns-2)

@@ -23,12 +23,12 @@ word-requires-2 c κs = let h = head-zero _ _ _ _ _ (sym (c .before .before .hea
 limits-ok-requires : tie.Need-limits-ok-requires
 limits-ok-requires c κs = search needs
 
-value-requires : tie.Need-value-requires
-value-requires c κs = search needs
+number-of-requires : tie.Need-number-of-requires
+number-of-requires c κs = search needs
 
 returns-2 : tie.Need-returns-2
 unfolding limitsRefusal
-returns-2 c = first-goes _ (c .before .before .before .before .before .head .ensures) (c .before .before .before .before .if1 .left) (rw (c .value .ensures, c .before .limits-ok .ensures, c .before .before .word2 .ensures .is, c .before .before .before .word .ensures .is))
+returns-2 c = first-goes _ (c .before .before .before .before .before .head .ensures) (c .before .before .before .before .if1 .left) (rw (c .number-of .ensures, c .before .limits-ok .ensures, c .before .before .word2 .ensures .is, c .before .before .before .word .ensures .is))
 
 pub limits-refusal-spec : {M : Type 1} → statement M
 limits-refusal-spec =
@@ -39,5 +39,5 @@ limits-refusal-spec =
     word-requires
     word-requires-2
     limits-ok-requires
-    value-requires
+    number-of-requires
     returns-2)

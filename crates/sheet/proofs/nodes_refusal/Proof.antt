@@ -23,12 +23,12 @@ cast-nodes-ok c = search needs
 nodes-ok-requires : tie.Need-nodes-ok-requires
 nodes-ok-requires c κs = let h = head-zero _ _ _ _ _ (sym (c .before .before .head .ensures) ∙ c .before .if1 .left) in omega arith
 
-value-requires : tie.Need-value-requires
-value-requires c κs = search needs
+number-of-requires : tie.Need-number-of-requires
+number-of-requires c κs = search needs
 
 returns-2 : tie.Need-returns-2
 unfolding nodesRefusal
-returns-2 c = first-goes _ (c .before .before .before .before .head .ensures) (c .before .before .before .if1 .left) (rw (c .value .ensures, c .before .nodes-ok .ensures, c .before .before .word .ensures .is))
+returns-2 c = first-goes _ (c .before .before .before .before .head .ensures) (c .before .before .before .if1 .left) (rw (c .number-of .ensures, c .before .nodes-ok .ensures, c .before .before .word .ensures .is))
 
 pub nodes-refusal-spec : {M : Type 1} → statement M
 nodes-refusal-spec =
@@ -39,5 +39,5 @@ nodes-refusal-spec =
     word-requires
     cast-nodes-ok
     nodes-ok-requires
-    value-requires
+    number-of-requires
     returns-2)

@@ -23,12 +23,12 @@ add-entries-ok c = search needs
 entries-ok-requires : tie.Need-entries-ok-requires
 entries-ok-requires c κs = let h = head-zero _ _ _ _ _ (sym (c .before .head .ensures) ∙ c .if1 .left) in omega arith
 
-value-requires : tie.Need-value-requires
-value-requires c κs = search needs
+number-of-requires : tie.Need-number-of-requires
+number-of-requires c κs = search needs
 
 returns-2 : tie.Need-returns-2
 unfolding tableRefusal
-returns-2 c = first-goes _ (rw (c .before .before .before .before .square .ensures .0) at (c .before .before .before .head .ensures)) (c .before .before .if1 .left) (rw (c .value .ensures, c .before .entries-ok .ensures, c .before .before .before .before .square .ensures .0))
+returns-2 c = first-goes _ (rw (c .before .before .before .before .square .ensures .0) at (c .before .before .before .head .ensures)) (c .before .before .if1 .left) (rw (c .number-of .ensures, c .before .entries-ok .ensures, c .before .before .before .before .square .ensures .0))
 
 pub table-refusal-spec : {M : Type 1} → statement M
 table-refusal-spec =
@@ -39,5 +39,5 @@ table-refusal-spec =
     returns
     add-entries-ok
     entries-ok-requires
-    value-requires
+    number-of-requires
     returns-2)

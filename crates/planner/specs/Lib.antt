@@ -1,0 +1,5 @@
+-- Face: what each of the five entry points answers. Promises: the three demands, as statements about those answers.
+-- Paper: the table P1 to P12.
+pub mod Face
+pub mod Promises
+pub mod Paper
