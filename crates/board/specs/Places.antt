@@ -1,15 +1,15 @@
 -- What each change opens and closes, place by place (01, Steps).
 use mathlib.Core.Path.{_≡_, refl, ap, sym, _∙_}
 use mathlib.Core.Bool.{Bool, true, false, cond, not, _&&_, _||_, and-false}
-use Prim.Native.Nat.{ℕ, _+_, _<_, _≤_}
+use Prim.Native.Nat.{ℕ, _<_, _≤_}
 use native.Mathlib.Omega.{arith}
 use lib.ListN.{length, List·getD-eq-default}
 use lib.Dec.{eqb, ltb}
-use borrow.Author.Tests.{eqb-true, eqb-false, eq-eqb, ne-eqb, ltb-true, ltb-false}
+use borrow.Author.Tests.{eqb-true, eqb-false, eq-eqb, ltb-true, ltb-false}
 use Rattle.laws.specs.Logic.{decided}
-use Rattle.bits.specs.Places.{has, with, without}
+use Rattle.bits.specs.Places.{has, without}
 use Rattle.bits.specs.Members.{has-none, with-same, with-other, without-same, without-other}
-use Rattle.board.specs.Board.{Board, onRoute, setOf, openAt, inner}
+use Rattle.board.specs.Board.{Board, setOf, openAt}
 use Rattle.board.specs.Change.{heir, putSet, placed, marked}
 use Rattle.board.specs.FormLaws.{Formed, Wide, inner-in, no-leg}
 use Rattle.board.specs.Keep.{Splits, put-same, put-other, placed-set, placed-none, heir-yes, heir-no, placed-wide}
