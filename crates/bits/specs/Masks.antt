@@ -1,6 +1,6 @@
 -- What the machine's operations on words do to the sets: or, and, complement, the lowest set bit.
 use mathlib.Core.Path.{_≡_, refl, ap, sym, _∙_, subst}
-use mathlib.Core.Bool.{Bool, true, false, not, _&&_}
+use mathlib.Core.Bool.{Bool, true, false, not, _&&_, and-true, and-false}
 use Prim.Native.Nat.{ℕ, zero, suc, _+_, _-_, _*_, _/_, _%_, _^_, _<_, min}
 use native.Mathlib.Nat.{pow-succ', mod-eq-of-lt, zero-add}
 use native.Mathlib.Numerals.{one-add}
@@ -113,16 +113,8 @@ without-mask w p f l =
     has-ext (minus w (2 ^ p)) (without w p) (minus-fits w (2 ^ p) f) (without-fits w p f) (λ i m.
     has-minus w (2 ^ p) i (pow-lt l) m
     ∙ decided (eqb i p)
-    (λ e. let q = eqb-true i p e in rw (q, one-same p) (none (has w p) ∙ sym (without-same w p)))
-    (λ e. let q = eqb-false i p e in rw (one-other p i q, without-other w p i q) (all (has w i))))
-  where
-    none : (x : Bool) → x && false ≡ false
-    none true = refl
-    none false = refl
-
-    all : (x : Bool) → x && true ≡ x
-    all true = refl
-    all false = refl
+    (λ e. let q = eqb-true i p e in rw (q, one-same p) (and-false (has w p) ∙ sym (without-same w p)))
+    (λ e. let q = eqb-false i p e in rw (one-other p i q, without-other w p i q) (and-true (has w i))))
 
 -- ---- the least member: from the lowest digit, which is 0 or 1
 

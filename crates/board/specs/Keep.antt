@@ -1,6 +1,6 @@
 -- Each change keeps the form: a set of present legs put for a node off the route, a mark put or taken off, a placing, a placing undone.
 use mathlib.Core.Path.{_≡_, refl, ap, sym, _∙_, subst}
-use mathlib.Core.Bool.{Bool, true, false, cond, not, _&&_}
+use mathlib.Core.Bool.{Bool, true, false, cond, not, _&&_, and-false}
 use mathlib.Core.List.{List, map}
 use Prim.Native.Nat.{ℕ, suc, _+_, _-_, _≤_, _<_}
 use native.Mathlib.Omega.{arith}
@@ -253,13 +253,9 @@ module _ (n : ℕ) (b : Board) (p x : ℕ) (small : n ≤ 64) (wide : Wide b) (f
   unfolding setOk
   new-sets y l =
       decided (eqb y x)
-      (λ e. rw (eqb-true y x e, placed-on, placed-none, none (inner n x)))
+      (λ e. rw (eqb-true y x e, placed-on, placed-none, and-false (inner n x)))
       (λ e. let d = eqb-false y x e in
       set-moved n b (placed b p x) (heir p x) y (placed-others y d) (placed-set y l d) (heir-no p x 0 (has-none p)) heir-legs (f .sets y l))
-    where
-      none : (t : Bool) → t && false ≡ false
-      none true = refl
-      none false = refl
 
   pub placed-formed : Formed n (placed b p x)
   unfolding markOk placed
