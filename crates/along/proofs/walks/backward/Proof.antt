@@ -39,8 +39,8 @@ element-copy-out-v c = search needs
 has-requires : tie.Need-has-requires Inv-loop μ-loop
 has-requires c κs = search needs
 
-add-ok : tie.Need-add-ok Inv-loop μ-loop
-add-ok c = omega (arith, c .before .before .before .before .before .before .before .before .pre .loads (c .before .before .before .before .before .before .before .loop .i - 1) (omega arith))
+add-room : tie.Need-add-room Inv-loop μ-loop
+add-room c = omega (arith, c .before .before .before .before .before .before .before .before .pre .loads (c .before .before .before .before .before .before .before .loop .i - 1) (omega arith))
 
 strike-requires : tie.Need-strike-requires Inv-loop μ-loop
 strike-requires c κs = search needs
@@ -69,7 +69,7 @@ backward-spec =
     mul-v
     element-copy-out-v
     has-requires
-    add-ok
+    add-room
     strike-requires
     loop-less
     loop-again

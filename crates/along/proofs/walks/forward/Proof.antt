@@ -30,8 +30,8 @@ element-copy-out-v c = search needs
 has-requires : tie.Need-has-requires Inv-loop μ-loop
 has-requires c κs = search needs
 
-add-ok : tie.Need-add-ok Inv-loop μ-loop
-add-ok c = omega (arith, c .before .before .before .before .before .before .before .pre .loads (c .before .before .before .before .before .before .loop .i) (omega arith))
+add-fits : tie.Need-add-fits Inv-loop μ-loop
+add-fits c = omega (arith, c .before .before .before .before .before .before .before .pre .loads (c .before .before .before .before .before .before .loop .i) (omega arith))
 
 strike-requires : tie.Need-strike-requires Inv-loop μ-loop
 strike-requires c κs = search needs
@@ -60,7 +60,7 @@ forward-spec =
     mul-v
     element-copy-out-v
     has-requires
-    add-ok
+    add-fits
     strike-requires
     add-i
     loop-less
