@@ -2,8 +2,7 @@
 use mathlib.Core.Path.{_≡_, refl, sym, ap, _∙_}
 use Prim.Native.Nat.{ℕ, zero, suc, _+_, _-_, _*_, _<_, _≤_, max}
 use mathlib.Core.Bool.{Bool, true, false, cond, _&&_}
-use mathlib.Core.List.{List, [], _∷_}
-use native.Mathlib.Numerals.{add-one}
+use mathlib.Core.List.{List}
 use native.Mathlib.Omega.{arith}
 use lib.Dec.{leb, ltb, eqb}
 use borrow.Author.Tests.{lt-ltb, le-ltb, le-leb, eqb-true, eqb-false, ltb-true, ltb-false, leb-true}
@@ -18,7 +17,7 @@ use Rattle.rules.specs.Rounds.{Distinct}
 use Rattle.rules.specs.Along.{behind}
 use Rattle.rules.specs.declared.Job.{Job}
 use Rattle.rules.specs.declared.Job.the-variants.{Clean, Soiled, Transfer}
-use Rattle.along.specs.Spots.{Spots, loadOf, comes, goes, aboard-is}
+use Rattle.along.specs.Spots.{Spots, same-entries, loadOf, comes, goes, aboard-is}
 
 -- ---- w more from lo up to hi
 
@@ -77,14 +76,9 @@ added-end {h = h} {lo} {i} {w} {r} hi a b c d = record { long = a .long; at = λ
 unfoldable pub loadSum : (ℕ → Job) → List ℕ → ℕ → ℕ → ℕ
 loadSum g m j i = sumBelow j (λ k. aboard (behind m (suc i)) (drop (suc i) m) (g k))
 
-zeros : (m k : ℕ) → _≡_ {A = ℕ} (getD (replicate m 0) k 0) 0
-zeros zero k = refl
-zeros (suc m) zero = refl
-zeros (suc m) (suc k) = zeros m k
-
 pub load-none : (g : ℕ → Job) (m : List ℕ) (n : ℕ) → Filled 64 (loadSum g m 0) 0 n (replicate 64 0)
 unfolding loadSum sumBelow
-load-none g m n = record { long = refl; at = λ k b. zeros 64 k }
+load-none g m n = record { long = refl; at = λ k b. same-entries 0 64 k }
 
 pub load-next : (g : ℕ → Job) (l : List ℕ) (n j : ℕ) {k : ℕ} {a h r : List ℕ} {lo hi w : ℕ} → n ≤ 64 → n ≤ length l → Distinct k (take n l) → Spots l n a
     → Filled 64 (loadSum g (take n l) j) 0 (n - 1) h → lo ≡ comes (g j) a → hi ≡ goes (g j) a n → w ≡ loadOf (g j) → Added h lo hi w r

@@ -1,15 +1,15 @@
 -- Where each node stands on a route of n stops in an array, and how that tells which jobs are aboard on a leg.
 use mathlib.Core.Path.{_≡_, refl, sym, ap, _∙_, subst}
 use Prim.Native.Nat.{ℕ, zero, suc, _+_, _-_, _<_, _≤_}
-use mathlib.Core.Bool.{Bool, true, false, cond, _&&_, _||_, and-true}
+use mathlib.Core.Bool.{true, false, cond, _&&_, and-true}
 use mathlib.Core.List.{List, [], _∷_}
 use mathlib.Core.Logic.{⊎-elim, _⊎_, inl, inr}
 use native.Mathlib.Numerals.{add-one}
 use native.Mathlib.Omega.{arith}
-use lib.Dec.{T, T-not, leb, ltb, eqb, eqb→eq, eqb-refl, leb→le, le→leb, ltb→lt, lt→ltb}
+use lib.Dec.{T, leb, ltb, eqb, eqb→eq, leb→le, le→leb, ltb→lt, lt→ltb}
 use borrow.Author.Tests.{eqb-true, eqb-false, eq-eqb, ne-eqb, ltb-true, ltb-false, lt-ltb, le-leb}
 use lib.ListN.{getD, set, replicate, take, drop, length, length-take, length-set, List·getD-eq-default}
-use lib.Seq.{getD-set-same, getD-set-other, getD-take, drop-cons}
+use lib.Seq.{getD-set-same, getD-set-other, getD-take}
 use Rattle.laws.specs.Logic.{decided, T-ext, or-l, or-r, or-e, true→T}
 use Rattle.laws.specs.Lists.{mem}
 use Rattle.rules.specs.Rounds.{Distinct, none, more}
@@ -39,14 +39,15 @@ spot-in (y ∷ a) (suc x) h = spot-in a x (omega arith)
 pub spot-past : (a : List ℕ) (x : ℕ) → length a ≡ 64 → 64 ≤ x → 64 ≡ getD a x 64
 spot-past a x n h = sym (List·getD-eq-default a 64 {n = x} (omega arith))
 
-fresh-spot : (k x : ℕ) → _≡_ {A = ℕ} (getD (replicate k 64) x 64) 64
-fresh-spot zero x = refl
-fresh-spot (suc k) zero = refl
-fresh-spot (suc k) (suc x) = fresh-spot k x
+-- every entry of an array of one number, and what stands for those past it
+pub same-entries : (a k x : ℕ) → getD (replicate k a) x a ≡ a
+same-entries a zero x = refl
+same-entries a (suc k) zero = refl
+same-entries a (suc k) (suc x) = same-entries a k x
 
 pub spots-none : (l : List ℕ) → Spots l 0 (replicate 64 64)
 unfolding spot
-spots-none l = record { long = refl; at = fresh-spot 64 }
+spots-none l = record { long = refl; at = same-entries 64 64 }
 
 pub spots-more : {l : List ℕ} {i : ℕ} {a : List ℕ} → getD l i 0 < 64 → Spots l i a → Spots l (i + 1) (set a (getD l i 0) i)
 unfolding spot

@@ -1,12 +1,12 @@
 -- A step along the route, forward and back: how E and L go from one stop to the next, and how large they can be.
-use mathlib.Core.Path.{_≡_, refl, sym, ap, _∙_, subst}
+use mathlib.Core.Path.{_≡_, refl, sym, ap, _∙_}
 use Prim.Native.Nat.{ℕ, zero, suc, _+_, _-_, _*_, _<_, _≤_}
 use mathlib.Core.List.{List, [], _∷_}
 use mathlib.Core.Logic.{⊎-elim}
 use native.Mathlib.Numerals.{add-one}
 use native.Mathlib.Nat.{eq-or-lt-of-le, ne-of-lt}
 use native.Mathlib.Omega.{arith}
-use lib.ListN.{getD, set, take, drop, length, length-take, length-set}
+use lib.ListN.{getD, set, take, length, length-take, length-set}
 use lib.Seq.{getD-take, getD-set-same, getD-set-other}
 use lib.IntN.{ℤ, pos, _-ℤ_}
 use lib.Signed.{mag}

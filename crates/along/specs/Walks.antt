@@ -9,7 +9,7 @@ use native.Mathlib.Nat.{eq-or-lt-of-le, le-of-suc-le-suc}
 use native.Mathlib.Omega.{arith}
 use lib.Dec.{T, leb, eqb}
 use lib.ListN.{getD, length}
-use Rattle.laws.specs.Logic.{T→true, true→T, N→false, tf, and-i, and-l, and-r, neqb}
+use Rattle.laws.specs.Logic.{T→true, true→T, and-i, and-l, and-r}
 use Rattle.bits.specs.Places.{has, without}
 use Rattle.bits.specs.Members.{has-none, without-same, without-other, without-part}
 use Rattle.along.specs.declared.walks.Ride.{Ride}

@@ -1,15 +1,15 @@
 -- The walks along arrays are the rules' recursions over the legs, and so are the tests that they serve.
 use mathlib.Core.Path.{_≡_, refl, sym, ap, _∙_, subst}
-use Prim.Native.Nat.{ℕ, zero, suc, _+_, _-_, _*_, _<_, _≤_}
-use mathlib.Core.Bool.{Bool, true, false, cond, not, _&&_, _||_, and-true, or-true}
-use mathlib.Core.List.{List, [], _∷_}
+use Prim.Native.Nat.{ℕ, zero, suc, _+_, _-_, _<_, _≤_}
+use mathlib.Core.Bool.{Bool, true, false, not, _&&_, _||_, and-true}
+use mathlib.Core.List.{List}
 use native.Mathlib.Numerals.{add-one}
 use native.Mathlib.Omega.{arith}
-use lib.Dec.{T, leb, eqb, eqb-refl}
+use lib.Dec.{T, leb, eqb}
 use borrow.Author.Tests.{ne-eqb, eqb-true}
 use lib.ListN.{getD, take, drop, length, length-take}
 use lib.Seq.{getD-take}
-use Rattle.laws.specs.Logic.{decided, T→true, N→false, true→T}
+use Rattle.laws.specs.Logic.{decided, true→T}
 use Rattle.laws.specs.Lists.{mem}
 use Rattle.laws.specs.Table.{Filled}
 use Rattle.bits.specs.Places.{has}
@@ -23,10 +23,15 @@ use Rattle.rules.specs.Along.{behind, loadAt}
 use Rattle.rules.specs.declared.Job.{Job}
 use Rattle.rules.specs.declared.Job.the-variants.{Clean, Soiled, Transfer}
 use Rattle.rules.proofs.AlongLaws.{atLeg, ahead-next, ahead-end, back-first, back-next, reach-ahead-next, reach-ahead-end, reach-back-first, reach-back-next, mem-at}
-use Rattle.along.specs.declared.walks.Ride.{Ride}
 use Rattle.along.specs.Walks.{walkUp, walkDown, upFlag, downFlag, fitsAt, metBehind, metAhead, ridesUp, ridesDown}
 use Rattle.settle.specs.Sets.{placesOf}
 use Rattle.settle.specs.Round.{through, between, loadOk}
+
+pub and-swap : (a b c e : Bool) → ((a && b) && (c && e)) ≡ ((a && c) && (b && e))
+and-swap true true c e = refl
+and-swap true false true e = refl
+and-swap true false false e = refl
+and-swap false b c e = refl
 
 -- ---- a walk is any recursion with its steps
 
@@ -145,16 +150,10 @@ module _ (v : Van) (d : Day) (l h : List ℕ) (n : ℕ) (two : 2 ≤ n) (fits : 
         next j q = rw (add-one j) (getD-take n l (suc j) 0 (omega arith))
 
     -- a job's load test from arrays is the rules' four
-    swap4 : (a b c e : Bool) → ((a && b) && (c && e)) ≡ ((a && c) && (b && e))
-    swap4 true true c e = refl
-    swap4 true false true e = refl
-    swap4 true false false e = refl
-    swap4 false b c e = refl
-
     pub load-is : (x i : ℕ) → i < n - 1 → (j : Job) → loadOk j old l h (n - 1) cap x i
         ≡ (cleanFits v d x (behind m (suc i)) (drop (suc i) m) j && soiledFits v d x (behind m (suc i)) (drop (suc i) m) j
         && (meetsPartner v d m x (behind m (suc i)) (drop (suc i) m) j && hasSupport v d m o x (behind m (suc i)) (drop (suc i) m) j))
     unfolding loadOk
     load-is x i k (Clean a w) = ap (λ (b : Bool). not (eqb a x) || b) (clean-is w i k) ∙ sym (and-true _) ∙ sym (and-true _)
     load-is x i k (Soiled a w) = ap (λ (b : Bool). not (eqb a x) || b) (soiled-is w i k) ∙ sym (and-true _)
-    load-is x i k (Transfer a b w) = (λ u. first-is x a b w i k u && second-is x a b w i k u) ∙ swap4 (meetB x a b w i) (holdB x a b w i) (meetA x a b w i) (holdA x a b w i)
+    load-is x i k (Transfer a b w) = (λ u. first-is x a b w i k u && second-is x a b w i k u) ∙ and-swap (meetB x a b w i) (holdB x a b w i) (meetA x a b w i) (holdA x a b w i)

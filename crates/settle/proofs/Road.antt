@@ -1,10 +1,10 @@
 -- The route's part of the verdict, and the whole of it, from what the code finds in its arrays.
-use mathlib.Core.Path.{_≡_, refl, sym, ap, _∙_, subst}
-use Prim.Native.Nat.{ℕ, zero, suc, _+_, _-_, _<_, _≤_}
+use mathlib.Core.Path.{_≡_, refl, sym, ap, _∙_}
+use Prim.Native.Nat.{ℕ, _-_, _≤_}
 use mathlib.Core.Bool.{Bool, true, false, not, _&&_, _||_}
 use mathlib.Core.List.{List, [], _∷_}
 use native.Mathlib.Omega.{arith}
-use lib.Dec.{T, leb, ltb, eqb}
+use lib.Dec.{T, leb}
 use lib.ListN.{getD, take, length, length-take}
 use lib.Seq.{getD-take}
 use Rattle.laws.specs.Lists.{mem, all, any}
@@ -16,11 +16,10 @@ use Rattle.rules.specs.Leg.{everyLeg, legStops}
 use Rattle.rules.specs.Time.{inTime, onTime}
 use Rattle.rules.specs.Metres.{driven}
 use Rattle.rules.specs.Load.{carries}
-use Rattle.rules.specs.Plan.{Plan}
 use Rattle.rules.specs.Rounds.{Distinct}
 use Rattle.rules.specs.Asked.{Proper}
 use Rattle.rules.specs.Verdict.{partnered, owed, hasPlace, wrongWay, alive}
-use Rattle.rules.specs.Along.{startAt, loadAt}
+use Rattle.rules.specs.Along.{startAt}
 use Rattle.rules.specs.declared.Job.{Job}
 use Rattle.rules.proofs.AlongLaws.{atLeg, on-time-all, every-all}
 use Rattle.along.specs.Spots.{Spots}

@@ -1,44 +1,35 @@
 -- A round over the words is the rules' round.
 use mathlib.Core.Path.{_≡_, refl, sym, ap, _∙_, subst}
-use Prim.Native.Nat.{ℕ, zero, suc, _+_, _-_, _*_, _<_, _≤_}
-use mathlib.Core.Bool.{Bool, true, false, cond, not, _&&_, _||_, and-true, and-assoc}
+use Prim.Native.Nat.{ℕ, zero, suc, _-_, _<_, _≤_}
+use mathlib.Core.Bool.{Bool, true, false, not, _&&_, and-true, and-assoc}
 use mathlib.Core.List.{List, [], _∷_}
 use native.Mathlib.Numerals.{add-one}
 use native.Mathlib.Omega.{arith}
-use lib.Dec.{T, leb, ltb, eqb}
-use lib.IntN.{ℤ, pos}
-use lib.Signed.{leZ}
+use lib.Dec.{T}
+use lib.IntN.{ℤ}
 use lib.ListN.{getD, take, drop, length, length-take}
 use lib.Seq.{getD-take}
 use Rattle.laws.specs.Logic.{decided, T-ext, true→T}
 use Rattle.laws.specs.Lists.{mem, all}
 use Rattle.laws.specs.Below.{allBelow, below-same}
-use Rattle.laws.specs.Table.{tab, Filled}
+use Rattle.laws.specs.Table.{tab}
 use Rattle.rules.specs.Day.{Day, Van}
 use Rattle.rules.specs.Leg.{onLeg, legStops}
-use Rattle.rules.specs.Metres.{driven}
-use Rattle.rules.specs.Plan.{Plan, Places}
+use Rattle.rules.specs.Plan.{Places}
 use Rattle.rules.specs.Rounds.{Distinct}
 use Rattle.rules.specs.Tests.{cleanFits, soiledFits, meetsPartner, hasSupport, window, short, clean, soiled, partnerPlaced, neitherPlaced, stays}
 use Rattle.rules.specs.Settle.{round}
-use Rattle.rules.specs.Asked.{Formed}
-use Rattle.rules.specs.Along.{behind, startAt, lastAt, loadAt}
+use Rattle.rules.specs.Along.{behind}
 use Rattle.rules.specs.declared.Job.{Job}
 use Rattle.rules.proofs.AlongLaws.{atLeg, window-at, short-at, on-leg, leg-index}
 use Rattle.rules.proofs.Left.{round-less, round-leg, round-left}
 use Rattle.along.specs.Spots.{node-low}
 use Rattle.settle.specs.Sets.{placesOf, setsOf, sets-ext}
-use Rattle.settle.specs.Round.{Kepts, stands, standsAt, loadOk, loadsOk, placeOk}
+use Rattle.settle.specs.Round.{Kepts, stands, standsAt, loadsOk, placeOk}
 use Rattle.settle.specs.Ready.{Read}
-use Rattle.settle.proofs.Legs.{load-is}
+use Rattle.settle.proofs.Legs.{and-swap, load-is}
 
 -- ---- tests of a list of jobs
-
-and-swap : (a b c e : Bool) → ((a && b) && (c && e)) ≡ ((a && c) && (b && e))
-and-swap true true c e = refl
-and-swap true false true e = refl
-and-swap true false false e = refl
-and-swap false b c e = refl
 
 pub all-both : {A : Type 0} (f g : A → Bool) (l : List A) → all (λ j. f j && g j) l ≡ (all f l && all g l)
 all-both f g [] = refl

@@ -1,16 +1,15 @@
 -- Two rounds over the words are the rules' settling, and the words tell how many of them struck.
-use mathlib.Core.Path.{_≡_, refl, sym, ap, _∙_, subst}
-use Prim.Native.Nat.{ℕ, zero, suc, _+_, _-_, _*_, _<_, _≤_}
-use mathlib.Core.Bool.{Bool, true, false, not, _&&_, _||_}
-use mathlib.Core.List.{List, [], _∷_}
+use mathlib.Core.Path.{_≡_, sym, ap, _∙_, subst}
+use Prim.Native.Nat.{ℕ, suc, _-_, _*_, _≤_}
+use mathlib.Core.Bool.{Bool, true, false, not}
+use mathlib.Core.List.{List}
 use native.Mathlib.Nat.{mul-le-mul}
 use native.Mathlib.Omega.{arith}
-use lib.Dec.{T, not-T, ltb, eqb}
-use borrow.Author.Tests.{eqb-true, eq-eqb, lt-ltb}
+use lib.Dec.{T, not-T, eqb}
+use borrow.Author.Tests.{eqb-true, eq-eqb}
 use lib.ListN.{getD, length}
 use lib.Seq.{ext-getD}
 use Rattle.laws.specs.Logic.{decided, T-ext, true→T, N→false}
-use Rattle.laws.specs.Lists.{In, mem}
 use Rattle.laws.specs.Below.{allBelow, below-at, below-make}
 use Rattle.rules.specs.Day.{Day, Van}
 use Rattle.rules.specs.Plan.{Places}
@@ -18,7 +17,7 @@ use Rattle.rules.specs.Rounds.{Distinct}
 use Rattle.rules.specs.Settle.{round, strikes, settleIn, settle, roundsIn, rounds}
 use Rattle.rules.specs.Asked.{OneEnd}
 use Rattle.rules.proofs.Left.{_⊆_, round-less}
-use Rattle.rules.proofs.Twice.{calm, third, at-most-two}
+use Rattle.rules.proofs.Twice.{calm, at-most-two}
 use Rattle.rules.proofs.Fixpoint.{Seen, settle-twice}
 use Rattle.settle.specs.Sets.{placesOf, setsOf, sets-ext, length-sets, places-sets, Small}
 

@@ -1,8 +1,8 @@
 -- A round of settling over all words, from arrays: which places window, metres and the jobs leave.
 use mathlib.Core.Path.{_≡_, refl, sym, ap, _∙_, subst}
-use Prim.Native.Nat.{ℕ, zero, suc, _+_, _-_, _*_, _<_, _≤_}
-use mathlib.Core.Bool.{Bool, true, false, cond, not, _&&_, _||_}
-use mathlib.Core.List.{List, [], _∷_}
+use Prim.Native.Nat.{ℕ, zero, suc, _+_, _-_, _<_, _≤_}
+use mathlib.Core.Bool.{Bool, true, false, not, _&&_, _||_}
+use mathlib.Core.List.{List}
 use native.Mathlib.Numerals.{add-one}
 use native.Mathlib.Omega.{arith}
 use lib.Dec.{leb, ltb, eqb}
@@ -13,7 +13,7 @@ use lib.IntN.{ℤ, pos}
 use lib.Signed.{leZ}
 use Rattle.laws.specs.Logic.{decided}
 use Rattle.laws.specs.Below.{allBelow}
-use Rattle.rules.specs.Day.{Day, Van}
+use Rattle.rules.specs.Day.{Day}
 use Rattle.rules.specs.Time.{inTime, lastMoment}
 use Rattle.rules.specs.declared.Job.{Job}
 use Rattle.rules.specs.declared.Job.the-variants.{Clean, Soiled, Transfer}
@@ -21,6 +21,7 @@ use Rattle.rules.proofs.AlongLaws.{arrives}
 use Rattle.along.specs.declared.walks.Ride.{Ride}
 use Rattle.bits.specs.Places.{has}
 use Rattle.bits.specs.Members.{without-no}
+use Rattle.along.specs.Spots.{same-entries}
 use Rattle.along.specs.Walks.{struck, Kept, kept-same, kept-both, kept-all, kept-zero, ridesUp, ridesDown}
 
 -- each word of vs keeps of the word of ws the places that pass f
@@ -68,13 +69,8 @@ pub record Upto (l : List ℕ) (legs : ℕ) (f : ℕ → ℕ → Bool) (ws : Lis
   pub at : (y : ℕ) → y < x → Kept l 0 legs (f y) (getD ws y 0) (getD vs y 0)
   pub rest : (y : ℕ) → x ≤ y → getD vs y 0 ≡ 0
 
-zeros : (m k : ℕ) → _≡_ {A = ℕ} (getD (replicate m 0) k 0) 0
-zeros zero k = refl
-zeros (suc m) zero = refl
-zeros (suc m) (suc k) = zeros m k
-
 pub upto-none : (l : List ℕ) (legs : ℕ) (f : ℕ → ℕ → Bool) (ws : List ℕ) → Upto l legs f ws 0 (replicate 64 0)
-upto-none l legs f ws = record { long = refl; at = λ y h. absurd (omega arith); rest = λ y h. zeros 64 y }
+upto-none l legs f ws = record { long = refl; at = λ y h. absurd (omega arith); rest = λ y h. same-entries 0 64 y }
 
 pub upto-more : {l : List ℕ} {legs : ℕ} {f : ℕ → ℕ → Bool} {ws : List ℕ} {x : ℕ} {vs : List ℕ} {v : ℕ} → x < 64 → Upto l legs f ws x vs → Kept l 0 legs (f x) (getD ws x 0) v
     → Upto l legs f ws (x + 1) (set vs x v)
