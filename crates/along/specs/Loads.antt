@@ -48,7 +48,8 @@ pub added-more : {h : List ℕ} {lo i w : ℕ} {r : List ℕ} → Added h lo i w
 added-more {h = h} {lo} {i} {w} {r} a b c = record { long = length-set r i (getD r i 0 + w) ∙ a .long; at = λ k. go k (eqb k i) refl }
   where
     more : (k : ℕ) → (k ≡ i → ⊥) → ltb k (i + 1) ≡ ltb k i
-    more k n = decided (ltb k i) (λ p. lt-ltb k (i + 1) (omega (arith, ltb-true k i p)) ∙ sym p) (λ p. le-ltb k (i + 1) (omega (arith, ltb-false k i p, n)) ∙ sym p)
+    more k n =
+        decided (ltb k i) (λ p. lt-ltb k (i + 1) (omega (arith, ltb-true k i p)) ∙ sym p) (λ p. le-ltb k (i + 1) (omega (arith, ltb-false k i p, n)) ∙ sym p)
 
     full : cond (leb lo i && ltb i (i + 1)) w 0 ≡ w
     full = λ u. cond (le-leb lo i b u && lt-ltb i (i + 1) (omega arith) u) w 0
@@ -61,7 +62,8 @@ added-more {h = h} {lo} {i} {w} {r} a b c = record { long = length-set r i (getD
 
 -- the loop has run to hi, or never began
 pub added-end : {h : List ℕ} {lo i w : ℕ} {r : List ℕ} (hi : ℕ) → Added h lo i w r → lo ≤ i → i ≤ max lo hi → hi ≤ i → Added h lo hi w r
-added-end {h = h} {lo} {i} {w} {r} hi a b c d = record { long = a .long; at = λ k. a .at k ∙ ap (λ (u : Bool). getD h k 0 + cond u w 0) (go k (leb lo k) refl) }
+added-end {h = h} {lo} {i} {w} {r} hi a b c d =
+    record { long = a .long; at = λ k. a .at k ∙ ap (λ (u : Bool). getD h k 0 + cond u w 0) (go k (leb lo k) refl) }
   where
     past : (k : ℕ) → lo ≤ k → ltb k i ≡ ltb k hi
     past k l = decided (ltb k i) (λ p. p ∙ sym (lt-ltb k hi (omega (arith, ltb-true k i p)))) (λ p. p ∙ sym (le-ltb k hi (omega (arith, ltb-false k i p))))
@@ -123,8 +125,10 @@ load-all g m j i = sym (sum-tab (aboard (behind m (suc i)) (drop (suc i) m)) j g
 
 pub load-done : (g : ℕ → Job) (m : List ℕ) (n j k : ℕ) {h : List ℕ} → j ≡ k → Filled 64 (loadSum g m j) 0 n h
     → Filled 64 (λ i. sum (aboard (behind m (suc i)) (drop (suc i) m)) (tab k g)) 0 n h
-load-done g m n j k e p = record { long = p .long; at = λ i b. p .at i b ∙ load-all g m j i ∙ ap (λ (q : ℕ). sum (aboard (behind m (suc i)) (drop (suc i) m)) (tab q g)) e }
+load-done g m n j k e p =
+    record { long = p .long; at = λ i b. p .at i b ∙ load-all g m j i ∙ ap (λ (q : ℕ). sum (aboard (behind m (suc i)) (drop (suc i) m)) (tab q g)) e }
 
 -- H of the jobs g, of which there are at most 155
-pub load-at-low : (g : ℕ → Job) (m : List ℕ) (j i : ℕ) → ((k : ℕ) → loadOf (g k) < 4294967296) → j ≤ 155 → sum (aboard (behind m (suc i)) (drop (suc i) m)) (tab j g) < 1099511627776
+pub load-at-low : (g : ℕ → Job) (m : List ℕ) (j i : ℕ) → ((k : ℕ) → loadOf (g k) < 4294967296) → j ≤ 155
+    → sum (aboard (behind m (suc i)) (drop (suc i) m)) (tab j g) < 1099511627776
 load-at-low g m j i f h = omega (arith, load-all g m j i, load-low g m j i f)

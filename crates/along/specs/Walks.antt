@@ -118,7 +118,8 @@ pub walk-end : (f g : ℕ → Bool) (b : Bool) (n : ℕ) → b ≡ walkDown f g 
 unfolding walkDown
 walk-end f g b n = let e : n - n ≡ 0 = omega arith in rw e
 
-pub walk-down : (f g : ℕ → Bool) (b : Bool) (n i : ℕ) {ok : Bool} → 0 < i → i ≤ n → ok ≡ walkDown f g b i (n - i) → (f (i - 1) && (g (i - 1) || ok)) ≡ walkDown f g b (i - 1) (n - (i - 1))
+pub walk-down : (f g : ℕ → Bool) (b : Bool) (n i : ℕ) {ok : Bool} → 0 < i → i ≤ n → ok ≡ walkDown f g b i (n - i)
+    → (f (i - 1) && (g (i - 1) || ok)) ≡ walkDown f g b (i - 1) (n - (i - 1))
 unfolding walkDown
 walk-down f g b n i p q e =
     let k : n - (i - 1) ≡ suc (n - i) = omega arith in

@@ -13,12 +13,12 @@ use Rattle.bits.specs.Places.{has}
 use Rattle.bits.specs.Members.{has-none}
 use Rattle.rules.specs.Day.{Day, Van}
 use Rattle.rules.specs.Plan.{Plan, Places}
-use Rattle.rules.specs.Settle.{round}
+use Rattle.rules.specs.Settle.{round, settle}
 use Rattle.rules.specs.Asked.{Formed, endsWith}
 use Rattle.rules.proofs.AlongLaws.{leg-index, mem-at}
 use Rattle.rules.proofs.Left.{_⊆_, round-less}
 use Rattle.rules.proofs.Inner.{inner-low}
-use Rattle.rules.proofs.Fixpoint.{Seen}
+use Rattle.rules.proofs.Fixpoint.{Seen, settle-less}
 use Rattle.rules.proofs.Forms.{formed-seen, fewer-formed}
 use Rattle.sheet.specs.Section.{mOf}
 use Rattle.sheet.specs.declared.Layout.{Layout}
@@ -97,7 +97,8 @@ module _ {s : List ℕ} {at : Layout} {l : List ℕ} {n : ℕ} {ws : List ℕ} {
     }
 
 -- the words after a round are as ready as those before
-pub ready-round : {s : List ℕ} {at : Layout} {l : List ℕ} {n : ℕ} {ws : List ℕ} {marks : ℕ} (v : Van) → Ready s at l n ws marks → {vs : List ℕ} → vs ≡ setsOf (round v (dayOf s) (take n l) (placesOf ws)) → Ready s at l n vs marks
+pub ready-round : {s : List ℕ} {at : Layout} {l : List ℕ} {n : ℕ} {ws : List ℕ} {marks : ℕ} (v : Van) → Ready s at l n ws marks → {vs : List ℕ}
+    → vs ≡ setsOf (round v (dayOf s) (take n l) (placesOf ws)) → Ready s at l n vs marks
 ready-round {s} {at} {l} {n} {ws} {marks} v r {vs} e = record {
   laid = r .laid;
   clear = r .clear;
@@ -110,3 +111,29 @@ ready-round {s} {at} {l} {n} {ws} {marks} v r {vs} e = record {
     less : placesOf vs ⊆ placesOf ws
     less x p t = round-less v (dayOf s) (take n l) (placesOf ws) x p
         (subst (λ (b : Bool). T b) (ap (λ (k : List ℕ). placesOf k x p) e ∙ places-sets (round v (dayOf s) (take n l) (placesOf ws)) (λ y q u. places-small r y q (round-less v (dayOf s) (take n l) (placesOf ws) y q u)) x p) t)
+
+-- settling looks at no mark
+pub ready-unmarked : {s : List ℕ} {at : Layout} {l : List ℕ} {n : ℕ} {ws : List ℕ} {marks : ℕ} → Ready s at l n ws marks → Ready s at l n ws 0
+ready-unmarked {s} {at} {l} {n} {ws} {marks} r = record {
+  clear = r .clear;
+  laid = r .laid;
+  long = r .long;
+  sized = r .sized;
+  most = r .most;
+  form = record {
+    tail = r .form .tail;
+    starts = r .form .starts;
+    ends = r .form .ends;
+    nodes = r .form .nodes;
+    inside = r .form .inside;
+    off = r .form .off;
+    leg = r .form .leg;
+    marked = λ y t. absurd (subst (λ (b : Bool). T b) (has-none y) t);
+  };
+}
+
+-- the words after settling have the places that settling leaves
+pub settled-open : {s : List ℕ} {at : Layout} {l : List ℕ} {n : ℕ} {ws : List ℕ} {marks : ℕ} (v : Van) → Ready s at l n ws marks
+    → placesOf (setsOf (settle v (dayOf s) (take n l) (placesOf ws))) ≡ settle v (dayOf s) (take n l) (placesOf ws)
+settled-open {s} {at} {l} {n} {ws} v r = λ u x p.
+    places-sets (settle v (dayOf s) (take n l) (placesOf ws)) (λ y q t. places-small r y q (settle-less v (dayOf s) (take n l) (placesOf ws) y q t)) x p u

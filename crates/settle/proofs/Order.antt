@@ -30,7 +30,9 @@ pub record Before (a b : ℕ) (l : List ℕ) : Type 0 where
 
 wrong-e : (a b : ℕ) (l : List ℕ) → T (wrong a b l) → Before a b l
 wrong-e a b [] t = absurd t
-wrong-e a b (x ∷ l) t = ⊎-elim here (λ n. later (wrong-e a b l (and-r (not (eqb x a)) (wrong a b l) (cond-no (eqb x b) (mem a l) (not (eqb x a) && wrong a b l) n t)))) (tf (eqb x b))
+wrong-e a b (x ∷ l) t =
+    ⊎-elim here (λ n. later (wrong-e a b l (and-r (not (eqb x a)) (wrong a b l) (cond-no (eqb x b) (mem a l) (not (eqb x a) && wrong a b l) n t))))
+    (tf (eqb x b))
   where
     here : T (eqb x b) → Before a b (x ∷ l)
     here e = let f = mem-found a l (cond-yes (eqb x b) (mem a l) (not (eqb x a) && wrong a b l) e t) in

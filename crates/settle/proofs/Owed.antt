@@ -41,10 +41,16 @@ module _ (d : Day) (m ws : List ℕ) (marks : ℕ) (proper : Proper d) (leg : (y
   -- ---- a node has an open place exactly if its word is not 0
 
   open-word : (x : ℕ) → T (hasPlace plan x) → T (not (eqb (getD ws x 0) 0))
-  open-word x t = any-e (placesOf ws x) m (λ q i u. ⊎-elim (λ e. absurd (subst (λ (b : Bool). T b) (ap (λ (w : ℕ). has w q) (eqb→eq (getD ws x 0) 0 e) ∙ has-none q) u)) (λ e. e) (tf (eqb (getD ws x 0) 0))) t
+  open-word x t =
+      any-e (placesOf ws x) m
+      (λ q i u. ⊎-elim (λ e. absurd (subst (λ (b : Bool). T b) (ap (λ (w : ℕ). has w q) (eqb→eq (getD ws x 0) 0 e) ∙ has-none q) u)) (λ e. e) (tf (eqb (getD ws x 0) 0)))
+      t
 
   word-open : (x : ℕ) → T (not (eqb (getD ws x 0) 0)) → T (hasPlace plan x)
-  word-open x t = ⊎-elim (λ u. u) (λ u. absurd (T-not (eqb (getD ws x 0) 0) t (true→T _ (eq-eqb (getD ws x 0) 0 (word-ext (getD ws x 0) 0 (λ q. empty u q ∙ sym (has-none q))))))) (tf (hasPlace plan x))
+  word-open x t =
+      ⊎-elim (λ u. u)
+      (λ u. absurd (T-not (eqb (getD ws x 0) 0) t (true→T _ (eq-eqb (getD ws x 0) 0 (word-ext (getD ws x 0) 0 (λ q. empty u q ∙ sym (has-none q)))))))
+      (tf (hasPlace plan x))
     where
       empty : T (not (hasPlace plan x)) → (q : ℕ) → has (getD ws x 0) q ≡ false
       empty u q = decided (has (getD ws x 0) q)

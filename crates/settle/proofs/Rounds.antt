@@ -47,7 +47,8 @@ below-tab f (suc n) g = below-front n (λ k. f (g k)) ∙ ap (λ (b : Bool). f (
 
 -- ---- what the arrays say of a place is what the rules say
 
-module _ (v : Van) (d : Day) (g : ℕ → Job) (jobs : ℕ) (told : d .jobs ≡ tab jobs g) (l : List ℕ) (n : ℕ) (long : length l ≡ 64) (two : 2 ≤ n) (most : n ≤ 64) (small : d .n ≤ 64)
+module _ (v : Van) (d : Day) (g : ℕ → Job) (jobs : ℕ) (told : d .jobs ≡ tab jobs g) (l : List ℕ) (n : ℕ) (long : length l ≡ 64) (two : 2 ≤ n) (most : n ≤ 64)
+    (small : d .n ≤ 64)
     (nodes : Distinct (d .n) (take n l)) (e : List ℕ) (z : List ℤ) (h : List ℕ) (total : ℕ) (read : Read d l n e z h total) where
   abbrev m : List ℕ
   m = take n l
@@ -106,7 +107,8 @@ module _ (v : Van) (d : Day) (g : ℕ → Job) (jobs : ℕ) (told : d .jobs ≡ 
         ∙ six (atLeg (window v d m o x) m i) (atLeg (short v d m o x) m i) (atLeg (clean v d m o x) m i) (atLeg (soiled v d m o x) m i) (atLeg (partnerPlaced v d m o x) m i) (atLeg (neitherPlaced v d m o x) m i)
 
     -- what is open after the code's round is what the rules' round leaves
-    pub round-places : (new : List ℕ) → Kepts l (n - 1) (placeOk d g jobs (v .capacity) (v .limit) old l e z h (n - 1) total) old new → (x q : ℕ) → placesOf new x q ≡ round v d m o x q
+    pub round-places : (new : List ℕ) → Kepts l (n - 1) (placeOk d g jobs (v .capacity) (v .limit) old l e z h (n - 1) total) old new → (x q : ℕ)
+        → placesOf new x q ≡ round v d m o x q
     round-places new kept x q = T-ext (placesOf new x q) (round v d m o x q) there′ back′
       where
         there′ : T (placesOf new x q) → T (round v d m o x q)
@@ -130,6 +132,7 @@ module _ (v : Van) (d : Day) (g : ℕ → Job) (jobs : ℕ) (told : d .jobs ≡ 
     far : (p : ℕ) → T (mem p (legStops m)) → p < 64
     far p t = let a = leg-index p m t in omega (arith, a .2, node-low nodes (a .0) (omega (arith, a .1)))
 
-    pub round-sets : (new : List ℕ) → Kepts l (n - 1) (placeOk d g jobs (v .capacity) (v .limit) old l e z h (n - 1) total) old new → new ≡ setsOf (round v d m o)
+    pub round-sets : (new : List ℕ) → Kepts l (n - 1) (placeOk d g jobs (v .capacity) (v .limit) old l e z h (n - 1) total) old new
+        → new ≡ setsOf (round v d m o)
     round-sets new kept = sets-ext new (round v d m o) (kept .long) (round-places new kept)
         (λ x p k. decided (round v d m o x p) (λ t. absurd (omega (arith, far p (leg x p (round-less v d m o x p (true→T _ t)))))) (λ t. t))

@@ -49,7 +49,8 @@ pub ends-soiled : (on : ℕ → Bool) (ws : List ℕ) (marks a w : ℕ) → true
 unfolding endsOk
 ends-soiled on ws marks a w = refl
 
-pub ends-transfer : (on : ℕ → Bool) (ws : List ℕ) (marks a b w : ℕ) {ca cb sa sb : Bool} → ca ≡ called on marks a → cb ≡ called on marks b → sb ≡ standing on ws b → sa ≡ standing on ws a
+pub ends-transfer : (on : ℕ → Bool) (ws : List ℕ) (marks a b w : ℕ) {ca cb sa sb : Bool} → ca ≡ called on marks a → cb ≡ called on marks b
+    → sb ≡ standing on ws b → sa ≡ standing on ws a
     → ((not ca || sb) && (not cb || sa)) ≡ endsOk on ws marks (Transfer a b w)
 unfolding endsOk
 ends-transfer on ws marks a b w ca cb sb sa = λ u. (not (ca u) || sb u) && (not (cb u) || sa u)

@@ -41,10 +41,9 @@ add-requires c κs =
     let v = c .before .before .before .before .before .before .loop .inv in
     let j = c .before .before .before .before .before .before .loop .j in
     let g =
-        goes-low (a .route .now) (a .stops) (a .spots .now) (c .before .before .before .before .before .before .before .before .pre .2)
-        (c .before .before .before .before .job .result) in
-    let e = c .before .before .go .ensures in
-    (
+    goes-low (a .route .now) (a .stops) (a .spots .now) (c .before .before .before .before .before .before .before .before .pre .2)
+    (c .before .before .before .before .job .result) in
+    let e = c .before .before .go .ensures in (
       v .1 .long,
       omega arith,
       omega (arith, c .before .load-of .ensures, ap loadOf (c .before .before .before .before .job .ensures), job-low (a .s .now) j),
@@ -62,13 +61,12 @@ loop-again c =
     let a = c .before .before .before .before .before .before .before .before .before .args in
     let p = c .before .before .before .before .before .before .before .before .before .pre in
     let v = c .before .before .before .before .before .before .before .loop .inv in
-    let q = c .before .before .before .before .before .job .ensures in
-    (
+    let q = c .before .before .before .before .before .job .ensures in (
       omega arith,
       load-next (jobIn (a .s .now)) (a .route .now) (a .stops) (c .before .before .before .before .before .before .before .loop .j) (omega arith)
-      (omega arith) (p .1 .nodes) (p .2) (v .1) (c .before .before .before .before .come .ensures ∙ ap (λ (x : Job). comes x (a .spots .now)) q)
-      (c .before .before .before .go .ensures ∙ ap (λ (x : Job). goes x (a .spots .now) (a .stops)) q)
-      (c .before .before .load-of .ensures ∙ ap loadOf q) (c .add .ensures),
+          (omega arith) (p .1 .nodes) (p .2) (v .1) (c .before .before .before .before .come .ensures ∙ ap (λ (x : Job). comes x (a .spots .now)) q)
+          (c .before .before .before .go .ensures ∙ ap (λ (x : Job). goes x (a .spots .now) (a .stops)) q)
+          (c .before .before .load-of .ensures ∙ ap loadOf q) (c .add .ensures),
     )
 
 returns : tie.Need-returns Inv-loop μ-loop

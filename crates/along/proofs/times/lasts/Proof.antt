@@ -42,8 +42,8 @@ loop-holds c =
     let a = c .before .before .before .args in
     let d = dayOf (a .s .now) in
     let e =
-        last-kept d (low (a .s .now)) (a .route .now) (a .stops) (a .stops - 1) (omega arith)
-        (c .last-moment .ensures ∙ last-first d (a .route .now) (a .stops) (omega arith) (omega arith)) in
+    last-kept d (low (a .s .now)) (a .route .now) (a .stops) (a .stops - 1) (omega arith)
+    (c .last-moment .ensures ∙ last-first d (a .route .now) (a .stops) (omega arith) (omega arith)) in
     (omega arith, e, from-last _ _ (a .stops) (replicate 64 (pos 0)) _ refl (omega arith) (omega arith) e)
 
 mul-k : tie.Need-mul-k Inv-loop μ-loop
@@ -68,8 +68,7 @@ service-requires c κs =
 
 seconds-requires : tie.Need-seconds-requires Inv-loop μ-loop
 seconds-requires c κs =
-    let p = c .before .before .before .before .before .before .before .before .pre in
-    (
+    let p = c .before .before .before .before .before .before .before .before .pre in (
       p .0,
       node-at (p .1) (c .before .before .before .before .loop .i - 1) (omega arith),
       node-at (p .1) (c .before .before .before .before .loop .i) (omega arith),
@@ -86,8 +85,7 @@ last-moment-requires-2 c κs =
 before-requires : tie.Need-before-requires Inv-loop μ-loop
 before-requires c κs =
     let a = c .before .before .before .before .before .before .before .before .before .before .args in
-    let v = c .before .before .before .before .before .before .loop .inv in
-    (
+    let v = c .before .before .before .before .before .before .loop .inv in (
       omega arith,
       rw (v .1) (last-low (dayOf (a .s .now)) (low (a .s .now)) (a .route .now) (a .stops) (c .before .before .before .before .before .before .loop .i) (omega arith)),
     )
@@ -108,9 +106,9 @@ loop-again c =
     let d = dayOf (a .s .now) in
     let i = c .before .before .before .before .before .before .before .loop .i in
     let e =
-        last-told d (a .route .now) (a .stops) i (omega arith) (omega arith) (omega arith) (v .1) (c .before2 .ensures)
-        (moment-kept d (low (a .s .now)) (getD (a .route .now) (i - 1) 0) (c .before .last-moment2 .ensures))
-        (c .before .before .before .service .ensures .is) (c .before .before .seconds .ensures .is) in
+    last-told d (a .route .now) (a .stops) i (omega arith) (omega arith) (omega arith) (v .1) (c .before2 .ensures)
+    (moment-kept d (low (a .s .now)) (getD (a .route .now) (i - 1) 0) (c .before .last-moment2 .ensures))
+    (c .before .before .before .service .ensures .is) (c .before .before .seconds .ensures .is) in
     let f = last-kept d (low (a .s .now)) (a .route .now) (a .stops) (i - 1) (omega arith) e in
     (omega arith, f, from-down _ (omega arith) (omega arith) f (v .2))
 

@@ -52,11 +52,10 @@ loop-less c = omega arith
 loop-again : tie.Need-loop-again Inv-loop μ-loop
 loop-again c =
     let a = c .before .before .before .before .before .before .args in
-    let v = c .before .before .before .before .loop .inv in
-    (
+    let v = c .before .before .before .before .loop .inv in (
       omega arith,
       ap (λ (x : ℕ). c .before .before .before .before .loop .total + x) (c .metres .ensures .is)
-      ∙ length-turn (dayOf (a .s .now)) (a .route .now) (c .before .before .before .before .loop .i) (omega arith) (v .1),
+          ∙ length-turn (dayOf (a .s .now)) (a .route .now) (c .before .before .before .before .loop .i) (omega arith) (v .1),
     )
 
 returns : tie.Need-returns Inv-loop μ-loop

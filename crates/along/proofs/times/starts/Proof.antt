@@ -52,8 +52,7 @@ element-copy-out-x c = omega arith
 arrive-requires : tie.Need-arrive-requires Inv-loop μ-loop
 arrive-requires c κs =
     let a = c .before .before .before .before .before .before .before .args in
-    let p = c .before .before .before .before .before .before .before .pre in
-    (
+    let p = c .before .before .before .before .before .before .before .pre in (
       p .0,
       node-at (p .1) (c .before .before .before .loop .i) (omega arith),
       node-at (p .1) (c .before .before .before .loop .i + 1) (omega arith),
@@ -74,8 +73,8 @@ loop-again c =
     let a = c .before .before .before .before .before .before .before .before .args in
     let v = c .before .before .before .before .loop .inv in
     let e =
-        c .arrive .ensures .0
-        ∙ start-turn (dayOf (a .s .now)) (a .route .now) (a .stops) (c .before .before .before .before .loop .i) (omega arith) (v .1) in
+    c .arrive .ensures .0
+    ∙ start-turn (dayOf (a .s .now)) (a .route .now) (a .stops) (c .before .before .before .before .loop .i) (omega arith) (v .1) in
     (omega arith, e, filled-more _ (v .2) (omega arith) e)
 
 returns : tie.Need-returns Inv-loop μ-loop

@@ -54,8 +54,8 @@ loop-again c =
     let v = c .before .before .before .before .before .before .before .before .before .loop .inv in
     let a = c .before .before .before .before .before .before .before .before .before .before .args in
     let e =
-        down-next (a .route .now) (a .h .now) (a .ride) (a .legs) (c .before .before .before .before .before .before .before .before .before .loop .i)
-        (omega arith) (omega arith) (c .before .before .before .has .ensures) (v .1) in
+    down-next (a .route .now) (a .h .now) (a .ride) (a .legs) (c .before .before .before .before .before .before .before .before .before .loop .i)
+    (omega arith) (omega arith) (c .before .before .before .has .ensures) (v .1) in
     (omega arith, e, kept-down (omega arith) (omega arith) e (c .strike .ensures) (v .2))
 
 returns : tie.Need-returns Inv-loop μ-loop

@@ -48,8 +48,8 @@ loop-again c =
     let v = c .before .before .before .before .before .before .before .before .loop .inv in
     let a = c .before .before .before .before .before .before .before .before .before .args in
     let e =
-        up-next (a .route .now) (a .h .now) (a .ride) (c .before .before .before .before .before .before .before .before .loop .i)
-        (c .before .before .before .has .ensures) (v .1) in
+    up-next (a .route .now) (a .h .now) (a .ride) (c .before .before .before .before .before .before .before .before .loop .i)
+    (c .before .before .before .has .ensures) (v .1) in
     (omega arith, e, kept-up (omega arith) e (c .strike .ensures) (v .2))
 
 returns : tie.Need-returns Inv-loop μ-loop

@@ -68,12 +68,11 @@ loop-less c = omega arith
 loop-again : tie.Need-loop-again Inv-loop μ-loop
 loop-again c =
     let v = c .before .before .before .before .before .before .loop .inv in
-    let a = c .before .before .before .before .before .before .before .before .before .args in
-    (
+    let a = c .before .before .before .before .before .before .before .before .before .args in (
       omega arith,
       kept-up (omega arith) refl
-      (rw (toZ-ofZ {w = w64} {z = getD (a .l .now) (c .before .before .before .before .before .before .loop .i + 1) (pos 0)} (record { sfits = c .before .last .given })) at (c .tried .ensures))
-      (v .1),
+          (rw (toZ-ofZ {w = w64} {z = getD (a .l .now) (c .before .before .before .before .before .before .loop .i + 1) (pos 0)} (record { sfits = c .before .last .given })) at (c .tried .ensures))
+          (v .1),
     )
 
 returns-2 : tie.Need-returns-2 Inv-loop μ-loop

@@ -25,8 +25,7 @@ strike-job-requires : tie.Need-strike-job-requires Inv-loop μ-loop
 strike-job-requires c κs =
     let q = c .before .before .before .before .before .pre in
     let a = c .before .before .before .before .before .args in
-    let e : loadOf (c .before .job .result) < 4294967296 = subst (λ (j : Job). loadOf j < 4294967296) (sym (c .before .job .ensures)) (job-low (a .s .now) (c .before .before .before .loop .j)) in
-    (
+    let e : loadOf (c .before .job .result) < 4294967296 = subst (λ (j : Job). loadOf j < 4294967296) (sym (c .before .job .ensures)) (job-low (a .s .now) (c .before .before .before .loop .j)) in (
       q .1,
       c .before .before .before .loop .inv .1 .long,
       record { long = q .3 .long; wide = q .3 .wide; few = q .3 .few; low = e; loads = q .3 .loads },

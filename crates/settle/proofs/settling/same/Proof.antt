@@ -43,11 +43,10 @@ loop-less c = omega arith
 
 loop-again : tie.Need-loop-again Inv-loop μ-loop
 loop-again c =
-    let a = c .before .before .before .before .before .args in
-    (
+    let a = c .before .before .before .before .before .args in (
       omega arith,
       below-next (c .before .before .before .before .loop .i) (λ k. eqb (getD (a .a .now) k 0) (getD (a .b .now) k 0))
-      (c .before .before .before .before .loop .inv .1) (eq-eqb _ _ (c .if1 .left)),
+          (c .before .before .before .before .loop .inv .1) (eq-eqb _ _ (c .if1 .left)),
     )
 
 returns-2 : tie.Need-returns-2 Inv-loop μ-loop

@@ -19,8 +19,7 @@ length-requires c κs = let p = c .before .before .before .before .before .befor
 
 rounds-requires : tie.Need-rounds-requires
 rounds-requires c κs =
-    let p = c .before .before .before .before .before .before .before .before .before .before .before .pre in
-    (
+    let p = c .before .before .before .before .before .before .before .before .before .before .before .pre in (
       p .0,
       record {
         starts = c .before .before .before .before .before .before .before .before .before .starts .ensures;

@@ -29,8 +29,7 @@ none-owed-requires c κs =
 
 road-kept-requires : tie.Need-road-kept-requires
 road-kept-requires c κs =
-    let p = c .before .before .before .before .before .before .before .before .before .before .before .pre in
-    (
+    let p = c .before .before .before .before .before .before .before .before .before .before .before .pre in (
       p .laid,
       route-of p,
       c .before .before .before .before .before .before .before .before .spots .ensures,

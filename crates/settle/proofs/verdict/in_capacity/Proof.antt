@@ -37,11 +37,10 @@ loop-less c = omega arith
 
 loop-again : tie.Need-loop-again Inv-loop μ-loop
 loop-again c =
-    let a = c .before .before .before .before .args in
-    (
+    let a = c .before .before .before .before .args in (
       omega arith,
       below-next (c .before .before .before .loop .i) (λ k. leb (getD (a .h .now) k 0) (a .capacity)) (c .before .before .before .loop .inv .1)
-      (le-leb _ _ (c .if1 .left)),
+          (le-leb _ _ (c .if1 .left)),
     )
 
 returns-2 : tie.Need-returns-2 Inv-loop μ-loop

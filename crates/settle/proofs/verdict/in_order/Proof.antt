@@ -37,12 +37,11 @@ loop-less c = omega arith
 
 loop-again : tie.Need-loop-again Inv-loop μ-loop
 loop-again c =
-    let a = c .before .before .before .before .before .before .args in
-    (
+    let a = c .before .before .before .before .before .before .args in (
       omega arith,
       below-goes (c .before .before .before .before .loop .j) (ofJob (orderOk (a .spots .now)) (jobIn (a .s .now)))
-      (c .before .before .before .before .loop .inv .1)
-      (c .before .right-way .ensures ∙ ap (orderOk (a .spots .now)) (c .before .before .job .ensures)) (c .if1 .left),
+          (c .before .before .before .before .loop .inv .1)
+          (c .before .right-way .ensures ∙ ap (orderOk (a .spots .now)) (c .before .before .job .ensures)) (c .if1 .left),
     )
 
 returns-2 : tie.Need-returns-2 Inv-loop μ-loop

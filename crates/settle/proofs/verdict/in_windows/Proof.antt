@@ -59,13 +59,12 @@ loop-less c = omega arith
 loop-again : tie.Need-loop-again Inv-loop μ-loop
 loop-again c =
     let a = c .before .before .before .before .before .before .before .before .args in
-    let i = c .before .before .before .before .before .before .loop .i in
-    (
+    let i = c .before .before .before .before .before .before .loop .i in (
       omega arith,
       below-goes i (λ k. inTime (dayOf (a .s .now)) (getD (a .route .now) k 0) (getD (a .e .now) k 0))
-      (c .before .before .before .before .before .before .loop .inv .1)
-      (c .before .in-time .ensures ∙ ap (λ (z : ℤ). leZ (pos (getD (a .e .now) i 0)) z) (moment-kept (dayOf (a .s .now)) (low (a .s .now)) (getD (a .route .now) i 0) (c .before .before .last-moment .ensures)))
-      (c .if1 .left),
+          (c .before .before .before .before .before .before .loop .inv .1)
+          (c .before .in-time .ensures ∙ ap (λ (z : ℤ). leZ (pos (getD (a .e .now) i 0)) z) (moment-kept (dayOf (a .s .now)) (low (a .s .now)) (getD (a .route .now) i 0) (c .before .before .last-moment .ensures)))
+          (c .if1 .left),
     )
 
 returns-2 : tie.Need-returns-2 Inv-loop μ-loop

@@ -39,11 +39,10 @@ loop-less c = omega arith
 loop-again : tie.Need-loop-again Inv-loop μ-loop
 loop-again c =
     let a = c .before .before .before .before .before .before .args in
-    let E = endsOk (onSpot (a .spots .now)) (a .sets .now) (a .marks) in
-    (
+    let E = endsOk (onSpot (a .spots .now)) (a .sets .now) (a .marks) in (
       omega arith,
       below-goes (c .before .before .before .before .loop .j) (ofJob E (jobIn (a .s .now))) (c .before .before .before .before .loop .inv .1)
-      (c .before .ends-kept .ensures ∙ ap E (c .before .before .job .ensures)) (c .if1 .left),
+          (c .before .ends-kept .ensures ∙ ap E (c .before .before .job .ensures)) (c .if1 .left),
     )
 
 returns-2 : tie.Need-returns-2 Inv-loop μ-loop

@@ -44,11 +44,10 @@ loop-less c = omega arith
 loop-again : tie.Need-loop-again Inv-loop μ-loop
 unfolding markOk
 loop-again c =
-    let a = c .before .before .before .before .before .args in
-    (
+    let a = c .before .before .before .before .before .args in (
       omega arith,
       below-goes (c .before .before .before .before .loop .i) _ (c .before .before .before .before .loop .inv .1)
-      (λ u. not (c .before .before .has .ensures u) || c .before .stands .ensures u) (c .if1 .left),
+          (λ u. not (c .before .before .has .ensures u) || c .before .stands .ensures u) (c .if1 .left),
     )
 
 returns-2 : tie.Need-returns-2 Inv-loop μ-loop

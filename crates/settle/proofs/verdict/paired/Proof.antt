@@ -41,12 +41,11 @@ loop-less c = omega arith
 loop-again : tie.Need-loop-again Inv-loop μ-loop
 loop-again c =
     let a = c .before .before .before .before .before .before .args in
-    let F = called (onSpot (a .spots .now)) (a .marks) in
-    (
+    let F = called (onSpot (a .spots .now)) (a .marks) in (
       omega arith,
       below-next (c .before .before .before .before .loop .j) (λ k. not (partnered F (a .x) (jobIn (a .s .now) k)))
-      (c .before .before .before .before .loop .inv .1)
-      (ap (λ (q : Job). not (partnered F (a .x) q)) (sym (c .before .before .job .ensures)) ∙ ap not (sym (c .before .pairs .ensures) ∙ c .if1 .left)),
+          (c .before .before .before .before .loop .inv .1)
+          (ap (λ (q : Job). not (partnered F (a .x) q)) (sym (c .before .before .job .ensures)) ∙ ap not (sym (c .before .pairs .ensures) ∙ c .if1 .left)),
     )
 
 returns-2 : tie.Need-returns-2 Inv-loop μ-loop

@@ -16,8 +16,7 @@ use Rattle.settle.proofs.verdict.road_kept.Tie as tie
 in-windows-requires : tie.Need-in-windows-requires
 in-windows-requires c κs =
     let a = c .before .args in
-    let p = c .before .pre in
-    (
+    let p = c .before .pre in (
       p .0,
       p .1,
       p .3 .starts .long,
