@@ -33,10 +33,5 @@ told s vs g =
     record {
       wide = record { route = sym (length-map (s .route) (λ v. v)) ∙ g .1 .1 .0 .1 .0 .1; sets = sym (length-map (s .sets) (λ v. v)) ∙ a .1 .0 .1 };
       levels = sym (length-map (s .levels) (λ v. v)) ∙ g .1 .1 .1 .1 .1 .1 .0 .1 .0 .1;
-<<<<<<< HEAD
       words = record { fits = λ y h. rw map-same at (each-fits (map (λ v. v) (s .sets)) (a .0) (a .1 .1) y (omega (arith, a .1 .0 .1))); marks = g .1 .1 .1 .1 .1 .0 .1 };
-=======
-      fits = λ y h. rw map-same at (each-fits (map (λ v. v) (s .sets)) (a .0) (a .1 .1) y (omega (arith, a .1 .0 .1)));
-      marks = g .1 .1 .1 .1 .1 .0 .1;
->>>>>>> b64e4d33fb759a8814968c19272d2177320164b8
     }

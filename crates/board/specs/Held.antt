@@ -14,9 +14,4 @@ pub record Words (b : Board) : Type 0 where
 pub record Held (s : State) : Type 0 where
   pub wide : Wide (boardOf s)
   pub levels : length (s .levels) ≡ 64
-<<<<<<< HEAD
   pub words : Words (boardOf s)
-=======
-  pub fits : (y : ℕ) → y < 64 → getD (s .sets) y 0 < 2 ^ 64
-  pub marks : s .marks < 2 ^ 64
->>>>>>> b64e4d33fb759a8814968c19272d2177320164b8

@@ -31,14 +31,14 @@ use Rattle.settle.specs.Ready.{Ready, nodes-most}
 words : (s : State) → Held s → (y : ℕ) → setOf (boardOf s) y < 2 ^ 64
 unfolding setOf
 words s h y =
-    decided (ltb y 64) (λ e. h .fits y (ltb-true y 64 e))
+    decided (ltb y 64) (λ e. h .words .fits y (ltb-true y 64 e))
     (λ e. subst (λ (w : ℕ). w < 2 ^ 64) (sym (List·getD-eq-default (s .sets) 0 {n = y} (omega (arith, h .wide .sets, ltb-false y 64 e)))) (omega arith))
 
 -- the plan of the arrays is the plan that the board stands for
 plan-formed : (sheet : List ℕ) (s : State) → nOf sheet ≤ 64 → Held s → inForm (nOf sheet) s ≡ true → Formed (dayOf sheet) (planFrom (s .route) (s .stops) (s .sets) (s .marks))
 unfolding routeOf openAt setOf
 plan-formed sheet s small h e =
-    stands-formed (dayOf sheet) (boardOf s) small (record { wide = h .wide; words = words s h; marks = h .marks }) (in-form (nOf sheet) s small (h .wide) e .board)
+    stands-formed (dayOf sheet) (boardOf s) small (record { wide = h .wide; words = words s h; marks = h .words .marks }) (in-form (nOf sheet) s small (h .wide) e .board)
 
 pub ready : {sheet : List ℕ} {at : Layout} (s : State) → refusal14 sheet ≡ 0 → Laid sheet at → Held s → inForm (nOf sheet) s ≡ true
     → Ready sheet at (s .route) (s .stops) (s .sets) (s .marks)
