@@ -14,7 +14,6 @@ use Rattle.sheet.specs.Place.{Laid}
 use Rattle.sheet.specs.declared.Layout.{Layout}
 use Rattle.day.specs.Refuse.{refusal14}
 use Rattle.day.specs.Tell.{dayOf}
-use Rattle.day.specs.Asked.{proper, one-end}
 use Rattle.rules.specs.Asked.{Formed}
 use Rattle.board.specs.Board.{boardOf, routeOf, setOf, openAt}
 use Rattle.board.specs.Form.{inForm, formWith}
@@ -46,8 +45,7 @@ ready {sheet} {at} s z l h e =
     let f = in-form (nOf sheet) s (l .fine .n-high) (h .wide) e in
     record {
       laid = l;
-      one = one-end sheet z;
-      proper = proper sheet z;
+      clear = z;
       long = h .wide .route;
       sized = h .wide .sets;
       most = omega (arith, f .board .route .most, l .fine .n-high);
@@ -58,8 +56,7 @@ ready {sheet} {at} s z l h e =
 pub unmarked : {sheet : List ℕ} {at : Layout} {l : List ℕ} {n : ℕ} {ws : List ℕ} {marks : ℕ} → Ready sheet at l n ws marks → Ready sheet at l n ws 0
 unmarked r = record {
   laid = r .laid;
-  one = r .one;
-  proper = r .proper;
+  clear = r .clear;
   long = r .long;
   sized = r .sized;
   most = r .most;
