@@ -1,15 +1,11 @@
 // When a state is in form.
 use crate::route::word;
 ghost use mathlib.Core.Path.{_≡_};
-ghost use mathlib.Core.Bool.{cond, _&&_, not};
-ghost use Prim.Native.Nat.{_+_, _-_, _≤_, _<_};
-ghost use lib.Dec.{leb, ltb, eqb};
-ghost use lib.ListN.{length, getD};
+ghost use Prim.Native.Nat.{_≤_};
+ghost use lib.ListN.{length};
 ghost use Rattle.laws.specs.Below.{allBelow};
-ghost use Rattle.bits.specs.Places.{has};
-ghost use Rattle.board.specs.Route.{wordOf};
 ghost use Rattle.board.specs.Board.{inner, legNode, board, stateOf};
-ghost use Rattle.board.specs.Form.{stopOk, nodeOk, levelOk, boardOk, levelsOk, inForm};
+ghost use Rattle.board.specs.Form.{stopOk, nodeOk, boardOk, levelsOk, inForm};
 ghost use Rattle.board.specs.Tests.{stopTest, nodeTest, levelTest};
 
 // Whether x is between 1 and n - 2.

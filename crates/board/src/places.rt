@@ -1,10 +1,8 @@
 // What a step does to every place set, and how many places are open.
 ghost use mathlib.Core.Path.{_≡_};
 ghost use mathlib.Core.List.{map};
-ghost use Prim.Native.Nat.{_+_, _*_, _≤_, _<_};
-ghost use lib.Count.{ones};
-ghost use lib.ListN.{length, getD};
-ghost use Rattle.bits.specs.Places.{without};
+ghost use Prim.Native.Nat.{_≤_};
+ghost use lib.ListN.{length};
 ghost use Rattle.board.specs.Board.{placesOf};
 ghost use Rattle.board.specs.Change.{heir, strike};
 

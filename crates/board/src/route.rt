@@ -1,6 +1,6 @@
 // A route is the first `stops` entries of an array of nodes.
 ghost use mathlib.Core.Path.{_≡_};
-ghost use Prim.Native.Nat.{_+_, _≤_, _<_};
+ghost use Prim.Native.Nat.{_≤_, _<_};
 ghost use lib.ListN.{length, take};
 ghost use Rattle.board.specs.Route.{indexOf, insertIn, removeIn, wordOf};
 

@@ -29,6 +29,7 @@ use Rattle.trail.specs.StepLaws.{Free}
 use Rattle.trail.specs.Small.{Small, shrinks, places, marks}
 use Rattle.trail.specs.Spells.{Spells, none, more, spells-sound, spells-undo}
 use Rattle.trail.specs.Run.{Smaller, Runs}
+use Rattle.trail.specs.Run as run
 use Rattle.trail.specs.Since.{Since, strict, changed-free, move-since}
 
 -- what an inner node off the route is worth
@@ -217,8 +218,8 @@ fresh-worth n two small =
 
 runs-since : {n : ℕ} {b : Board} {t₀ : List ℕ} {s : State} {t : List ℕ} {r : State} {u : List ℕ} → Sound n b → Words b
     → Since n b 0 0 [] t₀ s t → Runs n s t r u → Since n b 0 0 [] t₀ r u
-runs-since f w h Rattle.trail.specs.Run.none = h
-runs-since {n = n} {b = b} {t₀ = t₀} f w h (Rattle.trail.specs.Run.more {r = q} {u = v} {q = r} {v = u} p m) =
+runs-since f w h run.none = h
+runs-since {n = n} {b = b} {t₀ = t₀} f w h (run.more {r = q} {u = v} {q = r} {v = u} p m) =
     move-since n b 0 0 [] t₀ q v r u f w (runs-since f w h p) m (omega arith)
 
 module _ (n : ℕ) (two : 2 ≤ n) (small : n ≤ 64) (t : List ℕ) (r : State) (u : List ℕ) (run : Runs n (freshState n) t r u) where

@@ -22,7 +22,9 @@ use Rattle.trail.specs.UndoWords.{many-words}
 use Rattle.trail.specs.Steps.{Ran, answered, levelStep, backStep, baseOf, undoLevel, dropped}
 use Rattle.trail.specs.StepLaws.{back-fits}
 use Rattle.trail.specs.Spells.{Spells, spells-undo, spells-nothing}
+use Rattle.trail.specs.Spells as spells
 use Rattle.trail.specs.Run.{Move, level, Run}
+use Rattle.trail.specs.Run as run
 use Rattle.trail.specs.Since.{Since, accepted, levels-drop, step-since, move-since}
 
 -- two lists with the same first entries
@@ -41,7 +43,7 @@ here-since n s t small held form room =
       form = form;
       room = room;
       least = omega arith;
-      spelled = subst (λ (m : ℕ). Spells n t (boardOf s) (s .records) m (boardOf s)) (sym z) Rattle.trail.specs.Spells.none;
+      spelled = subst (λ (m : ℕ). Spells n t (boardOf s) (s .records) m (boardOf s)) (sym z) spells.none;
       deep = omega arith;
       under = λ i h. refl;
       floor = λ i h l. absurd (omega arith);
@@ -51,8 +53,8 @@ here-since n s t small held form room =
 
 run-since : {n : ℕ} {b : Board} {k d : ℕ} {levels t₀ : List ℕ} {s : State} {t : List ℕ} {r : State} {u : List ℕ} → Sound n b → Words b
     → Since n b k (d + 1) levels t₀ s t → Run n d s t r u → Since n b k (d + 1) levels t₀ r u
-run-since f w h Rattle.trail.specs.Run.none = h
-run-since {n = n} {b = b} {k = k} {d = d} {levels = levels} {t₀ = t₀} f w h (Rattle.trail.specs.Run.more {r = q} {u = v} {q = r} {v = u} p m l) =
+run-since f w h run.none = h
+run-since {n = n} {b = b} {k = k} {d = d} {levels = levels} {t₀ = t₀} f w h (run.more {r = q} {u = v} {q = r} {v = u} p m l) =
     move-since n b k (d + 1) levels t₀ q v r u f w (run-since f w h p) m (omega arith)
 
 -- a level was opened on s₀

@@ -4,7 +4,7 @@ use board::form::leg_node;
 use board::route::word;
 ghost use mathlib.Core.Path.{_≡_};
 ghost use mathlib.Core.List.{List};
-ghost use Prim.Native.Nat.{ℕ, _+_, _≤_, _<_};
+ghost use Prim.Native.Nat.{ℕ, _≤_};
 ghost use lib.ListN.{length};
 ghost use Rattle.board.specs.Board.{board};
 ghost use Rattle.trail.specs.Refusals.{placeRefusal, excludeRefusal, requireRefusal};

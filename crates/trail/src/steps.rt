@@ -15,7 +15,6 @@ ghost use mathlib.Core.Path.{_≡_};
 ghost use mathlib.Core.Bool.{true};
 ghost use mathlib.Core.List.{List};
 ghost use Prim.Native.Nat.{ℕ, _+_, _≤_, _<_};
-ghost use lib.ListN.{length};
 ghost use Rattle.board.specs.Board.{boardOf, setOf};
 ghost use Rattle.board.specs.Form.{inForm, formWith};
 ghost use Rattle.board.specs.Change.{putSet};
