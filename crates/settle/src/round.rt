@@ -197,3 +197,22 @@ pub fn round(
     strike_jobs(s, at, van.capacity, old, &mut new, route, h, legs);
     new
 }
+
+// A further round on the words that a round has left: window, metres and clean and soiled jobs read the route only, so only the jobs are asked
+// again, for the transfers that have lost their support.
+pub fn again(
+    s: &[u8],
+    at: Layout,
+    capacity: usize,
+    old: &[u64; 64],
+    route: &[usize; 64],
+    h: &[usize; 64],
+    legs: usize,
+) -> [u64; 64]
+    requires { ⌜ Laid (now s) at × (length (now old) ≡ 64) × Legs (now route) (now h) legs 0 ⌝ }
+    ensures { λ r. ⌜ Kepts (now (route .entry)) legs (loadsOk (jobIn (now (s .entry))) (now (old .entry)) (now (route .entry)) (now (h .entry)) legs capacity (at .jobs)) (now (old .entry)) r ⌝ }
+{
+    let mut new = *old;
+    strike_jobs(s, at, capacity, old, &mut new, route, h, legs);
+    new
+}
