@@ -85,42 +85,26 @@ fn strike_job(
     ensures { λ _. ⌜ Kepts (now (route .entry)) legs (loadOk job (now (old .entry)) (now (route .entry)) (now (h .entry)) legs capacity) (now (new .entry)) (now (new .exit)) ⌝ }
 {
     match job {
-        Job::Clean { node, load } => {
-            let ride = Ride {
-                capacity: capacity,
-                load: load,
-                partner: 64,
-                places: 0,
-                through: true,
-            };
-            front(new, node, route, h, legs, ride)
-        },
-        Job::Soiled { node, load } => {
-            let ride = Ride {
-                capacity: capacity,
-                load: load,
-                partner: 64,
-                places: 0,
-                through: true,
-            };
-            rear(new, node, route, h, legs, ride)
-        },
+        Job::Clean { node, load } => front(
+            new,
+            node,
+            route,
+            h,
+            legs,
+            Ride::through(capacity, load),
+        ),
+        Job::Soiled { node, load } => rear(
+            new,
+            node,
+            route,
+            h,
+            legs,
+            Ride::through(capacity, load),
+        ),
         Job::Transfer { from, to, load } => {
-            let there = Ride {
-                capacity: capacity,
-                load: load,
-                partner: to,
-                places: places(old, to),
-                through: false,
-            };
+            let there = Ride::between(capacity, load, to, places(old, to));
             rear(new, from, route, h, legs, there);
-            let here = Ride {
-                capacity: capacity,
-                load: load,
-                partner: from,
-                places: places(old, from),
-                through: false,
-            };
+            let here = Ride::between(capacity, load, from, places(old, from));
             front(new, to, route, h, legs, here)
         },
     }
