@@ -140,6 +140,13 @@ metBehind l y w i = eqb (getD l i 0) y || has w (getD l i 0)
 abbrev pub metAhead : List ℕ → ℕ → ℕ → ℕ → Bool
 metAhead l y w i = eqb (getD l (i + 1) 0) y || has w (getD l i 0)
 
+-- a load that rides to the end of the route, and one that rides to its partner y with the places w
+abbrev pub through : ℕ → ℕ → Ride
+through cap load = record { capacity = cap; load = load; partner = 64; places = 0; through = true }
+
+abbrev pub between : ℕ → ℕ → ℕ → ℕ → Ride
+between cap load y w = record { capacity = cap; load = load; partner = y; places = w; through = false }
+
 -- the flag of a ride behind the first i legs, and before the i-th of n
 unfoldable pub upFlag : List ℕ → List ℕ → Ride → ℕ → Bool
 upFlag l h r = walkUp (fitsAt h (r .capacity) (r .load)) (metBehind l (r .partner) (r .places)) (r .through)

@@ -2,7 +2,7 @@
 ghost use mathlib.Core.Path.{_≡_};
 ghost use Prim.Native.Nat.{_+_, _-_, _<_, _≤_};
 ghost use lib.ListN.{getD, length};
-ghost use Rattle.along.specs.Walks.{Kept, Legs, struck, walkUp, walkDown, fitsAt, metBehind, metAhead, ridesUp, ridesDown};
+ghost use Rattle.along.specs.Walks.{Kept, Legs, through, between, struck, walkUp, walkDown, fitsAt, metBehind, metAhead, ridesUp, ridesDown};
 
 // A load that is to ride: the capacity, how much, the partner's node and its open places, and whether the ride may go to the end of the
 // route with no partner met.
@@ -12,6 +12,34 @@ pub struct Ride {
     pub partner: usize,
     pub places: u64,
     pub through: bool,
+}
+
+impl Ride {
+    // To the end of the route.
+    pub fn through(capacity: usize, load: usize) -> Ride
+        ensures { λ r. ⌜ r ≡ through capacity load ⌝ }
+    {
+        Ride {
+            capacity: capacity,
+            load: load,
+            partner: 64,
+            places: 0,
+            through: true,
+        }
+    }
+
+    // To the partner, where it stands or is open.
+    pub fn between(capacity: usize, load: usize, partner: usize, places: u64) -> Ride
+        ensures { λ r. ⌜ r ≡ between capacity load partner places ⌝ }
+    {
+        Ride {
+            capacity: capacity,
+            load: load,
+            partner: partner,
+            places: places,
+            through: false,
+        }
+    }
 }
 
 // The word, without the place p unless it stays.

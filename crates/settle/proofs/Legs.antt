@@ -23,9 +23,9 @@ use Rattle.rules.specs.Along.{behind, loadAt}
 use Rattle.rules.specs.declared.Job.{Job}
 use Rattle.rules.specs.declared.Job.the-variants.{Clean, Soiled, Transfer}
 use Rattle.rules.proofs.AlongLaws.{atLeg, ahead-next, ahead-end, back-first, back-next, reach-ahead-next, reach-ahead-end, reach-back-first, reach-back-next, mem-at}
-use Rattle.along.specs.Walks.{walkUp, walkDown, upFlag, downFlag, fitsAt, metBehind, metAhead, ridesUp, ridesDown}
+use Rattle.along.specs.Walks.{walkUp, walkDown, upFlag, downFlag, fitsAt, metBehind, metAhead, through, between, ridesUp, ridesDown}
 use Rattle.settle.specs.Sets.{placesOf}
-use Rattle.settle.specs.Round.{through, between, loadOk}
+use Rattle.settle.specs.Round.{loadOk}
 
 pub and-swap : (a b c e : Bool) → ((a && b) && (c && e)) ≡ ((a && c) && (b && e))
 and-swap true true c e = refl

@@ -5,3 +5,4 @@ pub mod Facts
 pub mod Order
 pub mod Owed
 pub mod Road
+pub mod Again

@@ -9,7 +9,7 @@ use lib.Dec.{T}
 use lib.IntN.{ℤ}
 use lib.ListN.{getD, take, drop, length, length-take}
 use lib.Seq.{getD-take}
-use Rattle.laws.specs.Logic.{decided, T-ext, true→T}
+use Rattle.laws.specs.Logic.{decided, T-ext, true→T, and-r}
 use Rattle.laws.specs.Lists.{mem, all}
 use Rattle.laws.specs.Below.{allBelow, below-same}
 use Rattle.laws.specs.Table.{tab}
@@ -22,6 +22,7 @@ use Rattle.rules.specs.Settle.{round}
 use Rattle.rules.specs.Along.{behind}
 use Rattle.rules.specs.declared.Job.{Job}
 use Rattle.rules.proofs.AlongLaws.{atLeg, window-at, short-at, on-leg, leg-index}
+use Rattle.rules.proofs.Twice.{restays}
 use Rattle.rules.proofs.Left.{round-less, round-leg, round-left}
 use Rattle.along.specs.Spots.{node-low}
 use Rattle.settle.specs.Sets.{placesOf, setsOf, sets-ext}
@@ -132,7 +133,41 @@ module _ (v : Van) (d : Day) (g : ℕ → Job) (jobs : ℕ) (told : d .jobs ≡ 
     far : (p : ℕ) → T (mem p (legStops m)) → p < 64
     far p t = let a = leg-index p m t in omega (arith, a .2, node-low nodes (a .0) (omega (arith, a .1)))
 
+    past-legs : (x p : ℕ) → 64 ≤ p → round v d m o x p ≡ false
+    past-legs x p k = decided (round v d m o x p) (λ t. absurd (omega (arith, far p (leg x p (round-less v d m o x p (true→T _ t)))))) (λ t. t)
+
     pub round-sets : (new : List ℕ) → Kepts l (n - 1) (placeOk d g jobs (v .capacity) (v .limit) old l e z h (n - 1) total) old new
         → new ≡ setsOf (round v d m o)
-    round-sets new kept = sets-ext new (round v d m o) (kept .long) (round-places new kept)
-        (λ x p k. decided (round v d m o x p) (λ t. absurd (omega (arith, far p (leg x p (round-less v d m o x p (true→T _ t)))))) (λ t. t))
+    round-sets new kept = sets-ext new (round v d m o) (kept .long) (round-places new kept) past-legs
+
+    -- a further round: every test but 'neither placed' reads the route only, so what passed it passes it again, and the jobs' tests are enough
+    module _ (before : Places) (left : o ≡ round v d m before) where
+      again-places : (new : List ℕ) → Kepts l (n - 1) (loadsOk g old l h (n - 1) (v .capacity) jobs) old new → (x q : ℕ)
+          → placesOf new x q ≡ round v d m o x q
+      again-places new kept x q = T-ext (placesOf new x q) (round v d m o x q) there′ back′
+        where
+          there′ : T (placesOf new x q) → T (round v d m o x q)
+          there′ t =
+              let u = kept .at x .at q .0 t in
+              let a = leg-index q m (leg x q (u .0)) in
+              let k : a .0 < n - 1 = omega (arith, a .1, size) in
+              let w = subst (λ (b : Bool). T b) (loads-is x (a .0) k) (u .1 (a .0) (omega arith) k (sym (getD-take n l (a .0) 0 (omega arith)) ∙ a .2)) in
+              let f : T (onLeg (stays v d m before x) (getD m (a .0) 0) m) =
+              subst (λ (p : ℕ). T (onLeg (stays v d m before x) p m)) (sym (a .2)) (round-leg v d m before x q (subst (λ (c : Places). T (c x q)) left (u .0))) in
+              let s = restays v d m before o x (behind m (suc (a .0))) (drop (suc (a .0)) m)
+              (subst (λ (b : Bool). T b) (on-leg (stays v d m before x) m nodes (a .0) (a .1)) f) (and-r (atLeg (partnerPlaced v d m o x) m (a .0)) (atLeg (neitherPlaced v d m o x) m (a .0))
+              (and-r (atLeg (clean v d m o x) m (a .0) && atLeg (soiled v d m o x) m (a .0)) (atLeg (partnerPlaced v d m o x) m (a .0) && atLeg (neitherPlaced v d m o x) m (a .0)) w)) in
+              round-left v d m o x q (u .0)
+              (subst (λ (p : ℕ). T (onLeg (stays v d m o x) p m)) (a .2) (subst (λ (b : Bool). T b) (sym (on-leg (stays v d m o x) m nodes (a .0) (a .1))) s))
+
+          back′ : T (round v d m o x q) → T (placesOf new x q)
+          back′ t = kept .at x .at q .1 (
+            round-less v d m o x q t,
+            λ i a b c. let f : getD m i 0 ≡ q = getD-take n l i 0 (omega arith) ∙ c in
+                and-r (standsAt d (v .limit) l e z total x i) (loadsOk g old l h (n - 1) (v .capacity) jobs x i)
+                (subst (λ (b : Bool). T b) (sym (place-is x i b ∙ sym (on-leg (stays v d m o x) m nodes i (omega (arith, size)))))
+                (subst (λ (p : ℕ). T (onLeg (stays v d m o x) p m)) (sym f) (round-leg v d m o x q t))),
+          )
+
+      pub again-sets : (new : List ℕ) → Kepts l (n - 1) (loadsOk g old l h (n - 1) (v .capacity) jobs) old new → new ≡ setsOf (round v d m o)
+      again-sets new kept = sets-ext new (round v d m o) (kept .long) (again-places new kept) past-legs

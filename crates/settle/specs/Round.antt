@@ -22,7 +22,7 @@ use Rattle.along.specs.declared.walks.Ride.{Ride}
 use Rattle.bits.specs.Places.{has}
 use Rattle.bits.specs.Members.{without-no}
 use Rattle.along.specs.Spots.{same-entries}
-use Rattle.along.specs.Walks.{struck, Kept, kept-same, kept-both, kept-all, kept-zero, ridesUp, ridesDown}
+use Rattle.along.specs.Walks.{struck, Kept, kept-same, kept-both, kept-all, kept-zero, through, between, ridesUp, ridesDown}
 
 -- each word of vs keeps of the word of ws the places that pass f
 pub record Kepts (l : List ℕ) (legs : ℕ) (f : ℕ → ℕ → Bool) (ws vs : List ℕ) : Type 0 where
@@ -137,38 +137,33 @@ pub record Timed (k : ℕ) (l e : List ℕ) (z : List ℤ) (legs total limit : �
 
 -- ---- the load tests by the case of the job
 
--- a load that rides to the end of the route, and one that rides to its partner y with the places w
-abbrev pub through : ℕ → ℕ → Ride
-through cap load = record { capacity = cap; load = load; partner = 64; places = 0; through = true }
-
-abbrev pub between : ℕ → ℕ → ℕ → ℕ → Ride
-between cap load y w = record { capacity = cap; load = load; partner = y; places = w; through = false }
-
 unfoldable pub loadOk : Job → List ℕ → List ℕ → List ℕ → ℕ → ℕ → ℕ → ℕ → Bool
 loadOk (Clean a w) old l h legs cap y i = not (eqb a y) || ridesUp l h (through cap w) i
 loadOk (Soiled a w) old l h legs cap y i = not (eqb a y) || ridesDown l h (through cap w) legs i
 loadOk (Transfer a b w) old l h legs cap y i =
     (not (eqb a y) || ridesDown l h (between cap w b (getD old b 0)) legs i) && (not (eqb b y) || ridesUp l h (between cap w a (getD old a 0)) i)
 
-pub job-clean : {l : List ℕ} {legs : ℕ} {ws vs : List ℕ} (old h : List ℕ) (cap a w : ℕ)
-    → Kepts l legs (λ y i. not (eqb a y) || ridesUp l h (through cap w) i) ws vs
+pub job-clean : {l : List ℕ} {legs : ℕ} {ws vs : List ℕ} (old h : List ℕ) (cap a w : ℕ) {r : Ride} → r ≡ through cap w
+    → Kepts l legs (λ y i. not (eqb a y) || ridesUp l h r i) ws vs
     → Kepts l legs (loadOk (Clean a w) old l h legs cap) ws vs
 unfolding loadOk
-job-clean old h cap a w k = k
+job-clean {l} old h cap a w e k = kepts-same (λ y i n. λ u. not (eqb a y) || ridesUp l h (e u) i) k
 
-pub job-soiled : {l : List ℕ} {legs : ℕ} {ws vs : List ℕ} (old h : List ℕ) (cap a w : ℕ)
-    → Kepts l legs (λ y i. not (eqb a y) || ridesDown l h (through cap w) legs i) ws vs
+pub job-soiled : {l : List ℕ} {legs : ℕ} {ws vs : List ℕ} (old h : List ℕ) (cap a w : ℕ) {r : Ride} → r ≡ through cap w
+    → Kepts l legs (λ y i. not (eqb a y) || ridesDown l h r legs i) ws vs
     → Kepts l legs (loadOk (Soiled a w) old l h legs cap) ws vs
 unfolding loadOk
-job-soiled old h cap a w k = k
+job-soiled {l} {legs} old h cap a w e k = kepts-same (λ y i n. λ u. not (eqb a y) || ridesDown l h (e u) legs i) k
 
-pub job-transfer : {l : List ℕ} {legs : ℕ} {ws us vs : List ℕ} (old h : List ℕ) (cap a b w : ℕ) {u v : ℕ} → u ≡ getD old b 0 → v ≡ getD old a 0
-    → Kepts l legs (λ y i. not (eqb a y) || ridesDown l h (between cap w b u) legs i) ws us
-    → Kepts l legs (λ y i. not (eqb b y) || ridesUp l h (between cap w a v) i) us vs
+pub job-transfer : {l : List ℕ} {legs : ℕ} {ws us vs : List ℕ} (old h : List ℕ) (cap a b w : ℕ) {u v : ℕ} {r q : Ride} → u ≡ getD old b 0 → v ≡ getD old a 0
+    → r ≡ between cap w b u → q ≡ between cap w a v
+    → Kepts l legs (λ y i. not (eqb a y) || ridesDown l h r legs i) ws us
+    → Kepts l legs (λ y i. not (eqb b y) || ridesUp l h q i) us vs
     → Kepts l legs (loadOk (Transfer a b w) old l h legs cap) ws vs
 unfolding loadOk
-job-transfer {l} {legs} old h cap a b w e f j k =
-    kepts-same (λ y i n. λ z. (not (eqb a y) || ridesDown l h (between cap w b (e z)) legs i) && (not (eqb b y) || ridesUp l h (between cap w a (f z)) i)) (kepts-both j k)
+job-transfer {l} {legs} old h cap a b w e f r q j k =
+    kepts-same (λ y i n. λ z. (not (eqb a y) || ridesDown l h ((r ∙ ap (between cap w b) e) z) legs i) && (not (eqb b y) || ridesUp l h ((q ∙ ap (between cap w a) f) z) i))
+    (kepts-both j k)
 
 -- the first m of the jobs g
 unfoldable pub loadsOk : (ℕ → Job) → List ℕ → List ℕ → List ℕ → ℕ → ℕ → ℕ → ℕ → ℕ → Bool

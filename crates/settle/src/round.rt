@@ -85,42 +85,26 @@ fn strike_job(
     ensures { λ _. ⌜ Kepts (now (route .entry)) legs (loadOk job (now (old .entry)) (now (route .entry)) (now (h .entry)) legs capacity) (now (new .entry)) (now (new .exit)) ⌝ }
 {
     match job {
-        Job::Clean { node, load } => {
-            let ride = Ride {
-                capacity: capacity,
-                load: load,
-                partner: 64,
-                places: 0,
-                through: true,
-            };
-            front(new, node, route, h, legs, ride)
-        },
-        Job::Soiled { node, load } => {
-            let ride = Ride {
-                capacity: capacity,
-                load: load,
-                partner: 64,
-                places: 0,
-                through: true,
-            };
-            rear(new, node, route, h, legs, ride)
-        },
+        Job::Clean { node, load } => front(
+            new,
+            node,
+            route,
+            h,
+            legs,
+            Ride::through(capacity, load),
+        ),
+        Job::Soiled { node, load } => rear(
+            new,
+            node,
+            route,
+            h,
+            legs,
+            Ride::through(capacity, load),
+        ),
         Job::Transfer { from, to, load } => {
-            let there = Ride {
-                capacity: capacity,
-                load: load,
-                partner: to,
-                places: places(old, to),
-                through: false,
-            };
+            let there = Ride::between(capacity, load, to, places(old, to));
             rear(new, from, route, h, legs, there);
-            let here = Ride {
-                capacity: capacity,
-                load: load,
-                partner: from,
-                places: places(old, from),
-                through: false,
-            };
+            let here = Ride::between(capacity, load, from, places(old, from));
             front(new, to, route, h, legs, here)
         },
     }
@@ -195,5 +179,24 @@ pub fn round(
     let legs = stops - 1;
     let mut new = stand_all(s, at, van.limit, old, route, e, l, legs, total);
     strike_jobs(s, at, van.capacity, old, &mut new, route, h, legs);
+    new
+}
+
+// A further round on the words that a round has left: window, metres and clean and soiled jobs read the route only, so only the jobs are asked
+// again, for the transfers that have lost their support.
+pub fn again(
+    s: &[u8],
+    at: Layout,
+    capacity: usize,
+    old: &[u64; 64],
+    route: &[usize; 64],
+    h: &[usize; 64],
+    legs: usize,
+) -> [u64; 64]
+    requires { ⌜ Laid (now s) at × (length (now old) ≡ 64) × Legs (now route) (now h) legs 0 ⌝ }
+    ensures { λ r. ⌜ Kepts (now (route .entry)) legs (loadsOk (jobIn (now (s .entry))) (now (old .entry)) (now (route .entry)) (now (h .entry)) legs capacity (at .jobs)) (now (old .entry)) r ⌝ }
+{
+    let mut new = *old;
+    strike_jobs(s, at, capacity, old, &mut new, route, h, legs);
     new
 }

@@ -7,6 +7,7 @@ ghost use Rattle.laws.specs.Below.{allBelow};
 ghost use Rattle.day.specs.Tell.{dayOf};
 ghost use Rattle.settle.specs.Ready.{Ready, Read, Settles, vanIn};
 use crate::Van;
+use crate::round::again;
 use crate::round::round;
 use along::loads::loads;
 use along::spots::spots;
@@ -50,7 +51,7 @@ fn rounds(
     if same(sets, &first) {
         return 0;
     }
-    let second = round(s, at, van, &first, route, stops, e, l, h, total);
+    let second = again(s, at, van.capacity, &first, route, h, stops - 1);
     *sets = second;
     if same(&first, &second) { 1 } else { 2 }
 }
