@@ -2,7 +2,6 @@
 pub mod known;
 
 ghost use mathlib.Core.Path.{_≡_};
-ghost use Prim.Native.Nat.{_≤_};
 ghost use lib.ListN.{length};
 ghost use Rattle.board.specs.Board.{stateOf};
 ghost use Rattle.day.specs.Section.{sectionOf};
