@@ -12,7 +12,7 @@ use Rattle.day.specs.Refuse.{refusal14}
 use Rattle.day.specs.Tell.{dayOf, vanOf}
 use Rattle.rules.specs.Day.{Van}
 use Rattle.rules.specs.Settle.{settle, rounds}
-use Rattle.board.specs.Board.{boardOf, routeOf, setOf, openAt}
+use Rattle.board.specs.Board.{routeOf, setOf, openAt}
 use Rattle.board.specs.Form.{inForm, formWith}
 use Rattle.board.specs.declared.State.{State}
 use Rattle.trail.specs.Trail.{roomOf}

@@ -5,7 +5,7 @@ use mathlib.Core.Bool.{true}
 use mathlib.Core.List.{List}
 use native.Mathlib.Omega.{arith}
 use lib.Dec.{ltb}
-use lib.ListN.{getD, List·getD-eq-default}
+use lib.ListN.{List·getD-eq-default}
 use borrow.Author.Tests.{ltb-true, ltb-false}
 use Rattle.laws.specs.Logic.{decided, T→true}
 use Rattle.bits.specs.Members.{has-none, false-true}
@@ -17,11 +17,9 @@ use Rattle.day.specs.Tell.{dayOf}
 use Rattle.rules.specs.Asked.{Formed}
 use Rattle.board.specs.Board.{boardOf, routeOf, setOf, openAt}
 use Rattle.board.specs.Form.{inForm, formWith}
-use Rattle.board.specs.FormLaws.{InForm, in-form, form-with}
+use Rattle.board.specs.FormLaws.{in-form, form-with}
 use Rattle.board.specs.Held.{Held}
 use Rattle.board.specs.declared.State.{State}
-use Rattle.stands.specs.Stands as stands
-use Rattle.stands.specs.Stands.{planOf}
 use Rattle.stands.proofs.Formed.{stands-formed}
 use Rattle.settle.specs.Sets.{planFrom}
 use Rattle.settle.specs.Ready.{Ready, nodes-most}

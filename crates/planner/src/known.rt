@@ -83,9 +83,10 @@ fn settling(sheet: &[u8], at: Layout, state: State, trail: &mut [u64]) -> Steppe
     ensures { λ r. ⌜ stepped (settlingRounds (now (sheet .entry)) state) (settleStep state (now (trail .entry)) (settledSets (now (sheet .entry)) state)) ≡ (r, now (trail .exit)) ⌝ }
 {
     let van = van_of(sheet);
-    let mut sets = state.sets;
-    let struck = settle::settling::settle(sheet, at, van, &state.route, state.stops, &mut sets);
-    let o = trail::steps::settle(state, &sets, trail);
+    let old = state.sets;
+    let mut new = old;
+    let struck = settle::settling::settle(sheet, at, van, &state.route, state.stops, &mut new);
+    let o = trail::steps::settle(state, &new, trail);
     let rounds = if o.answer == 0 { struck } else { 0 };
     let after = o.state;
     Stepped {

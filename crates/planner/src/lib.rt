@@ -2,7 +2,6 @@
 pub mod known;
 
 ghost use mathlib.Core.Path.{_≡_};
-ghost use Prim.Native.Nat.{_≤_};
 ghost use lib.ListN.{length};
 ghost use Rattle.board.specs.Board.{stateOf};
 ghost use Rattle.day.specs.Section.{sectionOf};
@@ -48,17 +47,16 @@ pub struct Judged {
 pub fn open(sheet: &[u8]) -> Opened
     ensures { λ r. ⌜ r ≡ openOf (now (sheet .entry)) ⌝ }
 {
-    let answer = refusal_1_to_5(sheet);
-    if answer != 0 {
-        return Opened {
-            answer: answer,
-            state: State::none(),
-        };
-    }
-    let at = layout_of(sheet);
+    let refusal = refusal_1_to_5(sheet);
+    let state = if refusal == 0 {
+        let at = layout_of(sheet);
+        State::fresh(at.nodes)
+    } else {
+        State::none()
+    };
     Opened {
-        answer: 0,
-        state: State::fresh(at.nodes),
+        answer: refusal,
+        state: state,
     }
 }
 
@@ -88,11 +86,8 @@ fn ask_refusal<'a>(
         return answer;
     }
     let at = layout_of(sheet);
-    if in_form(route, stops, sets, marks, levels, depth, records, at.nodes) {
-        0
-    } else {
-        FORM
-    }
+    let form = in_form(route, stops, sets, marks, levels, depth, records, at.nodes);
+    if form { 0 } else { FORM }
 }
 
 // One step: the outcome, and the trail.
@@ -157,7 +152,7 @@ pub fn open_places(sheet: &[u8], state: State) -> Counted
     }
     Counted {
         answer: 0,
-        places: board::places::count(&state.sets),
+        places: known::places_of(state),
     }
 }
 

@@ -1,4 +1,10 @@
 // When a step is refused, in document 01's order. The state is in form, and the caller has asked so.
+use crate::NODE;
+use crate::OWED;
+use crate::PLACED;
+use crate::ROOM;
+use crate::SHUT;
+use crate::UNPLACED;
 use board::form::inner;
 use board::form::leg_node;
 use board::route::word;
@@ -24,22 +30,22 @@ pub fn place_refusal<'a>(
     ensures { λ r. ⌜ ((m : ℕ) → r ≡ placeRefusal n (board (now (route .entry)) stops (now (sets .entry)) m) records room p x) ⌝ }
 {
     if !inner(n, x) {
-        return 12;
+        return NODE;
     }
     if !leg_node(n, p) {
-        return 12;
+        return NODE;
     }
     let on = word(route, stops);
     if bits::has(on, x) {
-        return 13;
+        return PLACED;
     }
     if !bits::has(on, p) {
-        return 14;
+        return UNPLACED;
     }
     if !bits::has(sets[x], p) {
-        return 15;
+        return SHUT;
     }
-    if records < room { 0 } else { 17 }
+    if records < room { 0 } else { ROOM }
 }
 
 // Step 3: exclude x.
@@ -57,19 +63,19 @@ pub fn exclude_refusal<'a>(
     ensures { λ r. ⌜ ((m : ℕ) → r ≡ excludeRefusal n (board (now (route .entry)) stops (now (sets .entry)) m) records room owed x) ⌝ }
 {
     if !inner(n, x) {
-        return 12;
+        return NODE;
     }
     let on = word(route, stops);
     if bits::has(on, x) {
-        return 13;
+        return PLACED;
     }
     if owed {
-        return 16;
+        return OWED;
     }
     if sets[x] == 0 {
         return 0;
     }
-    if records < room { 0 } else { 17 }
+    if records < room { 0 } else { ROOM }
 }
 
 // Step 4: require x.
@@ -86,14 +92,14 @@ pub fn require_refusal(
     ensures { λ r. ⌜ ((l : List ℕ) → r ≡ requireRefusal n (board (now (route .entry)) stops l marks) records room x) ⌝ }
 {
     if !inner(n, x) {
-        return 12;
+        return NODE;
     }
     let on = word(route, stops);
     if bits::has(on, x) {
-        return 13;
+        return PLACED;
     }
     if bits::has(marks, x) {
         return 0;
     }
-    if records < room { 0 } else { 17 }
+    if records < room { 0 } else { ROOM }
 }

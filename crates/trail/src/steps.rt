@@ -1,5 +1,8 @@
 // The steps on a state in form, asked so by the caller: the answer with the state, and the trail. Refused: state and trail as before.
+use crate::LEVEL;
+use crate::MISFIT;
 use crate::Outcome;
+use crate::ROOM;
 use crate::records::needed;
 use crate::records::note;
 use crate::records::push;
@@ -156,7 +159,7 @@ pub fn settle(s: State, new: &[u64; 64], trail: &mut [u64]) -> Outcome
     let more = needed(&old, new);
     if room < i + more {
         return Outcome {
-            answer: 17,
+            answer: ROOM,
             state: s,
         };
     }
@@ -177,7 +180,7 @@ pub fn level(s: State) -> Outcome
     let d = s.depth;
     if State::LEVELS <= d {
         return Outcome {
-            answer: 18,
+            answer: LEVEL,
             state: s,
         };
     }
@@ -207,7 +210,7 @@ pub fn back(s: State, n: usize, trail: &[u64]) -> Outcome
 {
     let depth = s.depth;
     if depth < 1 {
-        return refused(18, s);
+        return refused(LEVEL, s);
     }
     let mut levels = s.levels;
     let base = levels[depth - 1];
@@ -234,7 +237,7 @@ pub fn back(s: State, n: usize, trail: &[u64]) -> Outcome
         records: base,
     };
     if !u.fits {
-        return refused(20, s);
+        return refused(MISFIT, s);
     }
     Outcome {
         answer: 0,

@@ -15,12 +15,12 @@ returns : tie.Need-returns
 unfolding countOf
 returns c = rw (sym (c .before .ask-refusal .ensures), ne-eqb _ _ (c .if1 .taken))
 
-count-requires : tie.Need-count-requires
-count-requires c κs = search needs
+places-of-requires : tie.Need-places-of-requires
+places-of-requires c κs = search needs
 
 returns-2 : tie.Need-returns-2
 unfolding countOf
-returns-2 c = rw (zero (c .before .before .before), c .count .ensures .0)
+returns-2 c = rw (zero (c .before), c .places-of .ensures)
 
 pub open-places-spec : {M : Type 1} → statement M
-open-places-spec = tie.close (tie.spec ask-refusal-requires returns count-requires returns-2)
+open-places-spec = tie.close (tie.spec ask-refusal-requires returns places-of-requires returns-2)

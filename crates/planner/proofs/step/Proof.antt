@@ -1,5 +1,4 @@
 use mathlib.Core.Path.{_≡_, sym, _∙_}
-use native.Mathlib.Omega.{arith}
 use Rattle.day.specs.Refuse.{zero13}
 use Rattle.trail.specs.Trail.{roomOf}
 use Rattle.planner.specs.Face.{askRefusal}
