@@ -1,0 +1,4 @@
+-- Answers: a step refused, and a step accepted. Plans: what an accepted step does to the plan that the state stands for.
+-- Kept: the promises, each proved.
+pub mod Answers
+pub mod Plans
