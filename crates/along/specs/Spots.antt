@@ -107,7 +107,7 @@ found-behind x l (suc k) f =
     (λ e. or-l (eqb (getD l k 0) x) (mem x (behind l k)) (true→T _ (eq-eqb (getD l k 0) x (ap (λ (j : ℕ). getD l j 0) (sym (eqb-true (f .i) k e)) ∙ f .is))))
     (λ e. or-r (eqb (getD l k 0) x) (mem x (behind l k)) (found-behind x l k (record { i = f .i; low = f .low; high = omega (arith, f .high, eqb-false (f .i) k e); is = f .is })))
 
-mem-found : (x : ℕ) (l : List ℕ) → T (mem x l) → Found l 0 (length l) x
+pub mem-found : (x : ℕ) (l : List ℕ) → T (mem x l) → Found l 0 (length l) x
 mem-found x [] t = absurd t
 mem-found x (y ∷ l) t =
     ⊎-elim (λ e. record { i = 0; low = omega arith; high = omega arith; is = eqb→eq y x e })
@@ -172,7 +172,7 @@ module _ (l : List ℕ) (n : ℕ) (most : n ≤ 64) (fits : n ≤ length l) {k :
   entry : (i : ℕ) → i < n → getD m i 0 ≡ getD l i 0
   entry i h = getD-take n l i 0 h
 
-  spot-found : (x k : ℕ) → k < n → getD m k 0 ≡ x → spot l n x ≡ k
+  pub spot-found : (x k : ℕ) → k < n → getD m k 0 ≡ x → spot l n x ≡ k
   spot-found x k h e =
       ⊎-elim (λ p. absurd (p .1 k h (sym (entry k h) ∙ e)))
       (λ p. same-stop nodes (spot l n x) k (omega (arith, p .0, size)) (omega (arith, size)) (entry (spot l n x) (p .0) ∙ p .1 ∙ sym e)) (spot-cases l n x)

@@ -6,7 +6,7 @@ use native.Mathlib.Omega.{arith}
 use lib.Dec.{T, eqb, ltb, eqb·suc-zero}
 use borrow.Author.Tests.{eqb-true, eqb-false, eq-eqb, ne-eqb, ltb-true, ltb-false, lt-ltb, le-ltb}
 use Rattle.laws.specs.Logic.{decided, true→T, T→true, imp-i, imp-e}
-use Rattle.laws.specs.Below.{allBelow, below-at, below-make}
+use Rattle.laws.specs.Below.{allBelow, below-at, below-make, below-find}
 use Rattle.bits.specs.Places.{digit, has, with, without, within}
 use Rattle.bits.specs.Digits.{digit-zero, digit-suc, digit-lt, digit-high, digit-none, digits-ext, add-same, add-other, sub-same, sub-other, add-fits}
 
@@ -160,3 +160,14 @@ pub within-ext : (a b : ℕ) → a < 2 ^ 64 → b < 2 ^ 64 → within a b ≡ tr
 within-ext a b f g e d =
     has-ext a b f g (λ p l. decided (has a p) (λ h. h ∙ sym (within-has a b e p l h))
     (λ h. h ∙ sym (decided (has b p) (λ k. absurd (false-true (sym h ∙ within-has b a d p l k))) (λ k. k))))
+
+-- a set that is not within another has a member that the other lacks
+pub within-misses : (a b : ℕ) → within a b ≡ false → (p : ℕ) × (p < 64) × (has a p ≡ true) × (has b p ≡ false)
+unfolding within
+within-misses a b e =
+    let r = below-find 64 (λ q. not (has a q) || has b q) e in
+    (r .0, r .1, split (has a (r .0)) (has b (r .0)) (r .2) .0, split (has a (r .0)) (has b (r .0)) (r .2) .1)
+  where
+    split : (x y : Bool) → not x || y ≡ false → (x ≡ true) × (y ≡ false)
+    split true y h = (refl, h)
+    split false y h = absurd (false-true (sym h))

@@ -11,9 +11,9 @@ use lib.Dec.{eqb}
 use borrow.Author.Tests.{eqb-true, eqb-false}
 use Rattle.laws.specs.Logic.{decided}
 use Rattle.laws.specs.Sum.{sumBelow, sum-same, sum-le, sum-lt}
-use Rattle.bits.specs.Places.{digit, has, with, without, within}
+use Rattle.bits.specs.Places.{digit, has, with, within}
 use Rattle.bits.specs.Digits.{digit-lt, digit-none}
-use Rattle.bits.specs.Members.{digit-has, digit-not, same-has, with-same, with-other, without-same, without-other, within-has, false-true}
+use Rattle.bits.specs.Members.{digit-has, digit-not, same-has, with-same, with-other, with-yes, within-has, within-misses}
 
 -- how many of the places below k are members
 unfoldable pub members : ℕ → ℕ → ℕ
@@ -85,3 +85,15 @@ pub members-fewer : (a b p : ℕ) → within a b ≡ true → p < 64 → has b p
 unfolding members
 members-fewer a b p e l h n =
     sum-lt 64 p (digit a) (digit b) (λ q m. digits-le a b q (within-has a b e q m)) l (omega (arith, digit-has b p h, digit-not a p n))
+
+pub members-strict : (a b : ℕ) → within a b ≡ true → within b a ≡ false → members 64 a < members 64 b
+members-strict a b e n = let r = within-misses b a n in members-fewer a b (r .0) e (r .1) (r .2) (r .3)
+
+-- one place put in is at most one more
+pub members-most : (w p : ℕ) → p < 64 → members 64 (with w p) ≤ members 64 w + 1
+members-most w p l =
+    decided (has w p) (λ h. rw (with-yes w p h) (omega arith)) (λ h. omega (arith, members-with 64 w p l l h))
+
+pub members-first : members 64 1 ≡ 1
+unfolding ones
+members-first = sym (ones-members 1 (omega arith))

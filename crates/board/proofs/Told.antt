@@ -10,6 +10,7 @@ use denote.Struct.Field.{u64-field}
 use mir.Val.{Val}
 use denote.Laws.{Is}
 use denote.Struct.Declared.{row}
+use Rattle.board.specs.Board.{setOf}
 use Rattle.board.specs.Held.{Held}
 use Rattle.board.specs.declared.State.{State}
 use Rattle.board.proofs.State.{the-type}
@@ -26,10 +27,11 @@ map-same [] = refl
 map-same (x ∷ l) = ap (λ (t : List ℕ). x ∷ t) (map-same l)
 
 pub told : (s : State) (vs : List Val) → Is (row the-type) s vs → Held s
+unfolding setOf
 told s vs g =
     let a = g .1 .1 .1 .1 .0 in
     record {
       wide = record { route = sym (length-map (s .route) (λ v. v)) ∙ g .1 .1 .0 .1 .0 .1; sets = sym (length-map (s .sets) (λ v. v)) ∙ a .1 .0 .1 };
       levels = sym (length-map (s .levels) (λ v. v)) ∙ g .1 .1 .1 .1 .1 .1 .0 .1 .0 .1;
-      fits = λ y h. rw map-same at (each-fits (map (λ v. v) (s .sets)) (a .0) (a .1 .1) y (omega (arith, a .1 .0 .1)));
+      words = record { fits = λ y h. rw map-same at (each-fits (map (λ v. v) (s .sets)) (a .0) (a .1 .1) y (omega (arith, a .1 .0 .1))); marks = g .1 .1 .1 .1 .1 .0 .1 };
     }

@@ -2,7 +2,7 @@
 use mathlib.Core.Path.{_≡_, refl, ap, sym, _∙_, subst}
 use mathlib.Core.Bool.{Bool, true, false, cond, not, _&&_}
 use mathlib.Core.List.{List}
-use Prim.Native.Nat.{ℕ, zero, suc, _+_, _-_, _≤_, _<_}
+use Prim.Native.Nat.{ℕ, zero, suc, _+_, _-_, _≤_, _<_, _^_}
 use native.Mathlib.Omega.{arith}
 use lib.ListN.{length, getD, set, replicate, length-set, length-replicate, getD-replicate}
 use lib.Seq.{getD-set-same, getD-set-other}
@@ -16,10 +16,14 @@ use Rattle.board.specs.Board.{Board, board, stateOf, boardOf, routeOf, o
 use Rattle.board.specs.Fresh.{freshState, freshSet, freshSets, fresh-is}
 use Rattle.board.specs.Form.{setOk, markOk, inForm}
 use Rattle.board.specs.FormLaws.{Routed, Formed, Wide, Levels, InForm, inner-in, off-make, leg-make, in-form-of}
+use Rattle.board.specs.Held.{Held}
 use Rattle.board.specs.declared.State.{State}
 
 abbrev pub freshBoard : ℕ → Board
 freshBoard n = board (set (replicate 64 0) 1 (n - 1)) 2 (freshSets n) 0
+
+abbrev pub freshOf : ℕ → State
+freshOf n = stateOf (set (replicate 64 0) 1 (n - 1)) 2 (freshSets n) 0 (replicate 64 0) 0 0
 
 module _ (n : ℕ) (two : 2 ≤ n) (small : n ≤ 64) where
   one : getD (set (replicate 64 0) 1 (n - 1)) 1 0 ≡ n - 1
@@ -46,11 +50,11 @@ module _ (n : ℕ) (two : 2 ≤ n) (small : n ≤ 64) where
     past = λ i h l. rest i l (λ e. omega arith);
   }
 
-  fresh-set : (y : ℕ) → y < 64 → setOf (freshBoard n) y ≡ freshSet n y
+  pub fresh-set : (y : ℕ) → y < 64 → setOf (freshBoard n) y ≡ freshSet n y
   unfolding setOf freshSets
   fresh-set y l = getD-tab 64 (freshSet n) 0 y l
 
-  fresh-off : (y : ℕ) → inner n y ≡ true → onRoute (freshBoard n) y ≡ false
+  pub fresh-off : (y : ℕ) → inner n y ≡ true → onRoute (freshBoard n) y ≡ false
   fresh-off y e =
       let a = inner-in n y e in
       off-make n (freshBoard n) small fresh-wide fresh-routed y (λ i h q.
@@ -71,11 +75,26 @@ module _ (n : ℕ) (two : 2 ≤ n) (small : n ≤ 64) where
   unfolding markOk
   fresh-formed = record { route = fresh-routed; sets = fresh-sets; marks = λ y l. rw (has-none y) }
 
+  pub fresh-inform : InForm n (freshOf n)
+  fresh-inform = record {
+    board = fresh-formed;
+    levels = record { most = omega arith; held = λ i h. absurd (omega arith); rise = λ i h. absurd (omega arith); past = λ i h l. getD-replicate 64 i 0 0 l };
+  }
+
+  fresh-word : (y : ℕ) → y < 64 → setOf (freshBoard n) y < 2 ^ 64
+  unfolding freshSet
+  fresh-word y l = rw (fresh-set y l) (go (inner n y))
+    where
+      go : (t : Bool) → cond t 1 0 < 2 ^ 64
+      go true = omega arith
+      go false = omega arith
+
+  pub fresh-held : Held (freshOf n)
+  fresh-held = record { wide = fresh-wide; levels = refl; words = record { fits = fresh-word; marks = omega arith } }
+
 -- the fresh state is in form
 pub fresh-in-form : (n : ℕ) → 2 ≤ n → n ≤ 64 → inForm n (freshState n) ≡ true
-fresh-in-form n two small =
-    rw (fresh-is n two small) (in-form-of n (stateOf (set (replicate 64 0) 1 (n - 1)) 2 (freshSets n) 0 (replicate 64 0) 0 0) small (fresh-wide n two small)
-    (record { board = fresh-formed n two small; levels = record { most = omega arith; held = λ i h. absurd (omega arith); rise = λ i h. absurd (omega arith); past = λ i h l. getD-replicate 64 i 0 0 l } }))
+fresh-in-form n two small = rw (fresh-is n two small) (in-form-of n (freshOf n) small (fresh-wide n two small) (fresh-inform n two small))
 
 -- and its places are leg 0 of every node but the ends
 pub fresh-open : (n : ℕ) → 2 ≤ n → n ≤ 64 → (y q : ℕ) → y < 64 → openAt (boardOf (freshState n)) y q ≡ (inner n y && eqb q 0)

@@ -222,6 +222,14 @@ module _ (n : ℕ) (b : Board) (p x : ℕ) (small : n ≤ 64) (wide : Wide b) (f
       (λ e. leg-make n (placed b p x) small placed-wide placed-routed q i (omega (arith, r .1, stops-of)) (stop-of i ∙ under i (ltb-true i at e) ∙ r .2))
       (λ e. leg-make n (placed b p x) small placed-wide placed-routed q (suc i) (omega (arith, r .1, stops-of)) (stop-of (suc i) ∙ over i (ltb-false i at e) (omega (arith, r .1, split-room)) ∙ r .2))
 
+  -- a set of present legs names legs that are left once x is out again
+  pub legs-after : (w : ℕ) → within w (legsOf b) ≡ true → within w (without (legsOf (placed b p x)) x) ≡ true
+  legs-after w h =
+      within-make w (without (legsOf (placed b p x)) x) (λ i l e.
+      let k = within-has w (legsOf b) h i l e in
+      let r = leg-at n b small wide (f .route) i k in
+      without-other (legsOf (placed b p x)) x i (λ z. off-stop (r .0) (omega (arith, r .1)) (r .2 ∙ z)) ∙ keep-leg i k)
+
   new-leg : has (legsOf (placed b p x)) x ≡ true
   new-leg = leg-make n (placed b p x) small placed-wide placed-routed x at (omega (arith, stops-of, split-inside)) (stop-of at ∙ here)
 
@@ -385,11 +393,11 @@ module _ (n : ℕ) (b : Board) (x w : ℕ) (small : n ≤ 64) (wide : Wide b) (f
       (λ z. absurd (false-true (sym (without-same v x) ∙ ap (λ (q : ℕ). has (without v x) q) (sym (eqb-true i x z)) ∙ h)))
       (λ z. without-other (legsOf b) x i (eqb-false i x z) ∙ within-has v (legsOf b) e i l (without-part v x i h))))
 
-  unplaced-set : (y : ℕ) → y < 64 → (y ≡ x → ⊥) → setOf (unplaced b x w) y ≡ strike x (setOf b y)
+  pub unplaced-set : (y : ℕ) → y < 64 → (y ≡ x → ⊥) → setOf (unplaced b x w) y ≡ strike x (setOf b y)
   unfolding setOf unplaced
   unplaced-set y l d = map-put (strike x) (b .sets) x w y (omega (arith, wide .sets)) d
 
-  unplaced-here : setOf (unplaced b x w) x ≡ w
+  pub unplaced-here : setOf (unplaced b x w) x ≡ w
   unfolding setOf unplaced
   unplaced-here = map-here (strike x) (b .sets) x w (omega (arith, wide .sets, inner-in n x node .1))
 

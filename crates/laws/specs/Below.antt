@@ -6,6 +6,7 @@ use mathlib.Core.Path.{_≡_, refl, sym, ap, _∙_, subst}
 use mathlib.Core.Logic.{⊎-elim}
 use native.Mathlib.Nat.{eq-or-lt-of-le, le-of-suc-le-suc, le-of-suc-le, le-step, le-refl, not-suc-le-zero, le-antisymm}
 use native.Mathlib.Numerals.{add-one}
+use Rattle.laws.specs.Logic.{true→T, decided}
 
 -- every number below n passes f
 unfoldable pub allBelow : ℕ → (ℕ → Bool) → Bool
@@ -59,6 +60,15 @@ pub below-make : (n : ℕ) (f : ℕ → Bool) → ((i : ℕ) → i < n → f i �
 unfolding allBelow
 below-make zero f h = refl
 below-make (suc n) f h = rw (below-make n f (λ i l. h i (le-step l))) (h n (le-refl (suc n)))
+
+-- not every number passes: one fails
+pub below-find : (n : ℕ) (f : ℕ → Bool) → allBelow n f ≡ false → (i : ℕ) × (i < n) × (f i ≡ false)
+unfolding allBelow
+below-find zero f e = absurd (true→T false (sym e))
+below-find (suc n) f e =
+    decided (allBelow n f)
+    (λ h. (n, le-refl (suc n), rw h at e))
+    (λ h. let r = below-find n f h in (r .0, le-step (r .1), r .2))
 
 -- ---- two tests, and a test that is asked from a number on
 

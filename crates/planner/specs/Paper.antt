@@ -107,4 +107,4 @@ pub record Paper : Type 0 where
 
 paper-cases : Paper
 unfolding allBelow orElse sumBelow tab wordAt headRefusal limitsRefusal nodesRefusal jobsRefusal tableRefusal stepsRefusal tablesRefusal laterRefusal refusal13 jobAt clash apart cell refusal14 digit has with within stays round strikes settleIn roundsIn keeps owed rules.alive everyRound wordOf indexOf insertIn routeOf onRoute legsOf setOf openAt inner legNode placesOf ones onesIn heir placed freshState freshSets freshSet stopOk setOk markOk nodeOk boardOk levelOk levelsOk inForm formWith roomOf shrunk noteBelow noteOne pushed placeRefusal trail.placeStep trail.recorded trail.settleStep trail.stepOf setsOf words.wordOf stepOf actOf callRefusal askRefusal countOf judgeOf
-paper-cases = record { p1 = refl; p2 = refl; p3 = refl; p4 = refl; p5 = refl; p6 = refl; p7 = refl; p8 = refl; p8-dead = refl; p9 = refl; p9-rounds = refl; p9-alive = refl; p10 = refl; p10-none = refl; p10-alive = refl; p11 = refl; p11-dead = refl; p12 = refl; p12-kept = refl; }
+paper-cases = record { p1 = refl; p2 = refl; p3 = refl; p4 = refl; p5 = refl; p6 = refl; p7 = refl; p8 = refl; p8-dead = refl; p9 = refl; p9-rounds = refl; p9-alive = refl; p10 = refl; p10-none = refl; p10-alive = refl; p11 = refl; p11-dead = refl; p12 = refl; p12-kept = refl }

@@ -1,3 +1,4 @@
 pub mod Sets
 pub mod Round
 pub mod Ready
+pub mod Verdict

@@ -2,6 +2,7 @@
 pub mod places;
 pub mod round;
 pub mod settling;
+pub mod verdict;
 
 // What one van can carry, and how far it may drive.
 pub struct Van {

@@ -22,7 +22,7 @@ use rules::Job;
 use sheet::Layout;
 
 // The places of x; a number that is no node has none.
-fn places(sets: &[u64; 64], x: usize) -> u64
+pub fn places(sets: &[u64; 64], x: usize) -> u64
     requires { ⌜ length (now sets) ≡ 64 ⌝ }
     ensures { λ r. ⌜ r ≡ getD (now (sets .entry)) x 0 ⌝ }
 {

@@ -1,9 +1,20 @@
--- What a reader must believe: Trail (records), Refusals, Undo, Steps.
--- Their laws: TrailLaws, StepLaws (an accepted step, fact by fact).
+-- What a reader must believe: Trail (records), Refusals, Undo (what fits, and what undoing gives), Steps (each step's answer, state and trail), Run (accepted steps one after another).
+-- Their laws: TrailLaws, UndoLaws, UndoWords, StepLaws. Small: what one record stands for, and undoing inverts it. Spells: a stretch of the trail undone.
+-- Since: what holds since a level was opened. The theorems: StepBack (stepping back restores the state; every accepted step keeps the form),
+-- Bound (from fresh at most n(n - 2) records), Never (so 17 and 20 are not met with that room). Examples: small cases, computed.
 pub mod Trail
 pub mod Refusals
 pub mod Undo
+pub mod Steps
+pub mod Run
 pub mod TrailLaws
 pub mod UndoLaws
-pub mod Steps
 pub mod StepLaws
+pub mod Small
+pub mod UndoWords
+pub mod Spells
+pub mod Since
+pub mod StepBack
+pub mod Bound
+pub mod Never
+pub mod Examples

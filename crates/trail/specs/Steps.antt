@@ -17,8 +17,11 @@ use Rattle.trail.specs.declared.Outcome.{Outcome}
 abbrev pub Ran : Type 0
 Ran = Outcome × List ℕ
 
+abbrev pub outcome : ℕ → State → Outcome
+outcome k s = record { answer = k; state = s }
+
 abbrev pub answered : ℕ → State → List ℕ → Ran
-answered k s t = (record { answer = k; state = s }, t)
+answered k s t = (outcome k s, t)
 
 -- refused with a number, the state and the trail as before; accepted where it is 0
 unfoldable pub stepOf : ℕ → State → List ℕ → Ran → Ran

@@ -20,7 +20,7 @@ ghost use Rattle.board.specs.Board.{boardOf, setOf};
 ghost use Rattle.board.specs.Form.{inForm, formWith};
 ghost use Rattle.board.specs.Change.{putSet};
 ghost use Rattle.trail.specs.Trail.{roomOf};
-ghost use Rattle.trail.specs.Steps.{recorded, placeStep, closeStep, excludeStep, requireStep, settleStep, levelStep, backStep};
+ghost use Rattle.trail.specs.Steps.{outcome, recorded, placeStep, closeStep, excludeStep, requireStep, settleStep, levelStep, backStep};
 
 // Step 1: place x after p.
 pub fn place(s: State, n: usize, p: usize, x: usize, trail: &mut [u64]) -> Outcome
@@ -191,6 +191,16 @@ pub fn level(s: State) -> Outcome
     }
 }
 
+// Refused: the state as it was.
+fn refused(number: usize, s: State) -> Outcome
+    ensures { λ r. ⌜ r ≡ outcome number s ⌝ }
+{
+    Outcome {
+        answer: number,
+        state: s,
+    }
+}
+
 // Step 7: undo to the last level and drop it.
 pub fn back(s: State, n: usize, trail: &[u64]) -> Outcome
     requires { ⌜ (n ≤ 64) × (formWith n s (roomOf (now trail)) ≡ true) ⌝ }
@@ -198,13 +208,11 @@ pub fn back(s: State, n: usize, trail: &[u64]) -> Outcome
 {
     let depth = s.depth;
     if depth < 1 {
-        return Outcome {
-            answer: 18,
-            state: s,
-        };
+        return refused(18, s);
     }
     let mut levels = s.levels;
     let base = levels[depth - 1];
+    levels[depth - 1] = 0;
     let mut route = s.route;
     let mut sets = s.sets;
     let u = undo_many(
@@ -217,23 +225,20 @@ pub fn back(s: State, n: usize, trail: &[u64]) -> Outcome
         base,
         trail,
     );
+    let t = State {
+        route: route,
+        stops: u.stops,
+        sets: sets,
+        marks: u.marks,
+        levels: levels,
+        depth: depth - 1,
+        records: base,
+    };
     if !u.fits {
-        return Outcome {
-            answer: 20,
-            state: s,
-        };
+        return refused(20, s);
     }
-    levels[depth - 1] = 0;
     Outcome {
         answer: 0,
-        state: State {
-            route: route,
-            stops: u.stops,
-            sets: sets,
-            marks: u.marks,
-            levels: levels,
-            depth: depth - 1,
-            records: base,
-        },
+        state: t,
     }
 }

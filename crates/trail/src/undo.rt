@@ -71,7 +71,7 @@ fn left_legs(w: u64, legs: u64, x: usize, stop: usize) -> bool
     bits::within(w, bits::without(legs, x)) & bits::has(w, stop)
 }
 
-// Kind 2: x is taken off the route and gets its set w back; its leg goes out of every set.
+// Kind 2: x is taken off the route and gets its old set back; its leg goes out of every set.
 fn undo_placed(
     route: &mut [usize; 64],
     sets: &mut [u64; 64],
@@ -79,10 +79,10 @@ fn undo_placed(
     marks: u64,
     n: usize,
     x: usize,
-    w: u64,
+    old: u64,
 ) -> Undone
     requires { ⌜ Sound n (board (now route) stops (now sets) marks) ⌝ }
-    ensures { λ r. ⌜ undone (fitsPlaced n (board (now (route .entry)) stops (now (sets .entry)) marks) x w) (unplaced (board (now (route .entry)) stops (now (sets .entry)) marks) x w) (board (now (route .entry)) stops (now (sets .entry)) marks) ≡ (r .fits, board (now (route .exit)) (r .stops) (now (sets .exit)) (r .marks)) ⌝ }
+    ensures { λ r. ⌜ undone (fitsPlaced n (board (now (route .entry)) stops (now (sets .entry)) marks) x old) (unplaced (board (now (route .entry)) stops (now (sets .entry)) marks) x old) (board (now (route .entry)) stops (now (sets .entry)) marks) ≡ (r .fits, board (now (route .exit)) (r .stops) (now (sets .exit)) (r .marks)) ⌝ }
 {
     if !inner(n, x) {
         return Undone {
@@ -101,7 +101,7 @@ fn undo_placed(
     }
     let legs = word(route, stops - 1);
     let before = route[i - 1];
-    if !left_legs(w, legs, x, before) {
+    if !left_legs(old, legs, x, before) {
         return Undone {
             fits: false,
             stops: stops,
@@ -110,7 +110,7 @@ fn undo_placed(
     }
     remove(route, i);
     strike_leg(sets, x);
-    sets[x] = w;
+    sets[x] = old;
     Undone {
         fits: true,
         stops: stops - 1,

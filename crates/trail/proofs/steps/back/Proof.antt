@@ -1,16 +1,12 @@
-use mathlib.Core.Path.{_≡_, refl, sym, ap, _∙_}
-use mathlib.Core.Bool.{true, false}
-use Prim.Native.Nat.{_<_, _≤_}
+use mathlib.Core.Path.{_≡_, sym, ap, _∙_}
 use native.Mathlib.Omega.{arith}
-use lib.ListN.{length}
 use borrow.Author.Tests.{not-true, not-false}
-use Rattle.board.specs.Board.{boardOf}
 use Rattle.board.specs.FormLaws.{InForm, in-form, form-with}
 use Rattle.board.specs.Held.{Held}
 use Rattle.board.proofs.Told.{told}
-use Rattle.trail.specs.Trail.{roomOf}
-use Rattle.trail.specs.Steps.{backStep, baseOf, undoLevel, dropped}
+use Rattle.trail.specs.Steps.{baseOf, undoLevel, dropped}
 use Rattle.trail.specs.StepLaws.{base-low, back-none, back-misfit, back-fits}
+use borrow.Author.Needs.{needs}
 use Rattle.trail.proofs.steps.back.Statement.{statement}
 use Rattle.trail.proofs.steps.back.Tie as tie
 
@@ -20,14 +16,23 @@ held c = told (c .before .before .args .s) _ (c .before .before .good .0)
 form : (c : tie.Else1) → InForm (c .before .before .args .n) (c .before .before .args .s)
 form c = let d = c .before .before in in-form _ _ (d .pre .0) (held c .wide) (form-with _ _ _ (d .pre .1) .0)
 
+refused-requires : tie.Need-refused-requires
+refused-requires c κs = search needs
+
 returns : tie.Need-returns
-returns c = back-none _ _ _ (c .if1 .taken)
+returns c = rw (c .refused .ensures) (back-none _ _ _ (c .before .if1 .taken))
 
 mul-base : tie.Need-mul-base
 mul-base c = omega (arith, form (c .before) .levels .most)
 
 array-read-base : tie.Need-array-read-base
 array-read-base c = omega (arith, form (c .before) .levels .most, held (c .before) .levels)
+
+mul-levels : tie.Need-mul-levels
+mul-levels c = omega (arith, form (c .before) .levels .most)
+
+array-write-levels : tie.Need-array-write-levels
+array-write-levels c = omega (arith, form (c .before) .levels .most, held (c .before) .levels)
 
 undo-many-requires : tie.Need-undo-many-requires
 unfolding baseOf
@@ -36,18 +41,15 @@ undo-many-requires c κs =
     let d = e .before .before in
     (record { small = d .pre .0; wide = held e .wide; form = form e .board }, base-low _ _ (form e) (e .if1 .left), form-with _ _ _ (d .pre .1) .1)
 
+refused-requires-2 : tie.Need-refused-requires-2
+refused-requires-2 c κs = search needs
+
 returns-2 : tie.Need-returns-2
 unfolding undoLevel baseOf
 returns-2 c =
-    let u = c .before .before in
+    let u = c .before .before .before in
     let e = u .before .before .before .before .before .before in
-    back-misfit _ _ _ _ _ (e .if1 .left) (u .undo-many .ensures) (not-true _ (c .if2 .taken))
-
-mul-levels : tie.Need-mul-levels
-mul-levels c = omega (arith, form (c .before .before .before .before .before .before .before .before) .levels .most)
-
-array-write-levels : tie.Need-array-write-levels
-array-write-levels c = let e = c .before .before .before .before .before .before .before .before in omega (arith, form e .levels .most, held e .levels)
+    rw (c .refused2 .ensures) (back-misfit _ _ _ _ _ (e .if1 .left) (u .undo-many .ensures) (not-true _ (c .before .if2 .taken)))
 
 returns-3 : tie.Need-returns-3
 unfolding undoLevel baseOf dropped
@@ -60,11 +62,13 @@ pub back-spec : {M : Type 1} → statement M
 back-spec =
     tie.close
     (tie.spec
+    refused-requires
     returns
     mul-base
     array-read-base
-    undo-many-requires
-    returns-2
     mul-levels
     array-write-levels
+    undo-many-requires
+    refused-requires-2
+    returns-2
     returns-3)

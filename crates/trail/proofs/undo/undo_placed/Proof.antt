@@ -23,7 +23,7 @@ unfolding routeOf
 on c = placed-on _ _ _ (c .before .before .before .before .before .pre) (omega (arith, c .before .position .ensures, c .if2 .left))
 
 fits-is : (c : tie.After-left-legs) → let a = c .before .before .before .before .before .before .before .before .before .args in
-    fitsPlaced (a .n) (board (a .route .now) (a .stops) (a .sets .now) (a .marks)) (a .x) (a .w) ≡ c .left-legs .result
+    fitsPlaced (a .n) (board (a .route .now) (a .stops) (a .sets .now) (a .marks)) (a .x) (a .old) ≡ c .left-legs .result
 unfolding legsOf stopBefore routeOf
 fits-is c =
     let e = c .before .before .before .before in

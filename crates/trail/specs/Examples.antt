@@ -1,0 +1,46 @@
+-- Small cases, computed.
+use mathlib.Core.Path.{_≡_, refl}
+use mathlib.Core.Bool.{true, false}
+use mathlib.Core.List.{List, [], _∷_}
+use Prim.Native.Nat.{ℕ, _+_, _-_}
+use lib.ListN.{length, getD, take, set, replicate}
+use Rattle.laws.specs.Table.{tab}
+use Rattle.laws.specs.Below.{allBelow}
+use Rattle.laws.specs.Choice.{orElse}
+use Rattle.bits.specs.Places.{digit, has, with, without, within}
+use Rattle.board.specs.Route.{indexOf, insertIn, removeIn, wordOf}
+use Rattle.board.specs.Board.{routeOf, onRoute, legsOf, setOf, openAt, inner, legNode}
+use Rattle.board.specs.Fresh.{noState, freshSet, freshSets, freshState}
+use Rattle.board.specs.Form.{stopOk, setOk, markOk, nodeOk, boardOk, levelOk, levelsOk, inForm}
+use Rattle.board.specs.Change.{heir, strike, putSet, placed, marked, unplaced}
+use Rattle.trail.specs.Trail.{roomOf, pushed, firstOf, secondOf}
+use Rattle.trail.specs.Refusals.{placeRefusal}
+use Rattle.trail.specs.Undo.{strictly, stopBefore, fitsShrunk, fitsPlaced, fitsMarked, undone, undoOne}
+use Rattle.trail.specs.Steps.{stepOf, recorded, placeStep}
+
+-- the fresh state of four nodes is in form, the state of all zeros is not
+fresh-4 : inForm 4 (freshState 4) ≡ true
+unfolding inForm boardOk levelsOk freshState freshSets tab freshSet allBelow stopOk nodeOk setOk markOk levelOk onRoute routeOf setOf inner has digit within legsOf wordOf with
+fresh-4 = refl
+
+none-4 : inForm 4 noState ≡ false
+unfolding inForm boardOk noState
+none-4 = refl
+
+-- 1 0 2 on it: route 0 2 3; node 1 open in legs 0 and 2; one record, 512 + 2 and the set 1
+place-0-2 : (placeStep 4 (freshState 4) (replicate 4 0) 0 2) .0 .state .sets ≡ set (replicate 64 0) 1 5
+unfolding placeStep stepOf recorded placeRefusal orElse roomOf pushed placed heir insertIn indexOf legNode freshState freshSets tab freshSet onRoute routeOf setOf openAt inner has digit with
+place-0-2 = refl
+
+route-0-2 : take 3 ((placeStep 4 (freshState 4) (replicate 4 0) 0 2) .0 .state .route) ≡ 0 ∷ 2 ∷ 3 ∷ []
+unfolding placeStep stepOf recorded placeRefusal orElse roomOf pushed placed heir insertIn indexOf legNode freshState freshSets tab freshSet onRoute routeOf setOf openAt inner has digit with
+route-0-2 = refl
+
+trail-0-2 : (placeStep 4 (freshState 4) (replicate 4 0) 0 2) .1 ≡ 514 ∷ 1 ∷ 0 ∷ 0 ∷ []
+unfolding placeStep stepOf recorded placeRefusal orElse roomOf pushed placed heir insertIn indexOf legNode freshState freshSets tab freshSet onRoute routeOf setOf openAt inner has digit with
+trail-0-2 = refl
+
+-- room 0, with a trail of one word: 17
+no-room : (placeStep 4 (freshState 4) (0 ∷ []) 0 2) .0 .answer ≡ 17
+unfolding placeStep stepOf recorded placeRefusal orElse roomOf legNode freshState freshSets tab freshSet onRoute routeOf setOf openAt inner has digit
+no-room = refl

@@ -1,0 +1,36 @@
+#!/bin/sh
+# How sharp is the comparison? Each line below spoils one rule of the plain C version; the
+# comparison through `probe` must then show differences. Prints the spoiled rules it misses.
+# usage: tests/mutants.sh [cases]
+set -u
+here=$(cd "$(dirname "$0")" && pwd)
+second=$here/second/target/release/second
+cases=${1:-12000}
+work=$(mktemp -d)
+trap 'rm -rf "$work"' EXIT
+caught=0
+missed=0
+while IFS='	' read -r file change; do
+    [ -n "$file" ] || continue
+    rm -rf "$work/bench"
+    cp -r "$here/../bench" "$work/bench"
+    sed -i "$change" "$work/bench/plain/$file"
+    if cmp -s "$work/bench/plain/$file" "$here/../bench/plain/$file"; then
+        echo "changes nothing: $file $change"
+        missed=$((missed + 1))
+        continue
+    fi
+    if ! ${CC:-cc} -O2 -w -o "$work/probe" "$work/bench/plain_probe.c" 2> "$work/errors"; then
+        echo "does not compile: $file $change"
+        missed=$((missed + 1))
+        continue
+    fi
+    if timeout 120 "$second" compare --kind probe --cases "$cases" -- "$work/probe" > "$work/out" 2> /dev/null; then
+        echo "missed: $file $change"
+        missed=$((missed + 1))
+    else
+        caught=$((caught + 1))
+    fi
+done < "$here/mutants.txt"
+echo "mutants: $caught caught, $missed missed"
+[ "$missed" -eq 0 ]

@@ -1,0 +1,24 @@
+//! The second program: the planner of 01 once more, in the plainest way, from 01 alone.
+
+pub mod check;
+pub mod compare;
+pub mod face;
+pub mod facts;
+pub mod gen;
+pub mod insertion;
+pub mod listing;
+pub mod options;
+pub mod papers;
+pub mod probe;
+pub mod rng;
+pub mod rounds;
+pub mod settle;
+pub mod sheet;
+pub mod slips;
+pub mod state;
+pub mod step;
+pub mod strike;
+pub mod tally;
+pub mod text;
+pub mod undo;
+pub mod verdict;
