@@ -1,4 +1,5 @@
 -- Answers: a step refused, and a step accepted. Plans: what an accepted step does to the plan that the state stands for.
--- Kept: the promises, each proved.
+-- Moves: an accepted step is one that the trail's theorems speak of. Kept: the promises, each proved.
 pub mod Answers
 pub mod Plans
+pub mod Moves

@@ -4,9 +4,9 @@ use mathlib.Core.Path.{_≡_, refl, sym, ap, subst, _∙_}
 use mathlib.Core.Bool.{Bool, true, false, cond, not, _&&_, _||_, and-true, and-false, or-true, or-false}
 use mathlib.Core.List.{List}
 use native.Mathlib.Omega.{arith}
-use lib.Dec.{T, eqb}
-use lib.ListN.{length}
-use borrow.Author.Tests.{eqb-true}
+use lib.Dec.{T, eqb, ltb}
+use lib.ListN.{length, List·getD-eq-default}
+use borrow.Author.Tests.{eqb-true, ltb-true, ltb-false}
 use Rattle.laws.specs.Logic.{decided, T→true, true→T, false→N}
 use Rattle.laws.specs.Lists.{mem}
 use Rattle.sheet.specs.Section.{nOf}
@@ -21,27 +21,38 @@ use Rattle.rules.proofs.Fixpoint.{settle-less}
 use Rattle.rules.proofs.Inner.{inner-low}
 use Rattle.board.specs.Board.{Board, boardOf, routeOf, onRoute, setOf, openAt, inner}
 use Rattle.board.specs.FormLaws as board
+use Rattle.board.specs.Held.{Held}
 use Rattle.board.specs.declared.State.{State}
 use Rattle.trail.specs.Trail.{roomOf}
 use Rattle.trail.specs.Steps as trail
 use Rattle.trail.specs.StepLaws.{step-yes, step-zero, placeable, excludable, requirable}
 use Rattle.settle.specs.Sets.{Small, places-sets}
+use Rattle.stands.specs.Stands as words
 use Rattle.stands.proofs.Formed.{stands-formed}
 use Rattle.stands.proofs.Changed.{plan-ext, placed-stands, closed-stands, excluded-stands, required-stands}
 use Rattle.planner.specs.Face.{Ran, planIn, stepped, actOf, owedOf, settlingRounds}
-use Rattle.planner.specs.Promises.{Typed, Took}
+use Rattle.planner.specs.Promises.{Took}
 use Rattle.planner.proofs.Answers.{Called, acted}
 
-module _ {sheet : List ℕ} {s : State} {t : List ℕ} (typed : Typed s) (c : Called sheet s t) where
+-- a set that no node has is empty, so every set of a held state is a word
+held-words : {s : State} → Held s → words.Held (boardOf s)
+unfolding setOf
+held-words {s} h = record {
+  wide = h .wide;
+  words = λ y. decided (ltb y 64) (λ e. h .words .fits y (ltb-true y 64 e)) (λ e. rw (List·getD-eq-default (s .sets) 0 {n = y} (omega (arith, ltb-false y 64 e, h .wide .sets))) (omega arith));
+  marks = h .words .marks;
+}
+
+module _ {sheet : List ℕ} {s : State} {t : List ℕ} (typed : Held s) (c : Called sheet s t) where
   small : nOf sheet ≤ 64
   small = c .fine .n-high
 
   inform : board.Formed (nOf sheet) (boardOf s)
-  inform = board.in-form (nOf sheet) s small (typed .board .wide) (c .form) .board
+  inform = board.in-form (nOf sheet) s small (typed .wide) (c .form) .board
 
   -- the plan of a state that is called in form is in form
   pub plan-formed : Formed (dayOf sheet) (planIn s)
-  plan-formed = stands-formed (dayOf sheet) (boardOf s) small (typed .board) inform
+  plan-formed = stands-formed (dayOf sheet) (boardOf s) small (held-words typed) inform
 
 -- what an accepted step of the board gives
 gave : (k c : ℕ) (s : State) (t : List ℕ) (ran : trail.Ran) {j : ℕ} {s′ : State} {t′ : List ℕ} → stepped k (trail.stepOf c s t ran) ≡ (record { answer = 0; rounds = j; state = s′ }, t′)
@@ -50,19 +61,19 @@ gave k c s t ran e =
     let z = step-zero c s t ran (ap (λ (r : Ran). r .0 .answer) e) in
     (z, sym (ap (λ (r : Ran). r .0 .state) e) ∙ ap (λ (r : trail.Ran). r .0 .state) (step-yes c s t ran z))
 
-module _ (sheet : List ℕ) (s : State) (t : List ℕ) (typed : Typed s) where
+module _ (sheet : List ℕ) (s : State) (t : List ℕ) (typed : Held s) where
   -- a node for a step has a set
   stored : Called sheet s t → (x : ℕ) → inner (nOf sheet) x ≡ true → x < length (s .sets)
-  stored c x e = omega (arith, board.inner-in (nOf sheet) x e .1, small typed c, typed .board .wide .sets)
+  stored c x e = omega (arith, board.inner-in (nOf sheet) x e .1, small typed c, typed .wide .sets)
 
   -- step 1
-  pub placed-plan : {s′ : State} {t′ : List ℕ} {k : ℕ} (p x : ℕ) → Took sheet s t 1 p x k s′ t′ → (planIn s′ ≡ step.placed p x (planIn s)) × T (planIn s .places x p)
-  unfolding actOf trail.placeStep trail.recorded
+  pub placed-plan : {s′ : State} {t′ : List ℕ} {k : ℕ} (p x : ℕ) → Took sheet s t 1 p x k s′ t′ → (planIn s′ ≡ step.placed p x (planIn s)) × T (planIn s .places x p) × T (not (mem x (planIn s .route)))
+  unfolding actOf trail.placeStep trail.recorded onRoute
   placed-plan p x e =
       let a = acted sheet s t 1 p x e in
       let g = gave 0 _ s t _ (a .1) in
       let h = placeable (nOf sheet) (boardOf s) (s .records) (roomOf t) p x (g .0) in
-      (ap planIn (g .1) ∙ placed-stands (nOf sheet) (boardOf s) p x (small typed (a .0)) (typed .board .wide) (inform typed (a .0)) (h .split), true→T _ (h .place))
+      (ap planIn (g .1) ∙ placed-stands (nOf sheet) (boardOf s) p x (small typed (a .0)) (typed .wide) (inform typed (a .0)) (h .split), true→T _ (h .place), false→N _ (h .split .off))
 
   -- step 2
   pub closed-plan : {s′ : State} {t′ : List ℕ} {k : ℕ} (p x : ℕ) → Took sheet s t 2 p x k s′ t′ → planIn s′ ≡ step.closed p x (planIn s)
@@ -108,14 +119,14 @@ module _ (sheet : List ℕ) (s : State) (t : List ℕ) (typed : Typed s) where
       let h = requirable (nOf sheet) (boardOf s) (s .records) (roomOf t) x (g .0) .0 in
       (ap planIn (g .1) ∙ decided (has (s .marks) x)
       (λ q. rw q (already x q))
-      (λ q. rw q (required-stands (boardOf s) x (omega (arith, stored (a .0) x (h .node), typed .board .wide .sets)))), h .node)
+      (λ q. rw q (required-stands (boardOf s) x (omega (arith, stored (a .0) x (h .node), typed .wide .sets)))), h .node)
 
   -- step 5
-  places-small : Called sheet s t → Small (settle (vanOf sheet) (dayOf sheet) (planIn s .route) (planIn s .places))
+  pub places-small : Called sheet s t → Small (settle (vanOf sheet) (dayOf sheet) (planIn s .route) (planIn s .places))
   unfolding openAt
   places-small c y q h =
       let o = settle-less (vanOf sheet) (dayOf sheet) (planIn s .route) (planIn s .places) y q h in
-      (omega (arith, inner-low (dayOf sheet) (plan-formed typed c .inside y q o), small typed c), has-low (setOf (boardOf s) y) q (typed .board .words y) (T→true (has (setOf (boardOf s) y) q) o))
+      (omega (arith, inner-low (dayOf sheet) (plan-formed typed c .inside y q o), small typed c), has-low (setOf (boardOf s) y) q (held-words typed .words y) (T→true (has (setOf (boardOf s) y) q) o))
 
   pub settled-plan : {s′ : State} {t′ : List ℕ} {k : ℕ} (a c : ℕ) → Took sheet s t 5 a c k s′ t′ → (planIn s′ ≡ settled (vanOf sheet) (dayOf sheet) (planIn s)) × (k ≡ rounds (vanOf sheet) (dayOf sheet) (planIn s .route) (planIn s .places))
   unfolding actOf trail.settleStep openAt setOf routeOf
