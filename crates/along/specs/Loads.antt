@@ -2,8 +2,7 @@
 use mathlib.Core.Path.{_≡_, refl, sym, ap, _∙_}
 use Prim.Native.Nat.{ℕ, zero, suc, _+_, _-_, _*_, _<_, _≤_, max}
 use mathlib.Core.Bool.{Bool, true, false, cond, _&&_}
-use mathlib.Core.List.{List, [], _∷_}
-use native.Mathlib.Numerals.{add-one}
+use mathlib.Core.List.{List}
 use native.Mathlib.Omega.{arith}
 use lib.Dec.{leb, ltb, eqb}
 use borrow.Author.Tests.{lt-ltb, le-ltb, le-leb, eqb-true, eqb-false, ltb-true, ltb-false, leb-true}
@@ -18,7 +17,7 @@ use Rattle.rules.specs.Rounds.{Distinct}
 use Rattle.rules.specs.Along.{behind}
 use Rattle.rules.specs.declared.Job.{Job}
 use Rattle.rules.specs.declared.Job.the-variants.{Clean, Soiled, Transfer}
-use Rattle.along.specs.Spots.{Spots, loadOf, comes, goes, aboard-is}
+use Rattle.along.specs.Spots.{Spots, same-entries, loadOf, comes, goes, aboard-is}
 
 -- ---- w more from lo up to hi
 
@@ -49,7 +48,8 @@ pub added-more : {h : List ℕ} {lo i w : ℕ} {r : List ℕ} → Added h lo i w
 added-more {h = h} {lo} {i} {w} {r} a b c = record { long = length-set r i (getD r i 0 + w) ∙ a .long; at = λ k. go k (eqb k i) refl }
   where
     more : (k : ℕ) → (k ≡ i → ⊥) → ltb k (i + 1) ≡ ltb k i
-    more k n = decided (ltb k i) (λ p. lt-ltb k (i + 1) (omega (arith, ltb-true k i p)) ∙ sym p) (λ p. le-ltb k (i + 1) (omega (arith, ltb-false k i p, n)) ∙ sym p)
+    more k n =
+        decided (ltb k i) (λ p. lt-ltb k (i + 1) (omega (arith, ltb-true k i p)) ∙ sym p) (λ p. le-ltb k (i + 1) (omega (arith, ltb-false k i p, n)) ∙ sym p)
 
     full : cond (leb lo i && ltb i (i + 1)) w 0 ≡ w
     full = λ u. cond (le-leb lo i b u && lt-ltb i (i + 1) (omega arith) u) w 0
@@ -62,7 +62,8 @@ added-more {h = h} {lo} {i} {w} {r} a b c = record { long = length-set r i (getD
 
 -- the loop has run to hi, or never began
 pub added-end : {h : List ℕ} {lo i w : ℕ} {r : List ℕ} (hi : ℕ) → Added h lo i w r → lo ≤ i → i ≤ max lo hi → hi ≤ i → Added h lo hi w r
-added-end {h = h} {lo} {i} {w} {r} hi a b c d = record { long = a .long; at = λ k. a .at k ∙ ap (λ (u : Bool). getD h k 0 + cond u w 0) (go k (leb lo k) refl) }
+added-end {h = h} {lo} {i} {w} {r} hi a b c d =
+    record { long = a .long; at = λ k. a .at k ∙ ap (λ (u : Bool). getD h k 0 + cond u w 0) (go k (leb lo k) refl) }
   where
     past : (k : ℕ) → lo ≤ k → ltb k i ≡ ltb k hi
     past k l = decided (ltb k i) (λ p. p ∙ sym (lt-ltb k hi (omega (arith, ltb-true k i p)))) (λ p. p ∙ sym (le-ltb k hi (omega (arith, ltb-false k i p))))
@@ -77,14 +78,9 @@ added-end {h = h} {lo} {i} {w} {r} hi a b c d = record { long = a .long; at = λ
 unfoldable pub loadSum : (ℕ → Job) → List ℕ → ℕ → ℕ → ℕ
 loadSum g m j i = sumBelow j (λ k. aboard (behind m (suc i)) (drop (suc i) m) (g k))
 
-zeros : (m k : ℕ) → _≡_ {A = ℕ} (getD (replicate m 0) k 0) 0
-zeros zero k = refl
-zeros (suc m) zero = refl
-zeros (suc m) (suc k) = zeros m k
-
 pub load-none : (g : ℕ → Job) (m : List ℕ) (n : ℕ) → Filled 64 (loadSum g m 0) 0 n (replicate 64 0)
 unfolding loadSum sumBelow
-load-none g m n = record { long = refl; at = λ k b. zeros 64 k }
+load-none g m n = record { long = refl; at = λ k b. same-entries 0 64 k }
 
 pub load-next : (g : ℕ → Job) (l : List ℕ) (n j : ℕ) {k : ℕ} {a h r : List ℕ} {lo hi w : ℕ} → n ≤ 64 → n ≤ length l → Distinct k (take n l) → Spots l n a
     → Filled 64 (loadSum g (take n l) j) 0 (n - 1) h → lo ≡ comes (g j) a → hi ≡ goes (g j) a n → w ≡ loadOf (g j) → Added h lo hi w r
@@ -129,8 +125,10 @@ load-all g m j i = sym (sum-tab (aboard (behind m (suc i)) (drop (suc i) m)) j g
 
 pub load-done : (g : ℕ → Job) (m : List ℕ) (n j k : ℕ) {h : List ℕ} → j ≡ k → Filled 64 (loadSum g m j) 0 n h
     → Filled 64 (λ i. sum (aboard (behind m (suc i)) (drop (suc i) m)) (tab k g)) 0 n h
-load-done g m n j k e p = record { long = p .long; at = λ i b. p .at i b ∙ load-all g m j i ∙ ap (λ (q : ℕ). sum (aboard (behind m (suc i)) (drop (suc i) m)) (tab q g)) e }
+load-done g m n j k e p =
+    record { long = p .long; at = λ i b. p .at i b ∙ load-all g m j i ∙ ap (λ (q : ℕ). sum (aboard (behind m (suc i)) (drop (suc i) m)) (tab q g)) e }
 
 -- H of the jobs g, of which there are at most 155
-pub load-at-low : (g : ℕ → Job) (m : List ℕ) (j i : ℕ) → ((k : ℕ) → loadOf (g k) < 4294967296) → j ≤ 155 → sum (aboard (behind m (suc i)) (drop (suc i) m)) (tab j g) < 1099511627776
+pub load-at-low : (g : ℕ → Job) (m : List ℕ) (j i : ℕ) → ((k : ℕ) → loadOf (g k) < 4294967296) → j ≤ 155
+    → sum (aboard (behind m (suc i)) (drop (suc i) m)) (tab j g) < 1099511627776
 load-at-low g m j i f h = omega (arith, load-all g m j i, load-low g m j i f)

@@ -1,5 +1,5 @@
 -- What a route in an array is, and that every number of a day is small.
-use mathlib.Core.Path.{_≡_, sym, subst}
+use mathlib.Core.Path.{_≡_, subst}
 use Prim.Native.Nat.{ℕ, _+_, _*_, _<_, _≤_}
 use mathlib.Core.Bool.{Bool, true, false, cond}
 use mathlib.Core.List.{List}
@@ -10,7 +10,6 @@ use lib.Seq.{getD-take}
 use Rattle.sheet.specs.Word.{wordAt, word-low}
 use Rattle.sheet.specs.Section.{nOf, jobsAt}
 use Rattle.rules.specs.Rounds.{Distinct}
-use Rattle.rules.specs.declared.Job.{Job}
 use Rattle.rules.specs.declared.Job.the-variants.{Clean, Soiled, Transfer}
 use Rattle.day.specs.Jobs.{jobOf, jobAt, jobIn}
 use Rattle.day.specs.Tables.{cell}

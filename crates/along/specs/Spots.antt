@@ -1,15 +1,15 @@
 -- Where each node stands on a route of n stops in an array, and how that tells which jobs are aboard on a leg.
 use mathlib.Core.Path.{_≡_, refl, sym, ap, _∙_, subst}
 use Prim.Native.Nat.{ℕ, zero, suc, _+_, _-_, _<_, _≤_}
-use mathlib.Core.Bool.{Bool, true, false, cond, _&&_, _||_, and-true}
+use mathlib.Core.Bool.{true, false, cond, _&&_, and-true}
 use mathlib.Core.List.{List, [], _∷_}
 use mathlib.Core.Logic.{⊎-elim, _⊎_, inl, inr}
 use native.Mathlib.Numerals.{add-one}
 use native.Mathlib.Omega.{arith}
-use lib.Dec.{T, T-not, leb, ltb, eqb, eqb→eq, eqb-refl, leb→le, le→leb, ltb→lt, lt→ltb}
+use lib.Dec.{T, leb, ltb, eqb, eqb→eq, leb→le, le→leb, ltb→lt, lt→ltb}
 use borrow.Author.Tests.{eqb-true, eqb-false, eq-eqb, ne-eqb, ltb-true, ltb-false, lt-ltb, le-leb}
 use lib.ListN.{getD, set, replicate, take, drop, length, length-take, length-set, List·getD-eq-default}
-use lib.Seq.{getD-set-same, getD-set-other, getD-take, drop-cons}
+use lib.Seq.{getD-set-same, getD-set-other, getD-take}
 use Rattle.laws.specs.Logic.{decided, T-ext, or-l, or-r, or-e, true→T}
 use Rattle.laws.specs.Lists.{mem}
 use Rattle.rules.specs.Rounds.{Distinct, none, more}
@@ -39,14 +39,15 @@ spot-in (y ∷ a) (suc x) h = spot-in a x (omega arith)
 pub spot-past : (a : List ℕ) (x : ℕ) → length a ≡ 64 → 64 ≤ x → 64 ≡ getD a x 64
 spot-past a x n h = sym (List·getD-eq-default a 64 {n = x} (omega arith))
 
-fresh-spot : (k x : ℕ) → _≡_ {A = ℕ} (getD (replicate k 64) x 64) 64
-fresh-spot zero x = refl
-fresh-spot (suc k) zero = refl
-fresh-spot (suc k) (suc x) = fresh-spot k x
+-- every entry of an array of one number, and what stands for those past it
+pub same-entries : (a k x : ℕ) → getD (replicate k a) x a ≡ a
+same-entries a zero x = refl
+same-entries a (suc k) zero = refl
+same-entries a (suc k) (suc x) = same-entries a k x
 
 pub spots-none : (l : List ℕ) → Spots l 0 (replicate 64 64)
 unfolding spot
-spots-none l = record { long = refl; at = fresh-spot 64 }
+spots-none l = record { long = refl; at = same-entries 64 64 }
 
 pub spots-more : {l : List ℕ} {i : ℕ} {a : List ℕ} → getD l i 0 < 64 → Spots l i a → Spots l (i + 1) (set a (getD l i 0) i)
 unfolding spot
@@ -72,11 +73,13 @@ pub record Found (l : List ℕ) (lo hi x : ℕ) : Type 0 where
 pub spot-cases : (l : List ℕ) (n x : ℕ) → ((spot l n x ≡ 64) × ((k : ℕ) → k < n → getD l k 0 ≡ x → ⊥)) ⊎ ((spot l n x < n) × (getD l (spot l n x) 0 ≡ x))
 unfolding spot
 spot-cases l zero x = inl (refl, λ k h e. absurd (omega arith))
-spot-cases l (suc n) x = decided (eqb (getD l n 0) x) (λ e. rw e (inr (omega arith, eqb-true (getD l n 0) x e))) (λ e. rw e (go (eqb-false (getD l n 0) x e) (spot-cases l n x)))
+spot-cases l (suc n) x =
+    decided (eqb (getD l n 0) x) (λ e. rw e (inr (omega arith, eqb-true (getD l n 0) x e))) (λ e. rw e (go (eqb-false (getD l n 0) x e) (spot-cases l n x)))
   where
     go : (getD l n 0 ≡ x → ⊥) → ((spot l n x ≡ 64) × ((k : ℕ) → k < n → getD l k 0 ≡ x → ⊥)) ⊎ ((spot l n x < n) × (getD l (spot l n x) 0 ≡ x))
         → ((spot l n x ≡ 64) × ((k : ℕ) → k < suc n → getD l k 0 ≡ x → ⊥)) ⊎ ((spot l n x < suc n) × (getD l (spot l n x) 0 ≡ x))
-    go f (inl p) = inl (p .0, λ k h e. decided (eqb k n) (λ q. f (ap (λ (j : ℕ). getD l j 0) (sym (eqb-true k n q)) ∙ e)) (λ q. p .1 k (omega (arith, eqb-false k n q)) e))
+    go f (inl p) =
+        inl (p .0, λ k h e. decided (eqb k n) (λ q. f (ap (λ (j : ℕ). getD l j 0) (sym (eqb-true k n q)) ∙ e)) (λ q. p .1 k (omega (arith, eqb-false k n q)) e))
     go f (inr p) = inr (omega (arith, p .0), p .1)
 
 -- no node stands at two stops
@@ -117,7 +120,8 @@ mem-found x (y ∷ l) t =
 pub drop-found : (x : ℕ) (l : List ℕ) (k : ℕ) → T (mem x (drop k l)) → Found l k (length l) x
 drop-found x l zero t = mem-found x l t
 drop-found x [] (suc k) t = absurd t
-drop-found x (y ∷ l) (suc k) t = let f = drop-found x l k t in record { i = suc (f .i); low = omega (arith, f .low); high = omega (arith, f .high); is = f .is }
+drop-found x (y ∷ l) (suc k) t =
+    let f = drop-found x l k t in record { i = suc (f .i); low = omega (arith, f .low); high = omega (arith, f .high); is = f .is }
 
 found-tail : (y : ℕ) (l : List ℕ) (k x : ℕ) → Found (y ∷ l) (suc k) (length (y ∷ l)) x → Found l k (length l) x
 found-tail y l k x f = go (f .i) (f .low) (f .high) (f .is)
@@ -154,7 +158,9 @@ goes (Soiled x w) a n = n - 1
 goes (Transfer x y w) a n = till (getD a y 64)
 
 till-low : (l : List ℕ) (n x : ℕ) → till (spot l n x) ≤ n - 1
-till-low l n x = decided (eqb (spot l n x) 64) (λ e. rw e (omega arith)) (λ e. rw e (⊎-elim (λ p. absurd (eqb-false (spot l n x) 64 e (p .0))) (λ p. omega (arith, p .0)) (spot-cases l n x)))
+till-low l n x =
+    decided (eqb (spot l n x) 64) (λ e. rw e (omega arith))
+    (λ e. rw e (⊎-elim (λ p. absurd (eqb-false (spot l n x) 64 e (p .0))) (λ p. omega (arith, p .0)) (spot-cases l n x)))
 
 -- no stretch goes past the last leg
 pub goes-low : (l : List ℕ) (n : ℕ) (a : List ℕ) → Spots l n a → (j : Job) → goes j a n ≤ n - 1
@@ -198,10 +204,12 @@ module _ (l : List ℕ) (n : ℕ) (most : n ≤ 64) (fits : n ≤ length l) {k :
       near k a b = let z : till k ≡ k = rw (ne-eqb k 64 (λ e. omega arith)) in omega (arith, z)
 
       some-lt : spot l n x < n → T (ltb i (till (spot l n x))) → suc i ≤ spot l n x
-      some-lt a t = let z : till (spot l n x) ≡ spot l n x = rw (ne-eqb (spot l n x) 64 (λ e. omega arith)) in omega (arith, z, ltb→lt i (till (spot l n x)) t)
+      some-lt a t =
+          let z : till (spot l n x) ≡ spot l n x = rw (ne-eqb (spot l n x) 64 (λ e. omega arith)) in omega (arith, z, ltb→lt i (till (spot l n x)) t)
 
   -- a job is aboard on its stretch
-  pub aboard-is : (a : List ℕ) → Spots l n a → (j : Job) (i : ℕ) → i < n - 1 → aboard (behind m (suc i)) (drop (suc i) m) j ≡ cond (leb (comes j a) i && ltb i (goes j a n)) (loadOf j) 0
+  pub aboard-is : (a : List ℕ) → Spots l n a → (j : Job) (i : ℕ) → i < n - 1
+      → aboard (behind m (suc i)) (drop (suc i) m) j ≡ cond (leb (comes j a) i && ltb i (goes j a n)) (loadOf j) 0
   aboard-is a p (Clean x w) i h = rw (p .at x, spot-ahead x i, le-leb 0 i (omega arith))
   aboard-is a p (Soiled x w) i h = rw (p .at x, spot-behind x i (omega arith), lt-ltb i (n - 1) h, and-true (mem x (behind m (suc i))))
   aboard-is a p (Transfer x y w) i h = rw (p .at x, p .at y, spot-behind x i (omega arith), spot-ahead y i)

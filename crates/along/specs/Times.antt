@@ -1,12 +1,12 @@
 -- A step along the route, forward and back: how E and L go from one stop to the next, and how large they can be.
-use mathlib.Core.Path.{_≡_, refl, sym, ap, _∙_, subst}
+use mathlib.Core.Path.{_≡_, refl, sym, ap, _∙_}
 use Prim.Native.Nat.{ℕ, zero, suc, _+_, _-_, _*_, _<_, _≤_}
 use mathlib.Core.List.{List, [], _∷_}
 use mathlib.Core.Logic.{⊎-elim}
 use native.Mathlib.Numerals.{add-one}
 use native.Mathlib.Nat.{eq-or-lt-of-le, ne-of-lt}
 use native.Mathlib.Omega.{arith}
-use lib.ListN.{getD, set, take, drop, length, length-take, length-set}
+use lib.ListN.{getD, set, take, length, length-take, length-set}
 use lib.Seq.{getD-take, getD-set-same, getD-set-other}
 use lib.IntN.{ℤ, pos, _-ℤ_}
 use lib.Signed.{mag}
@@ -30,7 +30,8 @@ pub record Low (d : Day) : Type 0 where
 pub start-first : (d : Day) (l : List ℕ) (n : ℕ) → 0 < n → d .earliest (getD l 0 0) ≡ startAt d (take n l) 0
 start-first d l n h = rw (getD-take n l 0 0 h)
 
-pub start-turn : (d : Day) (l : List ℕ) (n i : ℕ) {t : ℕ} → i + 1 < n → t ≡ startAt d (take n l) i → arrives d t (getD l i 0) (getD l (i + 1) 0) ≡ startAt d (take n l) (i + 1)
+pub start-turn : (d : Day) (l : List ℕ) (n i : ℕ) {t : ℕ} → i + 1 < n → t ≡ startAt d (take n l) i
+    → arrives d t (getD l i 0) (getD l (i + 1) 0) ≡ startAt d (take n l) (i + 1)
 start-turn d l n i h e = rw (add-one i, e, ← getD-take n l i 0 (omega arith), ← getD-take n l (suc i) 0 (omega arith))
 
 start-far : (d : Day) → Low d → (A : List ℕ) (x : ℕ) → start d A x < 12884901888 * (length A + 1)
@@ -51,13 +52,17 @@ pub record From {A : Type 0} (f : ℕ → A) (d : A) (lo hi : ℕ) (l : List A) 
   pub long : length l ≡ 64
   pub at : (k : ℕ) → lo ≤ k → k < hi → getD l k d ≡ f k
 
-pub from-last : {A : Type 0} (f : ℕ → A) (d : A) (n : ℕ) (l : List A) (v : A) → length l ≡ 64 → 0 < n → n ≤ 64 → v ≡ f (n - 1) → From f d (n - 1) n (set l (n - 1) v)
-from-last f d n l v m g h e = record { long = length-set l (n - 1) v ∙ m; at = λ k a b. let q : k ≡ n - 1 = omega arith in rw q (getD-set-same l (n - 1) v d (omega arith) ∙ e) }
+pub from-last : {A : Type 0} (f : ℕ → A) (d : A) (n : ℕ) (l : List A) (v : A) → length l ≡ 64 → 0 < n → n ≤ 64 → v ≡ f (n - 1)
+    → From f d (n - 1) n (set l (n - 1) v)
+from-last f d n l v m g h e =
+    record { long = length-set l (n - 1) v ∙ m; at = λ k a b. let q : k ≡ n - 1 = omega arith in rw q (getD-set-same l (n - 1) v d (omega arith) ∙ e) }
 
-pub from-down : {A : Type 0} {f : ℕ → A} {d : A} (i : ℕ) {hi : ℕ} {l : List A} {v : A} → 0 < i → i ≤ 64 → v ≡ f (i - 1) → From f d i hi l → From f d (i - 1) hi (set l (i - 1) v)
+pub from-down : {A : Type 0} {f : ℕ → A} {d : A} (i : ℕ) {hi : ℕ} {l : List A} {v : A} → 0 < i → i ≤ 64 → v ≡ f (i - 1) → From f d i hi l
+    → From f d (i - 1) hi (set l (i - 1) v)
 from-down {f = f} {d = d} i {hi} {l} {v} g h e p = record {
   long = length-set l (i - 1) v ∙ p .long;
-  at = λ k a b. ⊎-elim (λ q. rw (← q) (getD-set-same l (i - 1) v d (omega (arith, p .long)) ∙ e)) (λ q. getD-set-other l (i - 1) k v d (λ z. ne-of-lt q (sym z)) ∙ p .at k (omega arith) b) (eq-or-lt-of-le a);
+  at = λ k a b. ⊎-elim (λ q. rw (← q) (getD-set-same l (i - 1) v d (omega (arith, p .long)) ∙ e))
+      (λ q. getD-set-other l (i - 1) k v d (λ z. ne-of-lt q (sym z)) ∙ p .at k (omega arith) b) (eq-or-lt-of-le a);
 }
 
 pub from-all : {A : Type 0} {f : ℕ → A} {d : A} {hi : ℕ} {l : List A} {i : ℕ} → i ≡ 0 → From f d i hi l → Filled 64 f d hi l
@@ -75,7 +80,8 @@ last-turn d l n (suc i) {z} g h k e =
     rw (q, e, ← getD-take n l i 0 (omega arith), ← getD-take n l (suc i) 0 h) (sym (last-next d (take n l) i (simp length-take (omega arith))))
 
 -- the same from what the code has read
-pub last-told : (d : Day) (l : List ℕ) (n i : ℕ) {z r o : ℤ} {b c : ℕ} → 0 < i → i < n → n ≤ length l → z ≡ lastAt d (take n l) i → r ≡ minZ o (z -ℤ pos (b + c))
+pub last-told : (d : Day) (l : List ℕ) (n i : ℕ) {z r o : ℤ} {b c : ℕ} → 0 < i → i < n → n ≤ length l → z ≡ lastAt d (take n l) i
+    → r ≡ minZ o (z -ℤ pos (b + c))
     → o ≡ lastMoment d (getD l (i - 1) 0) → b ≡ d .service (getD l (i - 1) 0) → c ≡ d .seconds (getD l (i - 1) 0) (getD l i 0) → r ≡ lastAt d (take n l) (i - 1)
 last-told d l n i {z} g h k e f p q s = f ∙ (λ j. minZ (p j) (z -ℤ pos (q j + s j))) ∙ last-turn d l n i g h k e
 
@@ -84,8 +90,10 @@ last-told d l n i {z} g h k e f p q s = f ∙ (λ j. minZ (p j) (z -ℤ pos (q j
 pub length-first : (d : Day) (l : List ℕ) → 0 ≡ driven d (take 1 l)
 length-first d l = sym (driven-first d l)
 
-pub length-turn : (d : Day) (l : List ℕ) (i : ℕ) {t : ℕ} → i + 1 < length l → t ≡ driven d (take (i + 1) l) → t + d .metres (getD l i 0) (getD l (i + 1) 0) ≡ driven d (take (i + 1 + 1) l)
-length-turn d l i {t} h e = rw (add-one i, add-one (suc i)) (ap (λ (v : ℕ). v + d .metres (getD l i 0) (getD l (suc i) 0)) (rw (add-one i) at e) ∙ sym (driven-next d l i (omega arith)))
+pub length-turn : (d : Day) (l : List ℕ) (i : ℕ) {t : ℕ} → i + 1 < length l → t ≡ driven d (take (i + 1) l)
+    → t + d .metres (getD l i 0) (getD l (i + 1) 0) ≡ driven d (take (i + 1 + 1) l)
+length-turn d l i {t} h e =
+    rw (add-one i, add-one (suc i)) (ap (λ (v : ℕ). v + d .metres (getD l i 0) (getD l (suc i) 0)) (rw (add-one i) at e) ∙ sym (driven-next d l i (omega arith)))
 
 driven-far : (d : Day) → Low d → (l : List ℕ) → driven d l ≤ 4294967296 * length l
 driven-far d w [] = omega arith

@@ -9,7 +9,7 @@ use native.Mathlib.Nat.{eq-or-lt-of-le, le-of-suc-le-suc}
 use native.Mathlib.Omega.{arith}
 use lib.Dec.{T, leb, eqb}
 use lib.ListN.{getD, length}
-use Rattle.laws.specs.Logic.{T→true, true→T, N→false, tf, and-i, and-l, and-r, neqb}
+use Rattle.laws.specs.Logic.{T→true, true→T, and-i, and-l, and-r}
 use Rattle.bits.specs.Places.{has, without}
 use Rattle.bits.specs.Members.{has-none, without-same, without-other, without-part}
 use Rattle.along.specs.declared.walks.Ride.{Ride}
@@ -118,7 +118,8 @@ pub walk-end : (f g : ℕ → Bool) (b : Bool) (n : ℕ) → b ≡ walkDown f g 
 unfolding walkDown
 walk-end f g b n = let e : n - n ≡ 0 = omega arith in rw e
 
-pub walk-down : (f g : ℕ → Bool) (b : Bool) (n i : ℕ) {ok : Bool} → 0 < i → i ≤ n → ok ≡ walkDown f g b i (n - i) → (f (i - 1) && (g (i - 1) || ok)) ≡ walkDown f g b (i - 1) (n - (i - 1))
+pub walk-down : (f g : ℕ → Bool) (b : Bool) (n i : ℕ) {ok : Bool} → 0 < i → i ≤ n → ok ≡ walkDown f g b i (n - i)
+    → (f (i - 1) && (g (i - 1) || ok)) ≡ walkDown f g b (i - 1) (n - (i - 1))
 unfolding walkDown
 walk-down f g b n i p q e =
     let k : n - (i - 1) ≡ suc (n - i) = omega arith in

@@ -33,7 +33,8 @@ pub fn forward(word: u64, route: &[usize; 64], h: &[usize; 64], legs: usize, rid
         let p = route[i];
         let v = h[i];
         let met = (p == ride.partner) | bits::has(ride.places, p);
-        ok = (v + ride.load <= ride.capacity) & (met | ok);
+        let fits = v + ride.load <= ride.capacity;
+        ok = fits & (met | ok);
         w = strike(w, p, ok);
         i += 1;
     }
@@ -54,7 +55,8 @@ pub fn backward(word: u64, route: &[usize; 64], h: &[usize; 64], legs: usize, ri
         let p = route[i];
         let v = h[i];
         let met = (k == ride.partner) | bits::has(ride.places, p);
-        ok = (v + ride.load <= ride.capacity) & (met | ok);
+        let room = v + ride.load <= ride.capacity;
+        ok = room & (met | ok);
         w = strike(w, p, ok);
     }
     w

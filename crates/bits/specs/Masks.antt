@@ -1,20 +1,19 @@
 -- What the machine's operations on words do to the sets: or, and, complement, the lowest set bit.
-use mathlib.Core.Path.{_≡_, refl, ap, ap₂, sym, _∙_, subst}
-use mathlib.Core.Bool.{Bool, true, false, not, _&&_}
-use mathlib.Core.Logic.{⊎-elim}
-use Prim.Native.Nat.{ℕ, zero, suc, _+_, _-_, _*_, _/_, _%_, _^_, _≤_, _<_, min}
+use mathlib.Core.Path.{_≡_, refl, ap, sym, _∙_, subst}
+use mathlib.Core.Bool.{Bool, true, false, not, _&&_, and-true, and-false}
+use Prim.Native.Nat.{ℕ, zero, suc, _+_, _-_, _*_, _/_, _%_, _^_, _<_, min}
 use native.Mathlib.Nat.{pow-succ', mod-eq-of-lt, zero-add}
 use native.Mathlib.Numerals.{one-add}
 use native.Mathlib.Omega.{arith}
-use lib.Pow.{pow-pos, pow-lt}
+use lib.Pow.{pow-lt}
 use lib.Bits.{bitAnd, bitOr, and-step, and-shr, and-high, and-lt, and-self, or-add-and}
-use lib.Count.{trailingZeros, under}
-use lib.Dec.{eqb, ltb}
-use borrow.Author.Tests.{eqb-true, eqb-false, eq-eqb, ne-eqb, ltb-true, ltb-false}
+use lib.Count.{trailingZeros}
+use lib.Dec.{eqb}
+use borrow.Author.Tests.{eqb-true, eqb-false, eq-eqb, ne-eqb}
 use Rattle.laws.specs.Logic.{decided}
 use Rattle.bits.specs.Places.{digit, has, with, without, minus, within, lowest}
-use Rattle.bits.specs.Digits.{digit-zero, digit-suc, digit-lt, digit-none, add-same, add-other}
-use Rattle.bits.specs.Members.{digit-has, digit-not, has-digit, not-digit, has-same, has-ext, has-none, false-true, with-yes, with-no, without-yes, without-same, without-other, without-no, without-fits, within-has, within-make}
+use Rattle.bits.specs.Digits.{digit-zero, digit-suc, digit-none, add-same, add-other}
+use Rattle.bits.specs.Members.{digit-has, digit-not, has-digit, not-digit, has-same, has-ext, false-true, with-yes, with-no, without-yes, without-same, without-other, without-fits, within-has, within-make}
 
 -- 1 << p is 2 ^ p
 pub shl-one : (p : ℕ) → p < 64 → (1 * 2 ^ p) % 2 ^ 64 ≡ 2 ^ p
@@ -114,16 +113,8 @@ without-mask w p f l =
     has-ext (minus w (2 ^ p)) (without w p) (minus-fits w (2 ^ p) f) (without-fits w p f) (λ i m.
     has-minus w (2 ^ p) i (pow-lt l) m
     ∙ decided (eqb i p)
-    (λ e. let q = eqb-true i p e in rw (q, one-same p) (none (has w p) ∙ sym (without-same w p)))
-    (λ e. let q = eqb-false i p e in rw (one-other p i q, without-other w p i q) (all (has w i))))
-  where
-    none : (x : Bool) → x && false ≡ false
-    none true = refl
-    none false = refl
-
-    all : (x : Bool) → x && true ≡ x
-    all true = refl
-    all false = refl
+    (λ e. let q = eqb-true i p e in rw (q, one-same p) (and-false (has w p) ∙ sym (without-same w p)))
+    (λ e. let q = eqb-false i p e in rw (one-other p i q, without-other w p i q) (and-true (has w i))))
 
 -- ---- the least member: from the lowest digit, which is 0 or 1
 

@@ -6,7 +6,7 @@ use native.Mathlib.Omega.{arith}
 use lib.Dec.{T, eqb, ltb, eqb·suc-zero}
 use borrow.Author.Tests.{eqb-true, eqb-false, eq-eqb, ne-eqb, ltb-true, ltb-false, lt-ltb, le-ltb}
 use Rattle.laws.specs.Logic.{decided, true→T, T→true, imp-i, imp-e}
-use Rattle.laws.specs.Below.{allBelow, below-at, below-make, below-find}
+use Rattle.laws.specs.Below.{below-at, below-make, below-find}
 use Rattle.bits.specs.Places.{digit, has, with, without, within}
 use Rattle.bits.specs.Digits.{digit-zero, digit-suc, digit-lt, digit-high, digit-none, digits-ext, add-same, add-other, sub-same, sub-other, add-fits}
 
@@ -142,9 +142,6 @@ unfolding within
 within-make a b f =
     below-make 64 (λ q. not (has a q) || has b q)
     (λ p l. T→true _ (imp-i (has a p) (has b p) (λ t. true→T (has b p) (f p l (T→true (has a p) t)))))
-
-pub within-refl : (a : ℕ) → within a a ≡ true
-within-refl a = within-make a a (λ p l h. h)
 
 pub within-trans : (a b c : ℕ) → within a b ≡ true → within b c ≡ true → within a c ≡ true
 within-trans a b c e f = within-make a c (λ p l h. within-has b c f p l (within-has a b e p l h))

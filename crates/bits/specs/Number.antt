@@ -1,7 +1,7 @@
 -- The number of members is the count of ones (01, State).
 use mathlib.Core.Path.{_≡_, refl, ap, ap₂, sym, _∙_}
-use mathlib.Core.Bool.{Bool, true, false}
-use Prim.Native.Nat.{ℕ, zero, suc, _+_, _*_, _/_, _%_, _^_, _≤_, _<_}
+use mathlib.Core.Bool.{true, false}
+use Prim.Native.Nat.{ℕ, zero, suc, _+_, _/_, _%_, _^_, _≤_, _<_}
 use native.Mathlib.Nat.{mod-lt, mod-eq-of-lt}
 use native.Mathlib.Numerals.{one-add}
 use native.Mathlib.Omega.{arith}
@@ -10,7 +10,7 @@ use lib.Count.{ones, ones-cat}
 use lib.Dec.{eqb}
 use borrow.Author.Tests.{eqb-true, eqb-false}
 use Rattle.laws.specs.Logic.{decided}
-use Rattle.laws.specs.Sum.{sumBelow, sum-same, sum-le, sum-lt}
+use Rattle.laws.specs.Sum.{sumBelow, sum-same, sum-lt}
 use Rattle.bits.specs.Places.{digit, has, with, within}
 use Rattle.bits.specs.Digits.{digit-lt, digit-none}
 use Rattle.bits.specs.Members.{digit-has, digit-not, same-has, with-same, with-other, with-yes, within-has, within-misses}
@@ -76,11 +76,7 @@ digits-le : (a b p : ℕ) → (has a p ≡ true → has b p ≡ true) → digit 
 digits-le a b p f =
     decided (has a p) (λ h. omega (arith, digit-has a p h, digit-has b p (f h))) (λ h. omega (arith, digit-not a p h))
 
--- a part has no more members, and fewer where it is not the whole
-pub members-within : (a b : ℕ) → within a b ≡ true → members 64 a ≤ members 64 b
-unfolding members
-members-within a b e = sum-le 64 (digit a) (digit b) (λ p l. digits-le a b p (within-has a b e p l))
-
+-- a part that lacks a member has fewer
 pub members-fewer : (a b p : ℕ) → within a b ≡ true → p < 64 → has b p ≡ true → has a p ≡ false → members 64 a < members 64 b
 unfolding members
 members-fewer a b p e l h n =

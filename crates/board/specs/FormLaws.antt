@@ -1,8 +1,8 @@
 -- What a state in form knows, and what makes one.
-use mathlib.Core.Path.{_≡_, refl, ap, sym, _∙_}
-use mathlib.Core.Bool.{Bool, true, false, cond, not, _&&_, _||_}
+use mathlib.Core.Path.{_≡_, refl, sym, _∙_}
+use mathlib.Core.Bool.{Bool, true, false, cond, not, _&&_}
 use mathlib.Core.List.{List}
-use Prim.Native.Nat.{ℕ, zero, suc, _+_, _-_, _≤_, _<_, _^_}
+use Prim.Native.Nat.{ℕ, _+_, _-_, _≤_, _<_}
 use native.Mathlib.Omega.{arith}
 use lib.ListN.{length, getD, take, length-take}
 use lib.Seq.{getD-take}
@@ -10,13 +10,12 @@ use lib.Dec.{eqb, leb, ltb}
 use borrow.Author.Tests.{eqb-true, eqb-false, eq-eqb, leb-true, le-leb, ltb-true, ltb-false, lt-ltb, le-ltb, not-true}
 use Rattle.laws.specs.Logic.{decided, and-true}
 use Rattle.laws.specs.Below.{allBelow, below-at, below-make}
-use Rattle.laws.specs.Lists.{mem}
 use Rattle.bits.specs.Places.{has, within}
-use Rattle.bits.specs.Members.{false-true, within-has, within-none}
-use Rattle.bits.specs.Number.{members, members-lt}
+use Rattle.bits.specs.Members.{within-has, within-none}
+use Rattle.bits.specs.Number.{members-lt}
 use Rattle.board.specs.Route.{indexOf, wordOf}
 use Rattle.board.specs.RouteLaws.{index-hit, mem-at, mem-none, mem-absent, mem-index, word-mem, word-not, word-find, word-has, word-members}
-use Rattle.board.specs.Board.{Board, boardOf, routeOf, onRoute, legsOf, setOf, openAt, inner, legNode}
+use Rattle.board.specs.Board.{Board, boardOf, routeOf, onRoute, legsOf, setOf, inner, legNode}
 use Rattle.board.specs.Form.{stopOk, setOk, markOk, nodeOk, boardOk, levelOk, levelsOk, inForm, formWith}
 use Rattle.board.specs.declared.State.{State}
 
@@ -204,14 +203,6 @@ module _ (n : ℕ) (b : Board) (small : n ≤ 64) (wide : Wide b) (f : Formed n 
   pub set-legs : (y : ℕ) → y < 64 → inner n y ≡ true → onRoute b y ≡ false → within (setOf b y) (legsOf b) ≡ true
   unfolding setOk
   set-legs y l i o = rw (i, o) at (f .sets y l)
-
-  pub set-empty : (y : ℕ) → y < 64 → onRoute b y ≡ true → setOf b y ≡ 0
-  unfolding setOk
-  set-empty y l o = eqb-true (setOf b y) 0 (rw (o, none (inner n y)) at (f .sets y l))
-    where
-      none : (x : Bool) → x && false ≡ false
-      none true = refl
-      none false = refl
 
   -- every set names present legs only
   pub set-within : (y : ℕ) → y < 64 → within (setOf b y) (legsOf b) ≡ true

@@ -1,21 +1,20 @@
 -- The fresh state is in form.
-use mathlib.Core.Path.{_≡_, refl, ap, sym, _∙_, subst}
-use mathlib.Core.Bool.{Bool, true, false, cond, not, _&&_}
-use mathlib.Core.List.{List}
-use Prim.Native.Nat.{ℕ, zero, suc, _+_, _-_, _≤_, _<_, _^_}
+use mathlib.Core.Path.{_≡_, refl, ap, sym, _∙_}
+use mathlib.Core.Bool.{Bool, true, false, cond, _&&_}
+use Prim.Native.Nat.{ℕ, _-_, _≤_, _<_, _^_}
 use native.Mathlib.Omega.{arith}
-use lib.ListN.{length, getD, set, replicate, length-set, length-replicate, getD-replicate}
+use lib.ListN.{getD, set, replicate, length-set, getD-replicate}
 use lib.Seq.{getD-set-same, getD-set-other}
-use lib.Dec.{eqb, ltb}
-use borrow.Author.Tests.{eqb-true, eqb-false, eq-eqb}
+use lib.Dec.{eqb}
+use borrow.Author.Tests.{eqb-true, eqb-false}
 use Rattle.laws.specs.Logic.{decided}
-use Rattle.laws.specs.Table.{tab, length-tab, getD-tab}
+use Rattle.laws.specs.Table.{length-tab, getD-tab}
 use Rattle.bits.specs.Places.{has, within}
 use Rattle.bits.specs.Members.{has-none, has-first, within-make}
-use Rattle.board.specs.Board.{Board, board, stateOf, boardOf, routeOf, onRoute, legsOf, setOf, openAt, inner}
+use Rattle.board.specs.Board.{Board, board, stateOf, boardOf, onRoute, legsOf, setOf, openAt, inner}
 use Rattle.board.specs.Fresh.{freshState, freshSet, freshSets, fresh-is}
 use Rattle.board.specs.Form.{setOk, markOk, inForm}
-use Rattle.board.specs.FormLaws.{Routed, Formed, Wide, Levels, InForm, inner-in, off-make, leg-make, in-form-of}
+use Rattle.board.specs.FormLaws.{Routed, Formed, Wide, InForm, inner-in, off-make, leg-make, in-form-of}
 use Rattle.board.specs.Held.{Held}
 use Rattle.board.specs.declared.State.{State}
 

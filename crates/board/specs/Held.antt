@@ -1,4 +1,4 @@
--- What a state by value is: arrays of 64 entries, sets of 64 bits.
+-- What a state by value is: arrays of 64 entries, sets and marks of 64 bits.
 use mathlib.Core.Path.{_≡_}
 use Prim.Native.Nat.{ℕ, _<_, _^_}
 use lib.ListN.{length}

@@ -1,6 +1,6 @@
 -- Undoing inverts each change.
 use mathlib.Core.Path.{_≡_, refl, ap, sym, _∙_}
-use mathlib.Core.Bool.{Bool, true, false}
+use mathlib.Core.Bool.{false}
 use mathlib.Core.List.{List, [], _∷_, _++_, map}
 use Prim.Native.Nat.{ℕ, zero, suc, _+_, _-_, _≤_, _<_}
 use native.Mathlib.Omega.{arith}
@@ -8,13 +8,13 @@ use native.Mathlib.Numerals.{add-one}
 use lib.ListN.{length, getD, take, drop, set}
 use lib.Seq.{set-set, set-getD}
 use Rattle.laws.specs.Logic.{decided}
-use Rattle.bits.specs.Places.{has, with, without}
+use Rattle.bits.specs.Places.{has}
 use Rattle.bits.specs.Members.{without-with, without-no}
 use Rattle.board.specs.Route.{indexOf, insertIn, removeIn}
 use Rattle.board.specs.RouteLaws.{remove-insert, insert-route, insert-at, insert-under}
-use Rattle.board.specs.Board.{Board, board, routeOf, onRoute, legsOf, setOf, inner}
+use Rattle.board.specs.Board.{Board, board, routeOf, setOf}
 use Rattle.board.specs.Change.{heir, strike, putSet, placed, marked, unplaced, unmarked}
-use Rattle.board.specs.FormLaws.{Routed, Formed, Wide, inner-in, place-in, place-at, place-one, no-leg}
+use Rattle.board.specs.FormLaws.{Formed, Wide, inner-in, place-in, place-at, place-one, no-leg}
 use Rattle.board.specs.Keep.{Splits, split-inside, split-room, placed-wide, placed-routed, placed-on, heir-yes, heir-no}
 
 -- a set put back

@@ -1,12 +1,12 @@
 -- Each change keeps the form: a set of present legs put for a node off the route, a mark put or taken off, a placing, a placing undone.
-use mathlib.Core.Path.{_≡_, refl, ap, ap₂, sym, _∙_, subst}
-use mathlib.Core.Bool.{Bool, true, false, cond, not, _&&_, _||_}
+use mathlib.Core.Path.{_≡_, refl, ap, sym, _∙_, subst}
+use mathlib.Core.Bool.{Bool, true, false, cond, not, _&&_, and-false}
 use mathlib.Core.List.{List, map}
-use Prim.Native.Nat.{ℕ, zero, suc, _+_, _-_, _≤_, _<_}
+use Prim.Native.Nat.{ℕ, suc, _+_, _-_, _≤_, _<_}
 use native.Mathlib.Omega.{arith}
 use lib.ListN.{length, getD, set, length-set, length-map}
 use lib.Seq.{getD-set-same, getD-set-other}
-use lib.Dec.{T, eqb, ltb}
+use lib.Dec.{eqb, ltb}
 use borrow.Author.Tests.{eqb-true, eqb-false, eq-eqb, ltb-true, ltb-false}
 use Rattle.laws.specs.Logic.{decided}
 use Rattle.laws.specs.Sweep.{getD-map}
@@ -14,7 +14,7 @@ use Rattle.bits.specs.Places.{has, with, without, within}
 use Rattle.bits.specs.Members.{false-true, has-none, with-other, without-part, without-same, without-other, without-no, within-has, within-make}
 use Rattle.board.specs.Route.{indexOf, insertIn, removeIn}
 use Rattle.board.specs.RouteLaws.{length-insert, insert-at, insert-under, insert-above, length-remove, remove-under, remove-above, remove-last}
-use Rattle.board.specs.Board.{Board, board, routeOf, onRoute, legsOf, setOf, openAt, inner, legNode}
+use Rattle.board.specs.Board.{Board, board, routeOf, onRoute, legsOf, setOf, inner, legNode}
 use Rattle.board.specs.Form.{setOk, markOk}
 use Rattle.board.specs.Change.{heir, strike, putSet, placed, marked, unplaced, unmarked}
 use Rattle.board.specs.FormLaws.{Routed, Formed, Wide, inner-in, off-at, on-at, off-make, place-in, place-at, place-one, leg-inside, inner-inside, room-left, leg-at, leg-make}
@@ -253,13 +253,9 @@ module _ (n : ℕ) (b : Board) (p x : ℕ) (small : n ≤ 64) (wide : Wide b) (f
   unfolding setOk
   new-sets y l =
       decided (eqb y x)
-      (λ e. rw (eqb-true y x e, placed-on, placed-none, none (inner n x)))
+      (λ e. rw (eqb-true y x e, placed-on, placed-none, and-false (inner n x)))
       (λ e. let d = eqb-false y x e in
       set-moved n b (placed b p x) (heir p x) y (placed-others y d) (placed-set y l d) (heir-no p x 0 (has-none p)) heir-legs (f .sets y l))
-    where
-      none : (t : Bool) → t && false ≡ false
-      none true = refl
-      none false = refl
 
   pub placed-formed : Formed n (placed b p x)
   unfolding markOk placed

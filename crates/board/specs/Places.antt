@@ -1,22 +1,18 @@
 -- What each change opens and closes, place by place (01, Steps).
 use mathlib.Core.Path.{_≡_, refl, ap, sym, _∙_}
-use mathlib.Core.Bool.{Bool, true, false, cond, not, _&&_, _||_, and-false}
-use Prim.Native.Nat.{ℕ, _+_, _<_, _≤_}
+use mathlib.Core.Bool.{Bool, true, false, cond, not, _&&_, _||_, and-false, and-true, or-true, or-false}
+use Prim.Native.Nat.{ℕ, _<_, _≤_}
 use native.Mathlib.Omega.{arith}
 use lib.ListN.{length, List·getD-eq-default}
 use lib.Dec.{eqb, ltb}
-use borrow.Author.Tests.{eqb-true, eqb-false, eq-eqb, ne-eqb, ltb-true, ltb-false}
+use borrow.Author.Tests.{eqb-true, eqb-false, eq-eqb, ltb-true, ltb-false}
 use Rattle.laws.specs.Logic.{decided}
-use Rattle.bits.specs.Places.{has, with, without}
+use Rattle.bits.specs.Places.{has, without}
 use Rattle.bits.specs.Members.{has-none, with-same, with-other, without-same, without-other}
-use Rattle.board.specs.Board.{Board, onRoute, setOf, openAt, inner}
+use Rattle.board.specs.Board.{Board, setOf, openAt}
 use Rattle.board.specs.Change.{heir, putSet, placed, marked}
 use Rattle.board.specs.FormLaws.{Formed, Wide, inner-in, no-leg}
 use Rattle.board.specs.Keep.{Splits, put-same, put-other, placed-set, placed-none, heir-yes, heir-no, placed-wide}
-
-all-true : (t : Bool) → t && true ≡ t
-all-true true = refl
-all-true false = refl
 
 -- past the sets nothing is open
 pub open-past : (b : Board) (y q : ℕ) → length (b .sets) ≤ y → openAt b y q ≡ false
@@ -32,8 +28,8 @@ open-closed b p x y q l =
     rw (z, put-same b x (without (setOf b x) p) l, eq-eqb x x refl)
     (decided (eqb q p)
     (λ d. rw (eqb-true q p d, without-same (setOf b x) p, eq-eqb p p refl) (sym (and-false (has (setOf b x) p))))
-    (λ d. rw (without-other (setOf b x) p q (eqb-false q p d), d) (sym (all-true (has (setOf b x) q))))))
-    (λ e. rw (put-other b x (without (setOf b x) p) y (eqb-false y x e), e) (sym (all-true (has (setOf b y) q))))
+    (λ d. rw (without-other (setOf b x) p q (eqb-false q p d), d) (sym (and-true (has (setOf b x) q))))))
+    (λ e. rw (put-other b x (without (setOf b x) p) y (eqb-false y x e), e) (sym (and-true (has (setOf b y) q))))
 
 -- step 3 closes all of x's
 pub open-excluded : (b : Board) (x y q : ℕ) → x < length (b .sets) → openAt (putSet b x 0) y q ≡ openAt b y q && not (eqb y x)
@@ -41,23 +37,15 @@ unfolding openAt
 open-excluded b x y q l =
     decided (eqb y x)
     (λ e. let z = eqb-true y x e in rw (z, put-same b x 0 l, has-none q, eq-eqb x x refl) (sym (and-false (has (setOf b x) q))))
-    (λ e. rw (put-other b x 0 y (eqb-false y x e), e) (sym (all-true (has (setOf b y) q))))
+    (λ e. rw (put-other b x 0 y (eqb-false y x e), e) (sym (and-true (has (setOf b y) q))))
 
 -- step 4 marks x and no other
 pub mark-marked : (b : Board) (x y : ℕ) → x < 64 → has (marked b x .marks) y ≡ has (b .marks) y || eqb y x
 unfolding marked
 mark-marked b x y l =
     decided (eqb y x)
-    (λ e. rw (eqb-true y x e, with-same (b .marks) x l, eq-eqb x x refl) (sym (any-true (has (b .marks) x))))
-    (λ e. rw (with-other (b .marks) x y (eqb-false y x e), e) (sym (any-false (has (b .marks) y))))
-  where
-    any-true : (t : Bool) → t || true ≡ true
-    any-true true = refl
-    any-true false = refl
-
-    any-false : (t : Bool) → t || false ≡ t
-    any-false true = refl
-    any-false false = refl
+    (λ e. rw (eqb-true y x e, with-same (b .marks) x l, eq-eqb x x refl) (sym (or-true (has (b .marks) x))))
+    (λ e. rw (with-other (b .marks) x y (eqb-false y x e), e) (sym (or-false (has (b .marks) y))))
 
 -- step 1: x has no place left; each other node has the old places, and leg x where it had leg p
 pub open-placed : (n : ℕ) (b : Board) (p x : ℕ) → n ≤ 64 → Wide b → Formed n b → Splits n b p x → (y q : ℕ)

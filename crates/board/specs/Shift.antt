@@ -1,10 +1,10 @@
 -- The turns of the loops that put a node into an array and take one out.
-use mathlib.Core.Path.{_≡_, refl, ap, sym, _∙_}
-use mathlib.Core.List.{List, [], _∷_, _++_}
-use Prim.Native.Nat.{ℕ, zero, suc, _+_, _-_, _≤_, _<_, min}
+use mathlib.Core.Path.{_≡_, ap, sym, _∙_}
+use mathlib.Core.List.{List, _++_}
+use Prim.Native.Nat.{ℕ, zero, suc, _+_, _-_, _≤_, _<_}
 use native.Mathlib.Numerals.{add-one}
 use native.Mathlib.Omega.{arith}
-use lib.ListN.{length, getD, take, drop, set, take-append-drop}
+use lib.ListN.{length, getD, drop, set, take-append-drop}
 use Rattle.laws.specs.Sweep.{swept, swept-behind, sweep-down, sweep-up, swept-ahead, swept-end}
 use Rattle.board.specs.Route.{insertIn, removeIn}
 use Rattle.board.specs.RouteLaws.{length-insert, insert-at, insert-below, insert-above, length-remove, remove-below, remove-above, remove-last}

@@ -1,19 +1,19 @@
 -- The tests of the form, as a loop makes them: on numbers and words.
-use mathlib.Core.Path.{_≡_, refl, ap, sym, _∙_}
+use mathlib.Core.Path.{_≡_, refl}
 use mathlib.Core.Bool.{Bool, true, false, cond, not, _&&_, _||_}
 use mathlib.Core.List.{List}
-use Prim.Native.Nat.{ℕ, _-_, _≤_, _<_}
+use Prim.Native.Nat.{ℕ, _≤_, _<_}
 use native.Mathlib.Omega.{arith}
 use lib.ListN.{length, getD, take}
 use lib.Dec.{eqb, leb, ltb}
-use borrow.Author.Tests.{ltb-true, ltb-false}
+use borrow.Author.Tests.{ltb-true}
 use Rattle.laws.specs.Logic.{decided}
 use Rattle.laws.specs.Lists.{mem}
 use Rattle.bits.specs.Places.{has, within}
 use Rattle.board.specs.Route.{wordOf}
 use Rattle.board.specs.RouteLaws.{word-mem}
 use Rattle.board.specs.Board.{Board, routeOf, onRoute, legsOf, setOf, inner}
-use Rattle.board.specs.Form.{stopOk, setOk, markOk, nodeOk, levelOk}
+use Rattle.board.specs.Form.{stopOk, setOk, markOk, nodeOk}
 
 -- entry i is e, and the entries before it are the set `seen`
 abbrev pub stopTest : ℕ → ℕ → ℕ → ℕ → ℕ → Bool

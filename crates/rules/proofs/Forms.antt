@@ -139,7 +139,7 @@ placed-formed d a p x f t = record {
     is = ap (putAfter p x) (f .starts) ∙ u .is
 
 -- the same route, fewer places
-fewer-formed : {d : Day} {a : Plan} {o : Places} → o ⊆ a .places → Formed d a → Formed d (record { route = a .route; places = o; marks = a .marks })
+pub fewer-formed : {d : Day} {a : Plan} {o : Places} → o ⊆ a .places → Formed d a → Formed d (record { route = a .route; places = o; marks = a .marks })
 fewer-formed h f = record {
   tail = f .tail;
   starts = f .starts;

@@ -1,26 +1,25 @@
 -- What a caller that is ready gives the functions inside.
-use mathlib.Core.Path.{_≡_, refl, sym, ap, _∙_, subst}
-use Prim.Native.Nat.{ℕ, zero, suc, _+_, _-_, _*_, _<_, _≤_}
-use mathlib.Core.Bool.{Bool, true, false, not, _&&_}
+use mathlib.Core.Path.{_≡_, sym, ap, _∙_, subst}
+use Prim.Native.Nat.{ℕ, _-_, _<_, _≤_}
+use mathlib.Core.Bool.{Bool, true}
 use mathlib.Core.List.{List, [], _∷_}
 use native.Mathlib.Omega.{arith}
 use lib.Dec.{T, eqb→eq}
 use lib.IntN.{ℤ}
 use lib.ListN.{getD, take, length, length-take}
-use lib.Seq.{getD-take}
 use Rattle.laws.specs.Logic.{decided, true→T}
-use Rattle.laws.specs.Lists.{In, mem}
+use Rattle.laws.specs.Lists.{mem}
 use Rattle.bits.specs.Places.{has}
 use Rattle.bits.specs.Members.{has-none}
 use Rattle.rules.specs.Day.{Day, Van}
 use Rattle.rules.specs.Plan.{Plan, Places}
-use Rattle.rules.specs.Rounds.{Distinct}
-use Rattle.rules.specs.Settle.{round}
+use Rattle.rules.specs.Settle.{round, settle}
 use Rattle.rules.specs.Asked.{Formed, endsWith}
 use Rattle.rules.proofs.AlongLaws.{leg-index, mem-at}
 use Rattle.rules.proofs.Left.{_⊆_, round-less}
 use Rattle.rules.proofs.Inner.{inner-low}
-use Rattle.rules.proofs.Fixpoint.{Seen}
+use Rattle.rules.proofs.Fixpoint.{Seen, settle-less}
+use Rattle.rules.proofs.Forms.{formed-seen, fewer-formed}
 use Rattle.sheet.specs.Section.{mOf}
 use Rattle.sheet.specs.declared.Layout.{Layout}
 use Rattle.day.specs.Jobs.{jobIn}
@@ -63,9 +62,7 @@ module _ {s : List ℕ} {at : Layout} {l : List ℕ} {n : ℕ} {ws : List ℕ} {
   near-nodes i h = omega (arith, node-at route-of i h, nodes-most (r .laid))
 
   pub places-seen : Seen (dayOf s) m (placesOf ws)
-  places-seen x p t =
-      let a = leg-index p m (r .form .leg x p t) in
-      (r .form .inside x p t, subst (λ (q : ℕ). T (mem q m)) (a .2) (mem-at m (a .0) (omega (arith, a .1))))
+  places-seen = formed-seen (r .form)
 
   pub places-small : Small (placesOf ws)
   places-small x p t =
@@ -99,31 +96,44 @@ module _ {s : List ℕ} {at : Layout} {l : List ℕ} {n : ℕ} {ws : List ℕ} {
       loads = λ i k. omega (arith, read .loads .at i k, load-at-low (jobIn s) m (mOf s) i (job-low s) (r .laid .fine .m-high));
     }
 
--- a part of the places, in form
-pub formed-less : (d : Day) (a : Plan) (o : Places) → o ⊆ a .places → Formed d a → Formed d (record { route = a .route; places = o; marks = a .marks })
-formed-less d a o h f = record {
-  tail = f .tail;
-  starts = f .starts;
-  ends = f .ends;
-  nodes = f .nodes;
-  inside = λ y q t. f .inside y q (h y q t);
-  off = λ y q t. f .off y q (h y q t);
-  leg = λ y q t. f .leg y q (h y q t);
-  marked = f .marked;
-}
-
 -- the words after a round are as ready as those before
-pub ready-round : {s : List ℕ} {at : Layout} {l : List ℕ} {n : ℕ} {ws : List ℕ} {marks : ℕ} (v : Van) → Ready s at l n ws marks → {vs : List ℕ} → vs ≡ setsOf (round v (dayOf s) (take n l) (placesOf ws)) → Ready s at l n vs marks
+pub ready-round : {s : List ℕ} {at : Layout} {l : List ℕ} {n : ℕ} {ws : List ℕ} {marks : ℕ} (v : Van) → Ready s at l n ws marks → {vs : List ℕ}
+    → vs ≡ setsOf (round v (dayOf s) (take n l) (placesOf ws)) → Ready s at l n vs marks
 ready-round {s} {at} {l} {n} {ws} {marks} v r {vs} e = record {
   laid = r .laid;
-  one = r .one;
-  proper = r .proper;
+  clear = r .clear;
   long = r .long;
   sized = ap length e ∙ length-sets (round v (dayOf s) (take n l) (placesOf ws));
   most = r .most;
-  form = formed-less (dayOf s) (planFrom l n ws marks) (placesOf vs) less (r .form);
+  form = fewer-formed less (r .form);
 }
   where
     less : placesOf vs ⊆ placesOf ws
     less x p t = round-less v (dayOf s) (take n l) (placesOf ws) x p
         (subst (λ (b : Bool). T b) (ap (λ (k : List ℕ). placesOf k x p) e ∙ places-sets (round v (dayOf s) (take n l) (placesOf ws)) (λ y q u. places-small r y q (round-less v (dayOf s) (take n l) (placesOf ws) y q u)) x p) t)
+
+-- settling looks at no mark
+pub ready-unmarked : {s : List ℕ} {at : Layout} {l : List ℕ} {n : ℕ} {ws : List ℕ} {marks : ℕ} → Ready s at l n ws marks → Ready s at l n ws 0
+ready-unmarked {s} {at} {l} {n} {ws} {marks} r = record {
+  clear = r .clear;
+  laid = r .laid;
+  long = r .long;
+  sized = r .sized;
+  most = r .most;
+  form = record {
+    tail = r .form .tail;
+    starts = r .form .starts;
+    ends = r .form .ends;
+    nodes = r .form .nodes;
+    inside = r .form .inside;
+    off = r .form .off;
+    leg = r .form .leg;
+    marked = λ y t. absurd (subst (λ (b : Bool). T b) (has-none y) t);
+  };
+}
+
+-- the words after settling have the places that settling leaves
+pub settled-open : {s : List ℕ} {at : Layout} {l : List ℕ} {n : ℕ} {ws : List ℕ} {marks : ℕ} (v : Van) → Ready s at l n ws marks
+    → placesOf (setsOf (settle v (dayOf s) (take n l) (placesOf ws))) ≡ settle v (dayOf s) (take n l) (placesOf ws)
+settled-open {s} {at} {l} {n} {ws} v r = λ u x p.
+    places-sets (settle v (dayOf s) (take n l) (placesOf ws)) (λ y q t. places-small r y q (settle-less v (dayOf s) (take n l) (placesOf ws) y q t)) x p u

@@ -1,15 +1,15 @@
 -- The walks along arrays are the rules' recursions over the legs, and so are the tests that they serve.
 use mathlib.Core.Path.{_≡_, refl, sym, ap, _∙_, subst}
-use Prim.Native.Nat.{ℕ, zero, suc, _+_, _-_, _*_, _<_, _≤_}
-use mathlib.Core.Bool.{Bool, true, false, cond, not, _&&_, _||_, and-true, or-true}
-use mathlib.Core.List.{List, [], _∷_}
+use Prim.Native.Nat.{ℕ, zero, suc, _+_, _-_, _<_, _≤_}
+use mathlib.Core.Bool.{Bool, true, false, not, _&&_, _||_, and-true}
+use mathlib.Core.List.{List}
 use native.Mathlib.Numerals.{add-one}
 use native.Mathlib.Omega.{arith}
-use lib.Dec.{T, leb, eqb, eqb-refl}
+use lib.Dec.{T, leb, eqb}
 use borrow.Author.Tests.{ne-eqb, eqb-true}
 use lib.ListN.{getD, take, drop, length, length-take}
 use lib.Seq.{getD-take}
-use Rattle.laws.specs.Logic.{decided, T→true, N→false, true→T}
+use Rattle.laws.specs.Logic.{decided, true→T}
 use Rattle.laws.specs.Lists.{mem}
 use Rattle.laws.specs.Table.{Filled}
 use Rattle.bits.specs.Places.{has}
@@ -23,27 +23,35 @@ use Rattle.rules.specs.Along.{behind, loadAt}
 use Rattle.rules.specs.declared.Job.{Job}
 use Rattle.rules.specs.declared.Job.the-variants.{Clean, Soiled, Transfer}
 use Rattle.rules.proofs.AlongLaws.{atLeg, ahead-next, ahead-end, back-first, back-next, reach-ahead-next, reach-ahead-end, reach-back-first, reach-back-next, mem-at}
-use Rattle.along.specs.declared.walks.Ride.{Ride}
 use Rattle.along.specs.Walks.{walkUp, walkDown, upFlag, downFlag, fitsAt, metBehind, metAhead, ridesUp, ridesDown}
 use Rattle.settle.specs.Sets.{placesOf}
 use Rattle.settle.specs.Round.{through, between, loadOk}
 
+pub and-swap : (a b c e : Bool) → ((a && b) && (c && e)) ≡ ((a && c) && (b && e))
+and-swap true true c e = refl
+and-swap true false true e = refl
+and-swap true false false e = refl
+and-swap false b c e = refl
+
 -- ---- a walk is any recursion with its steps
 
-up-is : (f g : ℕ → Bool) (b : Bool) (n : ℕ) (u : ℕ → Bool) → (0 < n → u 0 ≡ (f 0 && (g 0 || b))) → ((i : ℕ) → suc i < n → u (suc i) ≡ (f (suc i) && (g (suc i) || u i)))
+up-is : (f g : ℕ → Bool) (b : Bool) (n : ℕ) (u : ℕ → Bool) → (0 < n → u 0 ≡ (f 0 && (g 0 || b)))
+    → ((i : ℕ) → suc i < n → u (suc i) ≡ (f (suc i) && (g (suc i) || u i)))
     → (i : ℕ) → i < n → walkUp f g b (suc i) ≡ u i
 unfolding walkUp
 up-is f g b n u e s zero h = sym (e h)
 up-is f g b n u e s (suc i) h = ap (λ (t : Bool). f (suc i) && (g (suc i) || t)) (up-is f g b n u e s i (omega arith)) ∙ sym (s i h)
 
-down-is : (f g : ℕ → Bool) (b : Bool) (n : ℕ) (u : ℕ → Bool) → u n ≡ b → ((i : ℕ) → i < n → u i ≡ (f i && (g i || u (suc i)))) → (k i : ℕ) → i + k ≡ n → walkDown f g b i k ≡ u i
+down-is : (f g : ℕ → Bool) (b : Bool) (n : ℕ) (u : ℕ → Bool) → u n ≡ b → ((i : ℕ) → i < n → u i ≡ (f i && (g i || u (suc i)))) → (k i : ℕ) → i + k ≡ n
+    → walkDown f g b i k ≡ u i
 unfolding walkDown
 down-is f g b n u e s zero i h = let q : i ≡ n = omega arith in sym (ap u q ∙ e)
 down-is f g b n u e s (suc k) i h = ap (λ (t : Bool). f i && (g i || t)) (down-is f g b n u e s k (suc i) (omega arith)) ∙ sym (s i (omega arith))
 
 -- ---- a day, a route of n stops in l, and its H
 
-module _ (v : Van) (d : Day) (l h : List ℕ) (n : ℕ) (two : 2 ≤ n) (fits : n ≤ length l) (near : (i : ℕ) → i < n → getD l i 0 < 64) (loads : Filled 64 (loadAt d (take n l)) 0 (n - 1) h) where
+module _ (v : Van) (d : Day) (l h : List ℕ) (n : ℕ) (two : 2 ≤ n) (fits : n ≤ length l) (near : (i : ℕ) → i < n → getD l i 0 < 64)
+    (loads : Filled 64 (loadAt d (take n l)) 0 (n - 1) h) where
   abbrev m : List ℕ
   m = take n l
 
@@ -112,7 +120,8 @@ module _ (v : Van) (d : Day) (l h : List ℕ) (n : ℕ) (two : 2 ≤ n) (fits : 
     none-or : (a b : Bool) → a ≡ false → b ≡ (a || b)
     none-or a b e = ap (λ (c : Bool). c || b) (sym e)
 
-    halves : (x placed u f g : Bool) → (placed ≡ true → u ≡ f) → (placed ≡ false → u ≡ g) → (not x || u) ≡ ((not x || not placed || f) && (not x || placed || g))
+    halves : (x placed u f g : Bool) → (placed ≡ true → u ≡ f) → (placed ≡ false → u ≡ g)
+        → (not x || u) ≡ ((not x || not placed || f) && (not x || placed || g))
     halves true true u f g p q = p refl ∙ sym (and-true f)
     halves true false u f g p q = q refl
     halves false true u f g p q = refl
@@ -136,7 +145,8 @@ module _ (v : Van) (d : Day) (l h : List ℕ) (n : ℕ) (two : 2 ≤ n) (fits : 
         (λ e. back-is (λ p k. eqb p a) w a (getD old a 0) (λ j q. ap (λ (t : ℕ). eqb t a) (getD-take n l j 0 (omega arith)) ∙ or-none _ _ (shut a (getD l j 0) e)) i k)
         (λ e. back-is (λ p k. o a p) w a (getD old a 0) (λ j q. ap (λ (t : ℕ). has (getD old a 0) t) (getD-take n l j 0 (omega arith)) ∙ none-or _ _ (ap (λ (t : ℕ). eqb t a) (sym (getD-take n l j 0 (omega arith))) ∙ away a j e (omega arith))) i k)
 
-    first-is : (x a b w i : ℕ) → i < n - 1 → (not (eqb a x) || ridesDown l h (between cap w b (getD old b 0)) (n - 1) i) ≡ (meetB x a b w i && holdB x a b w i)
+    first-is : (x a b w i : ℕ) → i < n - 1
+        → (not (eqb a x) || ridesDown l h (between cap w b (getD old b 0)) (n - 1) i) ≡ (meetB x a b w i && holdB x a b w i)
     first-is x a b w i k = halves (eqb a x) (mem b m) _ _ _
         (λ e. ahead-is (λ p k. eqb k b) w b (getD old b 0) (λ j q. ap (λ (t : ℕ). eqb t b) (next j q) ∙ or-none _ _ (shut b (getD l j 0) e)) i k)
         (λ e. ahead-is (λ p k. o b p) w b (getD old b 0) (λ j q. ap (λ (t : ℕ). has (getD old b 0) t) (getD-take n l j 0 (omega arith)) ∙ none-or _ _ (ap (λ (t : ℕ). eqb t b) (sym (next j q)) ∙ away b (suc j) e (omega arith))) i k)
@@ -145,16 +155,11 @@ module _ (v : Van) (d : Day) (l h : List ℕ) (n : ℕ) (two : 2 ≤ n) (fits : 
         next j q = rw (add-one j) (getD-take n l (suc j) 0 (omega arith))
 
     -- a job's load test from arrays is the rules' four
-    swap4 : (a b c e : Bool) → ((a && b) && (c && e)) ≡ ((a && c) && (b && e))
-    swap4 true true c e = refl
-    swap4 true false true e = refl
-    swap4 true false false e = refl
-    swap4 false b c e = refl
-
     pub load-is : (x i : ℕ) → i < n - 1 → (j : Job) → loadOk j old l h (n - 1) cap x i
         ≡ (cleanFits v d x (behind m (suc i)) (drop (suc i) m) j && soiledFits v d x (behind m (suc i)) (drop (suc i) m) j
         && (meetsPartner v d m x (behind m (suc i)) (drop (suc i) m) j && hasSupport v d m o x (behind m (suc i)) (drop (suc i) m) j))
     unfolding loadOk
     load-is x i k (Clean a w) = ap (λ (b : Bool). not (eqb a x) || b) (clean-is w i k) ∙ sym (and-true _) ∙ sym (and-true _)
     load-is x i k (Soiled a w) = ap (λ (b : Bool). not (eqb a x) || b) (soiled-is w i k) ∙ sym (and-true _)
-    load-is x i k (Transfer a b w) = (λ u. first-is x a b w i k u && second-is x a b w i k u) ∙ swap4 (meetB x a b w i) (holdB x a b w i) (meetA x a b w i) (holdA x a b w i)
+    load-is x i k (Transfer a b w) =
+        (λ u. first-is x a b w i k u && second-is x a b w i k u) ∙ and-swap (meetB x a b w i) (holdB x a b w i) (meetA x a b w i) (holdA x a b w i)

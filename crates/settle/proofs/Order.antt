@@ -1,22 +1,22 @@
 -- Which transfers are in wrong order, by where their nodes stand, and who is on the route.
-use mathlib.Core.Path.{_≡_, refl, sym, ap, _∙_, subst}
-use Prim.Native.Nat.{ℕ, zero, suc, _+_, _-_, _<_, _≤_}
-use mathlib.Core.Bool.{Bool, true, false, cond, not, _&&_, _||_}
+use mathlib.Core.Path.{_≡_, refl, ap, _∙_, subst}
+use Prim.Native.Nat.{ℕ, zero, suc, _-_, _<_, _≤_}
+use mathlib.Core.Bool.{false, not, _&&_}
 use mathlib.Core.List.{List, [], _∷_}
 use mathlib.Core.Logic.{⊎-elim}
 use native.Mathlib.Omega.{arith}
-use lib.Dec.{T, T-not, ltb, eqb, eqb→eq, ltb→lt, lt→ltb}
-use borrow.Author.Tests.{eq-eqb, eqb-true, lt-ltb, le-ltb}
+use lib.Dec.{T, ltb, eqb, eqb→eq, ltb→lt, lt→ltb}
+use borrow.Author.Tests.{eq-eqb}
 use lib.ListN.{getD, take, length, length-take}
 use lib.Seq.{getD-take}
-use Rattle.laws.specs.Logic.{decided, T-ext, and-i, and-l, and-r, cond-yes, cond-no, tf, true→T, T→true}
+use Rattle.laws.specs.Logic.{T-ext, and-i, and-l, and-r, cond-yes, cond-no, tf}
 use Rattle.laws.specs.Lists.{mem}
 use Rattle.rules.specs.Rounds.{Distinct, none, more}
 use Rattle.rules.specs.Verdict.{wrong, wrongWay}
 use Rattle.rules.specs.declared.Job.{Job}
 use Rattle.rules.specs.declared.Job.the-variants.{Clean, Soiled, Transfer}
 use Rattle.rules.proofs.AlongLaws.{mem-at, stops-apart}
-use Rattle.along.specs.Spots.{spot, spot-cases, Spots, Found, mem-found, spot-found}
+use Rattle.along.specs.Spots.{spot, spot-cases, Spots, mem-found, spot-found}
 use Rattle.settle.specs.Verdict.{onSpot, orderOk}
 
 -- b at the i-th stop, a at the j-th behind it
@@ -30,7 +30,9 @@ pub record Before (a b : ℕ) (l : List ℕ) : Type 0 where
 
 wrong-e : (a b : ℕ) (l : List ℕ) → T (wrong a b l) → Before a b l
 wrong-e a b [] t = absurd t
-wrong-e a b (x ∷ l) t = ⊎-elim here (λ n. later (wrong-e a b l (and-r (not (eqb x a)) (wrong a b l) (cond-no (eqb x b) (mem a l) (not (eqb x a) && wrong a b l) n t)))) (tf (eqb x b))
+wrong-e a b (x ∷ l) t =
+    ⊎-elim here (λ n. later (wrong-e a b l (and-r (not (eqb x a)) (wrong a b l) (cond-no (eqb x b) (mem a l) (not (eqb x a) && wrong a b l) n t))))
+    (tf (eqb x b))
   where
     here : T (eqb x b) → Before a b (x ∷ l)
     here e = let f = mem-found a l (cond-yes (eqb x b) (mem a l) (not (eqb x a) && wrong a b l) e t) in

@@ -1,16 +1,15 @@
 -- No node is owed and has no place: by the marks, then by the transfers, each of which calls for its other end.
-use mathlib.Core.Path.{_≡_, refl, sym, ap, _∙_, subst}
-use Prim.Native.Nat.{ℕ, zero, suc, _+_, _-_, _<_, _≤_}
+use mathlib.Core.Path.{_≡_, sym, ap, _∙_, subst}
+use Prim.Native.Nat.{ℕ, _+_, _-_}
 use mathlib.Core.Bool.{Bool, true, false, not, _&&_, _||_}
-use mathlib.Core.List.{List, [], _∷_}
+use mathlib.Core.List.{List}
 use mathlib.Core.Logic.{⊎-elim}
-use native.Mathlib.Numerals.{add-one}
 use native.Mathlib.Omega.{arith}
 use lib.Dec.{T, T-not, eqb, eqb→eq, eqb-refl}
-use borrow.Author.Tests.{eqb-true, eq-eqb}
-use lib.ListN.{getD, take, length}
-use Rattle.laws.specs.Logic.{decided, T-ext, tf, true→T, T→true, N→false, false→N, and-i, and-l, and-r, or-l, or-r, or-e, imp-i, imp-e}
-use Rattle.laws.specs.Lists.{mem, all, any, In, mem-in, in-mem, all-in, all-i, any-i, any-e}
+use borrow.Author.Tests.{eq-eqb}
+use lib.ListN.{getD}
+use Rattle.laws.specs.Logic.{decided, T-ext, tf, true→T, T→true, and-i, and-l, and-r, or-l, or-r, or-e, imp-i, imp-e}
+use Rattle.laws.specs.Lists.{mem, all, any, In, mem-in, all-in, all-i, any-i, any-e}
 use Rattle.laws.specs.Below.{allBelow, below-at, below-make}
 use Rattle.bits.specs.Places.{has}
 use Rattle.bits.specs.Members.{has-none}
@@ -24,7 +23,7 @@ use Rattle.rules.specs.declared.Job.the-variants.{Clean, Soiled, Transfer}
 use Rattle.rules.proofs.Inner.{inner-low, mem-down}
 use Rattle.rules.proofs.AlongLaws.{leg-index, mem-at}
 use Rattle.settle.specs.Sets.{placesOf, word-ext}
-use Rattle.settle.specs.Verdict.{called, standing, markOk, endsOk}
+use Rattle.settle.specs.Verdict.{standing, markOk, endsOk}
 
 module _ (d : Day) (m ws : List ℕ) (marks : ℕ) (proper : Proper d) (leg : (y q : ℕ) → T (placesOf ws y q) → T (mem q (legStops m))) where
   abbrev plan : Plan
@@ -42,10 +41,16 @@ module _ (d : Day) (m ws : List ℕ) (marks : ℕ) (proper : Proper d) (leg : (y
   -- ---- a node has an open place exactly if its word is not 0
 
   open-word : (x : ℕ) → T (hasPlace plan x) → T (not (eqb (getD ws x 0) 0))
-  open-word x t = any-e (placesOf ws x) m (λ q i u. ⊎-elim (λ e. absurd (subst (λ (b : Bool). T b) (ap (λ (w : ℕ). has w q) (eqb→eq (getD ws x 0) 0 e) ∙ has-none q) u)) (λ e. e) (tf (eqb (getD ws x 0) 0))) t
+  open-word x t =
+      any-e (placesOf ws x) m
+      (λ q i u. ⊎-elim (λ e. absurd (subst (λ (b : Bool). T b) (ap (λ (w : ℕ). has w q) (eqb→eq (getD ws x 0) 0 e) ∙ has-none q) u)) (λ e. e) (tf (eqb (getD ws x 0) 0)))
+      t
 
   word-open : (x : ℕ) → T (not (eqb (getD ws x 0) 0)) → T (hasPlace plan x)
-  word-open x t = ⊎-elim (λ u. u) (λ u. absurd (T-not (eqb (getD ws x 0) 0) t (true→T _ (eq-eqb (getD ws x 0) 0 (word-ext (getD ws x 0) 0 (λ q. empty u q ∙ sym (has-none q))))))) (tf (hasPlace plan x))
+  word-open x t =
+      ⊎-elim (λ u. u)
+      (λ u. absurd (T-not (eqb (getD ws x 0) 0) t (true→T _ (eq-eqb (getD ws x 0) 0 (word-ext (getD ws x 0) 0 (λ q. empty u q ∙ sym (has-none q)))))))
+      (tf (hasPlace plan x))
     where
       empty : T (not (hasPlace plan x)) → (q : ℕ) → has (getD ws x 0) q ≡ false
       empty u q = decided (has (getD ws x 0) q)

@@ -1,10 +1,10 @@
 -- The route's part of the verdict, and the whole of it, from what the code finds in its arrays.
-use mathlib.Core.Path.{_≡_, refl, sym, ap, _∙_, subst}
-use Prim.Native.Nat.{ℕ, zero, suc, _+_, _-_, _<_, _≤_}
+use mathlib.Core.Path.{_≡_, refl, sym, ap, _∙_}
+use Prim.Native.Nat.{ℕ, _-_, _≤_}
 use mathlib.Core.Bool.{Bool, true, false, not, _&&_, _||_}
 use mathlib.Core.List.{List, [], _∷_}
 use native.Mathlib.Omega.{arith}
-use lib.Dec.{T, leb, ltb, eqb}
+use lib.Dec.{T, leb}
 use lib.ListN.{getD, take, length, length-take}
 use lib.Seq.{getD-take}
 use Rattle.laws.specs.Lists.{mem, all, any}
@@ -16,11 +16,10 @@ use Rattle.rules.specs.Leg.{everyLeg, legStops}
 use Rattle.rules.specs.Time.{inTime, onTime}
 use Rattle.rules.specs.Metres.{driven}
 use Rattle.rules.specs.Load.{carries}
-use Rattle.rules.specs.Plan.{Plan}
 use Rattle.rules.specs.Rounds.{Distinct}
 use Rattle.rules.specs.Asked.{Proper}
 use Rattle.rules.specs.Verdict.{partnered, owed, hasPlace, wrongWay, alive}
-use Rattle.rules.specs.Along.{startAt, loadAt}
+use Rattle.rules.specs.Along.{startAt}
 use Rattle.rules.specs.declared.Job.{Job}
 use Rattle.rules.proofs.AlongLaws.{atLeg, on-time-all, every-all}
 use Rattle.along.specs.Spots.{Spots}
@@ -39,7 +38,8 @@ any-all f (x ∷ l) = go (f x) ∙ ap (λ (b : Bool). f x || b) (any-all f l)
     go true = refl
     go false = refl
 
-module _ (d : Day) (g : ℕ → Job) (jobs : ℕ) (told : d .jobs ≡ tab jobs g) (l : List ℕ) (n : ℕ) (long : length l ≡ 64) (most : n ≤ 64) {k : ℕ} (nodes : Distinct k (take n l)) (spots : List ℕ) (at : Spots l n spots) where
+module _ (d : Day) (g : ℕ → Job) (jobs : ℕ) (told : d .jobs ≡ tab jobs g) (l : List ℕ) (n : ℕ) (long : length l ≡ 64) (most : n ≤ 64) {k : ℕ}
+    (nodes : Distinct k (take n l)) (spots : List ℕ) (at : Spots l n spots) where
   abbrev m : List ℕ
   m = take n l
 
@@ -52,7 +52,8 @@ module _ (d : Day) (g : ℕ → Job) (jobs : ℕ) (told : d .jobs ≡ tab jobs g
 
   -- ---- owed
 
-  pub owed-told : (marks x : ℕ) {o h p : Bool} → o ≡ onSpot spots x → h ≡ has marks x → p ≡ not (allBelow jobs (λ k. not (partnered (called (onSpot spots) marks) x (g k))))
+  pub owed-told : (marks x : ℕ) {o h p : Bool} → o ≡ onSpot spots x → h ≡ has marks x
+      → p ≡ not (allBelow jobs (λ k. not (partnered (called (onSpot spots) marks) x (g k))))
       → (not o && (h || p)) ≡ owed d m (has marks) x
   unfolding owed
   owed-told marks x e f q = λ u. not ((e ∙ on-is l n most (omega arith) nodes spots at x) u) && (f u || (q ∙ pairs) u)
@@ -81,7 +82,8 @@ module _ (d : Day) (g : ℕ → Job) (jobs : ℕ) (told : d .jobs ≡ tab jobs g
         below-same jobs _ (λ q. not (wrongWay m (g q))) (λ q b. order-is l n most (omega arith) nodes spots at (g q))
         ∙ below-tab (λ j. not (wrongWay m j)) jobs g ∙ ap (all (λ j. not (wrongWay m j))) (sym told)
 
-    pub road-told : {a b c : Bool} → a ≡ allBelow n (λ i. inTime d (getD l i 0) (getD e i 0)) → b ≡ allBelow (n - 1) (λ i. leb (getD h i 0) (v .capacity)) → c ≡ allBelow jobs (ofJob (orderOk spots) g)
+    pub road-told : {a b c : Bool} → a ≡ allBelow n (λ i. inTime d (getD l i 0) (getD e i 0)) → b ≡ allBelow (n - 1) (λ i. leb (getD h i 0) (v .capacity))
+        → c ≡ allBelow jobs (ofJob (orderOk spots) g)
         → (((a && leb total (v .limit)) && b) && c) ≡ roadOk v d m
     unfolding roadOk
     road-told a b c = λ u. (((a ∙ windows) u && leb (ridden .metres u) (v .limit)) && (b ∙ loads) u) && (c ∙ order) u

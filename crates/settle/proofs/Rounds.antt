@@ -1,44 +1,35 @@
 -- A round over the words is the rules' round.
 use mathlib.Core.Path.{_≡_, refl, sym, ap, _∙_, subst}
-use Prim.Native.Nat.{ℕ, zero, suc, _+_, _-_, _*_, _<_, _≤_}
-use mathlib.Core.Bool.{Bool, true, false, cond, not, _&&_, _||_, and-true, and-assoc}
+use Prim.Native.Nat.{ℕ, zero, suc, _-_, _<_, _≤_}
+use mathlib.Core.Bool.{Bool, true, false, not, _&&_, and-true, and-assoc}
 use mathlib.Core.List.{List, [], _∷_}
 use native.Mathlib.Numerals.{add-one}
 use native.Mathlib.Omega.{arith}
-use lib.Dec.{T, leb, ltb, eqb}
-use lib.IntN.{ℤ, pos}
-use lib.Signed.{leZ}
+use lib.Dec.{T}
+use lib.IntN.{ℤ}
 use lib.ListN.{getD, take, drop, length, length-take}
 use lib.Seq.{getD-take}
 use Rattle.laws.specs.Logic.{decided, T-ext, true→T}
 use Rattle.laws.specs.Lists.{mem, all}
 use Rattle.laws.specs.Below.{allBelow, below-same}
-use Rattle.laws.specs.Table.{tab, Filled}
+use Rattle.laws.specs.Table.{tab}
 use Rattle.rules.specs.Day.{Day, Van}
 use Rattle.rules.specs.Leg.{onLeg, legStops}
-use Rattle.rules.specs.Metres.{driven}
-use Rattle.rules.specs.Plan.{Plan, Places}
+use Rattle.rules.specs.Plan.{Places}
 use Rattle.rules.specs.Rounds.{Distinct}
 use Rattle.rules.specs.Tests.{cleanFits, soiledFits, meetsPartner, hasSupport, window, short, clean, soiled, partnerPlaced, neitherPlaced, stays}
 use Rattle.rules.specs.Settle.{round}
-use Rattle.rules.specs.Asked.{Formed}
-use Rattle.rules.specs.Along.{behind, startAt, lastAt, loadAt}
+use Rattle.rules.specs.Along.{behind}
 use Rattle.rules.specs.declared.Job.{Job}
 use Rattle.rules.proofs.AlongLaws.{atLeg, window-at, short-at, on-leg, leg-index}
 use Rattle.rules.proofs.Left.{round-less, round-leg, round-left}
 use Rattle.along.specs.Spots.{node-low}
 use Rattle.settle.specs.Sets.{placesOf, setsOf, sets-ext}
-use Rattle.settle.specs.Round.{Kepts, stands, standsAt, loadOk, loadsOk, placeOk}
+use Rattle.settle.specs.Round.{Kepts, stands, standsAt, loadsOk, placeOk}
 use Rattle.settle.specs.Ready.{Read}
-use Rattle.settle.proofs.Legs.{load-is}
+use Rattle.settle.proofs.Legs.{and-swap, load-is}
 
 -- ---- tests of a list of jobs
-
-and-swap : (a b c e : Bool) → ((a && b) && (c && e)) ≡ ((a && c) && (b && e))
-and-swap true true c e = refl
-and-swap true false true e = refl
-and-swap true false false e = refl
-and-swap false b c e = refl
 
 pub all-both : {A : Type 0} (f g : A → Bool) (l : List A) → all (λ j. f j && g j) l ≡ (all f l && all g l)
 all-both f g [] = refl
@@ -56,7 +47,8 @@ below-tab f (suc n) g = below-front n (λ k. f (g k)) ∙ ap (λ (b : Bool). f (
 
 -- ---- what the arrays say of a place is what the rules say
 
-module _ (v : Van) (d : Day) (g : ℕ → Job) (jobs : ℕ) (told : d .jobs ≡ tab jobs g) (l : List ℕ) (n : ℕ) (long : length l ≡ 64) (two : 2 ≤ n) (most : n ≤ 64) (small : d .n ≤ 64)
+module _ (v : Van) (d : Day) (g : ℕ → Job) (jobs : ℕ) (told : d .jobs ≡ tab jobs g) (l : List ℕ) (n : ℕ) (long : length l ≡ 64) (two : 2 ≤ n) (most : n ≤ 64)
+    (small : d .n ≤ 64)
     (nodes : Distinct (d .n) (take n l)) (e : List ℕ) (z : List ℤ) (h : List ℕ) (total : ℕ) (read : Read d l n e z h total) where
   abbrev m : List ℕ
   m = take n l
@@ -115,7 +107,8 @@ module _ (v : Van) (d : Day) (g : ℕ → Job) (jobs : ℕ) (told : d .jobs ≡ 
         ∙ six (atLeg (window v d m o x) m i) (atLeg (short v d m o x) m i) (atLeg (clean v d m o x) m i) (atLeg (soiled v d m o x) m i) (atLeg (partnerPlaced v d m o x) m i) (atLeg (neitherPlaced v d m o x) m i)
 
     -- what is open after the code's round is what the rules' round leaves
-    pub round-places : (new : List ℕ) → Kepts l (n - 1) (placeOk d g jobs (v .capacity) (v .limit) old l e z h (n - 1) total) old new → (x q : ℕ) → placesOf new x q ≡ round v d m o x q
+    pub round-places : (new : List ℕ) → Kepts l (n - 1) (placeOk d g jobs (v .capacity) (v .limit) old l e z h (n - 1) total) old new → (x q : ℕ)
+        → placesOf new x q ≡ round v d m o x q
     round-places new kept x q = T-ext (placesOf new x q) (round v d m o x q) there′ back′
       where
         there′ : T (placesOf new x q) → T (round v d m o x q)
@@ -139,6 +132,7 @@ module _ (v : Van) (d : Day) (g : ℕ → Job) (jobs : ℕ) (told : d .jobs ≡ 
     far : (p : ℕ) → T (mem p (legStops m)) → p < 64
     far p t = let a = leg-index p m t in omega (arith, a .2, node-low nodes (a .0) (omega (arith, a .1)))
 
-    pub round-sets : (new : List ℕ) → Kepts l (n - 1) (placeOk d g jobs (v .capacity) (v .limit) old l e z h (n - 1) total) old new → new ≡ setsOf (round v d m o)
+    pub round-sets : (new : List ℕ) → Kepts l (n - 1) (placeOk d g jobs (v .capacity) (v .limit) old l e z h (n - 1) total) old new
+        → new ≡ setsOf (round v d m o)
     round-sets new kept = sets-ext new (round v d m o) (kept .long) (round-places new kept)
         (λ x p k. decided (round v d m o x p) (λ t. absurd (omega (arith, far p (leg x p (round-less v d m o x p (true→T _ t)))))) (λ t. t))

@@ -1,16 +1,15 @@
 -- Two rounds over the words are the rules' settling, and the words tell how many of them struck.
-use mathlib.Core.Path.{_≡_, refl, sym, ap, _∙_, subst}
-use Prim.Native.Nat.{ℕ, zero, suc, _+_, _-_, _*_, _<_, _≤_}
-use mathlib.Core.Bool.{Bool, true, false, not, _&&_, _||_}
-use mathlib.Core.List.{List, [], _∷_}
+use mathlib.Core.Path.{_≡_, sym, ap, _∙_, subst}
+use Prim.Native.Nat.{ℕ, suc, _-_, _*_, _≤_}
+use mathlib.Core.Bool.{Bool, true, false, not}
+use mathlib.Core.List.{List}
 use native.Mathlib.Nat.{mul-le-mul}
 use native.Mathlib.Omega.{arith}
-use lib.Dec.{T, not-T, ltb, eqb}
-use borrow.Author.Tests.{eqb-true, eq-eqb, lt-ltb}
+use lib.Dec.{T, not-T, eqb}
+use borrow.Author.Tests.{eqb-true, eq-eqb}
 use lib.ListN.{getD, length}
 use lib.Seq.{ext-getD}
 use Rattle.laws.specs.Logic.{decided, T-ext, true→T, N→false}
-use Rattle.laws.specs.Lists.{In, mem}
 use Rattle.laws.specs.Below.{allBelow, below-at, below-make}
 use Rattle.rules.specs.Day.{Day, Van}
 use Rattle.rules.specs.Plan.{Places}
@@ -18,7 +17,7 @@ use Rattle.rules.specs.Rounds.{Distinct}
 use Rattle.rules.specs.Settle.{round, strikes, settleIn, settle, roundsIn, rounds}
 use Rattle.rules.specs.Asked.{OneEnd}
 use Rattle.rules.proofs.Left.{_⊆_, round-less}
-use Rattle.rules.proofs.Twice.{calm, third, at-most-two}
+use Rattle.rules.proofs.Twice.{calm, at-most-two}
 use Rattle.rules.proofs.Fixpoint.{Seen, settle-twice}
 use Rattle.settle.specs.Sets.{placesOf, setsOf, sets-ext, length-sets, places-sets, Small}
 
@@ -27,7 +26,8 @@ abbrev pub sameSets : List ℕ → List ℕ → Bool
 sameSets a b = allBelow 64 (λ i. eqb (getD a i 0) (getD b i 0))
 
 pub same-sets : (a b : List ℕ) → length a ≡ 64 → length b ≡ 64 → sameSets a b ≡ true → a ≡ b
-same-sets a b m n s = ext-getD 0 a b (m ∙ sym n) (λ k h. eqb-true (getD a k 0) (getD b k 0) (below-at 64 k (λ i. eqb (getD a i 0) (getD b i 0)) s (omega arith)))
+same-sets a b m n s =
+    ext-getD 0 a b (m ∙ sym n) (λ k h. eqb-true (getD a k 0) (getD b k 0) (below-at 64 k (λ i. eqb (getD a i 0) (getD b i 0)) s (omega arith)))
 
 pub sets-same : (a b : List ℕ) → a ≡ b → sameSets a b ≡ true
 sets-same a b e = below-make 64 _ (λ i h. eq-eqb (getD a i 0) (getD b i 0) (ap (λ (l : List ℕ). getD l i 0) e))
@@ -67,7 +67,9 @@ module _ (v : Van) (d : Day) (one : OneEnd (d .jobs)) (rt : List ℕ) (nodes : D
     struck-is = decided (sameSets ws (setsOf (round v d rt o))) (λ s. quiet s ∙ ap not (sym s)) (λ s. loud s ∙ ap not (sym s))
       where
         quiet : sameSets ws (setsOf (round v d rt o)) ≡ true → strikes v d rt o ≡ false
-        quiet s = N→false (strikes v d rt o) (not-T (strikes v d rt o) (calm v d rt o (λ x p t. subst (λ (f : Places). T (f x p)) (ap placesOf (same-sets ws (setsOf (round v d rt o)) long (length-sets (round v d rt o)) s) ∙ round-open) t)))
+        quiet s =
+            N→false (strikes v d rt o)
+            (not-T (strikes v d rt o) (calm v d rt o (λ x p t. subst (λ (f : Places). T (f x p)) (ap placesOf (same-sets ws (setsOf (round v d rt o)) long (length-sets (round v d rt o)) s) ∙ round-open) t)))
 
         loud : sameSets ws (setsOf (round v d rt o)) ≡ false → strikes v d rt o ≡ true
         loud s = decided (strikes v d rt o) (λ t. t) (λ t. absurd (false-true (sym s ∙ sets-same ws (setsOf (round v d rt o)) (still t))))
@@ -94,7 +96,8 @@ module _ (v : Van) (d : Day) (one : OneEnd (d .jobs)) (rt : List ℕ) (nodes : D
   none-strikes o e = sym (ap (λ (k : ℕ). roundsIn k v d rt o) (sym fuel) ∙ rounds-no (suc (d .n * d .n - 2)) o e)
 
   one-strikes : (o : Places) → strikes v d rt o ≡ true → strikes v d rt (round v d rt o) ≡ false → 1 ≡ rounds v d rt o
-  one-strikes o e g = sym (ap (λ (k : ℕ). roundsIn k v d rt o) (sym fuel) ∙ rounds-yes (suc (d .n * d .n - 2)) o e ∙ ap suc (rounds-no (d .n * d .n - 2) (round v d rt o) g))
+  one-strikes o e g =
+      sym (ap (λ (k : ℕ). roundsIn k v d rt o) (sym fuel) ∙ rounds-yes (suc (d .n * d .n - 2)) o e ∙ ap suc (rounds-no (d .n * d .n - 2) (round v d rt o) g))
 
   two-strike : (o : Places) → strikes v d rt o ≡ true → strikes v d rt (round v d rt o) ≡ true → 2 ≡ rounds v d rt o
   two-strike o e g =
@@ -134,10 +137,12 @@ module _ (v : Van) (d : Day) (one : OneEnd (d .jobs)) (rt : List ℕ) (nodes : D
     second-sets : {first second : List ℕ} → first ≡ setsOf o₁ → second ≡ setsOf (round v d rt (placesOf first)) → second ≡ setsOf (settle v d rt o₀)
     second-sets e f = f ∙ ap (λ (g : Places). setsOf (round v d rt g)) (first-open e) ∙ settled-sets
 
-    pub settle-once : {first second : List ℕ} → first ≡ setsOf o₁ → second ≡ setsOf (round v d rt (placesOf first)) → sameSets ws first ≡ false → sameSets first second ≡ true
+    pub settle-once : {first second : List ℕ} → first ≡ setsOf o₁ → second ≡ setsOf (round v d rt (placesOf first)) → sameSets ws first ≡ false
+        → sameSets first second ≡ true
         → (1 ≡ rounds v d rt o₀) × (second ≡ setsOf (settle v d rt o₀))
     settle-once e f s t = (one-strikes o₀ (struck₁ e ∙ ap not s) (struck₂ e f ∙ ap not t), second-sets e f)
 
-    pub settle-again : {first second : List ℕ} → first ≡ setsOf o₁ → second ≡ setsOf (round v d rt (placesOf first)) → sameSets ws first ≡ false → sameSets first second ≡ false
+    pub settle-again : {first second : List ℕ} → first ≡ setsOf o₁ → second ≡ setsOf (round v d rt (placesOf first)) → sameSets ws first ≡ false
+        → sameSets first second ≡ false
         → (2 ≡ rounds v d rt o₀) × (second ≡ setsOf (settle v d rt o₀))
     settle-again e f s t = (two-strike o₀ (struck₁ e ∙ ap not s) (struck₂ e f ∙ ap not t), second-sets e f)

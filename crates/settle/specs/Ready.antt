@@ -17,11 +17,12 @@ use Rattle.rules.specs.Metres.{driven}
 use Rattle.rules.specs.Load.{carries}
 use Rattle.rules.specs.Verdict.{wrongWay}
 use Rattle.rules.specs.Settle.{settle, rounds}
-use Rattle.rules.specs.Asked.{OneEnd, Proper, Formed}
+use Rattle.rules.specs.Asked.{Formed}
 use Rattle.rules.specs.Along.{startAt, lastAt, loadAt}
 use Rattle.sheet.specs.Section.{mOf}
 use Rattle.sheet.specs.Place.{Laid}
 use Rattle.sheet.specs.declared.Layout.{Layout}
+use Rattle.day.specs.Refuse.{refusal14}
 use Rattle.day.specs.Tell.{dayOf}
 use Rattle.settle.specs.Sets.{placesOf, setsOf, planFrom}
 use Rattle.settle.specs.declared.Van.{Van}
@@ -32,9 +33,8 @@ vanIn v = record { capacity = v .capacity; limit = v .limit }
 
 -- a sheet that 1 to 4 do not refuse, where it has what, and a state in form in arrays: route, sets, marks
 pub record Ready (s : List ℕ) (at : Layout) (l : List ℕ) (n : ℕ) (ws : List ℕ) (marks : ℕ) : Type 0 where
+  pub clear : refusal14 s ≡ 0
   pub laid : Laid s at
-  pub one : OneEnd (dayOf s .jobs)
-  pub proper : Proper (dayOf s)
   pub long : length l ≡ 64
   pub sized : length ws ≡ 64
   pub most : n ≤ 64

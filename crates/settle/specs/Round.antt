@@ -1,8 +1,8 @@
 -- A round of settling over all words, from arrays: which places window, metres and the jobs leave.
 use mathlib.Core.Path.{_≡_, refl, sym, ap, _∙_, subst}
-use Prim.Native.Nat.{ℕ, zero, suc, _+_, _-_, _*_, _<_, _≤_}
-use mathlib.Core.Bool.{Bool, true, false, cond, not, _&&_, _||_}
-use mathlib.Core.List.{List, [], _∷_}
+use Prim.Native.Nat.{ℕ, zero, suc, _+_, _-_, _<_, _≤_}
+use mathlib.Core.Bool.{Bool, true, false, not, _&&_, _||_}
+use mathlib.Core.List.{List}
 use native.Mathlib.Numerals.{add-one}
 use native.Mathlib.Omega.{arith}
 use lib.Dec.{leb, ltb, eqb}
@@ -13,7 +13,7 @@ use lib.IntN.{ℤ, pos}
 use lib.Signed.{leZ}
 use Rattle.laws.specs.Logic.{decided}
 use Rattle.laws.specs.Below.{allBelow}
-use Rattle.rules.specs.Day.{Day, Van}
+use Rattle.rules.specs.Day.{Day}
 use Rattle.rules.specs.Time.{inTime, lastMoment}
 use Rattle.rules.specs.declared.Job.{Job}
 use Rattle.rules.specs.declared.Job.the-variants.{Clean, Soiled, Transfer}
@@ -21,6 +21,7 @@ use Rattle.rules.proofs.AlongLaws.{arrives}
 use Rattle.along.specs.declared.walks.Ride.{Ride}
 use Rattle.bits.specs.Places.{has}
 use Rattle.bits.specs.Members.{without-no}
+use Rattle.along.specs.Spots.{same-entries}
 use Rattle.along.specs.Walks.{struck, Kept, kept-same, kept-both, kept-all, kept-zero, ridesUp, ridesDown}
 
 -- each word of vs keeps of the word of ws the places that pass f
@@ -46,7 +47,8 @@ kepts-one {l} {legs} {g} {ws} {v} x n h k = record { long = length-set ws x v �
         rw (getD-set-other ws x y v 0 (λ z. q (sym z))) (kept-all (λ i. ap (λ (c : Bool). not c || g i) e))
 
 -- where the node has no place, no word is touched
-pub kepts-empty : {l : List ℕ} {legs : ℕ} (g : ℕ → Bool) {ws : List ℕ} (x : ℕ) → length ws ≡ 64 → getD ws x 0 ≡ 0 → Kepts l legs (λ y i. not (eqb x y) || g i) ws ws
+pub kepts-empty : {l : List ℕ} {legs : ℕ} (g : ℕ → Bool) {ws : List ℕ} (x : ℕ) → length ws ≡ 64 → getD ws x 0 ≡ 0
+    → Kepts l legs (λ y i. not (eqb x y) || g i) ws ws
 kepts-empty {l} {legs} g {ws} x n z = record { long = n; at = λ y. go y (eqb x y) refl }
   where
     go : (y : ℕ) (c : Bool) → eqb x y ≡ c → Kept l 0 legs (λ i. not (eqb x y) || g i) (getD ws y 0) (getD ws y 0)
@@ -54,10 +56,12 @@ kepts-empty {l} {legs} g {ws} x n z = record { long = n; at = λ y. go y (eqb x 
         subst (λ (v : ℕ). Kept l 0 legs (λ i. not (eqb x y) || g i) (getD ws y 0) v) (sym q) (kept-zero q)
     go y false e = kept-all (λ i. ap (λ (c : Bool). not c || g i) e)
 
-pub kepts-both : {l : List ℕ} {legs : ℕ} {f g : ℕ → ℕ → Bool} {ws us vs : List ℕ} → Kepts l legs f ws us → Kepts l legs g us vs → Kepts l legs (λ y i. f y i && g y i) ws vs
+pub kepts-both : {l : List ℕ} {legs : ℕ} {f g : ℕ → ℕ → Bool} {ws us vs : List ℕ} → Kepts l legs f ws us → Kepts l legs g us vs
+    → Kepts l legs (λ y i. f y i && g y i) ws vs
 kepts-both a b = record { long = b .long; at = λ y. kept-both (a .at y) (b .at y) }
 
-pub kepts-same : {l : List ℕ} {legs : ℕ} {f g : ℕ → ℕ → Bool} {ws vs : List ℕ} → ((y i : ℕ) → i < legs → f y i ≡ g y i) → Kepts l legs f ws vs → Kepts l legs g ws vs
+pub kepts-same : {l : List ℕ} {legs : ℕ} {f g : ℕ → ℕ → Bool} {ws vs : List ℕ} → ((y i : ℕ) → i < legs → f y i ≡ g y i) → Kepts l legs f ws vs
+    → Kepts l legs g ws vs
 kepts-same e a = record { long = a .long; at = λ y. kept-same (λ i m n. e y i n) (a .at y) }
 
 -- ---- a loop over the words
@@ -68,15 +72,11 @@ pub record Upto (l : List ℕ) (legs : ℕ) (f : ℕ → ℕ → Bool) (ws : Lis
   pub at : (y : ℕ) → y < x → Kept l 0 legs (f y) (getD ws y 0) (getD vs y 0)
   pub rest : (y : ℕ) → x ≤ y → getD vs y 0 ≡ 0
 
-zeros : (m k : ℕ) → _≡_ {A = ℕ} (getD (replicate m 0) k 0) 0
-zeros zero k = refl
-zeros (suc m) zero = refl
-zeros (suc m) (suc k) = zeros m k
-
 pub upto-none : (l : List ℕ) (legs : ℕ) (f : ℕ → ℕ → Bool) (ws : List ℕ) → Upto l legs f ws 0 (replicate 64 0)
-upto-none l legs f ws = record { long = refl; at = λ y h. absurd (omega arith); rest = λ y h. zeros 64 y }
+upto-none l legs f ws = record { long = refl; at = λ y h. absurd (omega arith); rest = λ y h. same-entries 0 64 y }
 
-pub upto-more : {l : List ℕ} {legs : ℕ} {f : ℕ → ℕ → Bool} {ws : List ℕ} {x : ℕ} {vs : List ℕ} {v : ℕ} → x < 64 → Upto l legs f ws x vs → Kept l 0 legs (f x) (getD ws x 0) v
+pub upto-more : {l : List ℕ} {legs : ℕ} {f : ℕ → ℕ → Bool} {ws : List ℕ} {x : ℕ} {vs : List ℕ} {v : ℕ} → x < 64 → Upto l legs f ws x vs
+    → Kept l 0 legs (f x) (getD ws x 0) v
     → Upto l legs f ws (x + 1) (set vs x v)
 upto-more {l} {legs} {f} {ws} {x} {vs} {v} h a k = record {
   long = length-set vs x v ∙ a .long;
@@ -89,8 +89,10 @@ upto-more {l} {legs} {f} {ws} {x} {vs} {v} h a k = record {
     go y m false e = let q = eqb-false x y e in rw (getD-set-other vs x y v 0 (λ z. q (sym z))) (a .at y (omega (arith, q)))
 
 -- done with all nodes: the others have no place
-pub upto-all : {l : List ℕ} {legs : ℕ} {f : ℕ → ℕ → Bool} {ws : List ℕ} {x : ℕ} {vs : List ℕ} → ((y : ℕ) → x ≤ y → getD ws y 0 ≡ 0) → Upto l legs f ws x vs → Kepts l legs f ws vs
-upto-all {l} {legs} {f} {ws} {x} {vs} n a = record { long = a .long; at = λ y. decided (ltb y x) (λ e. a .at y (ltb-true y x e)) (λ e. out y (ltb-false y x e)) }
+pub upto-all : {l : List ℕ} {legs : ℕ} {f : ℕ → ℕ → Bool} {ws : List ℕ} {x : ℕ} {vs : List ℕ} → ((y : ℕ) → x ≤ y → getD ws y 0 ≡ 0) → Upto l legs f ws x vs
+    → Kepts l legs f ws vs
+upto-all {l} {legs} {f} {ws} {x} {vs} n a =
+    record { long = a .long; at = λ y. decided (ltb y x) (λ e. a .at y (ltb-true y x e)) (λ e. out y (ltb-false y x e)) }
   where
     out : (y : ℕ) → x ≤ y → Kept l 0 legs (f y) (getD ws y 0) (getD vs y 0)
     out y q = subst (λ (v : ℕ). Kept l 0 legs (f y) (getD ws y 0) v) (sym (a .rest y q)) (kept-zero (n y q))
@@ -101,7 +103,8 @@ abbrev pub inWindow : Day → ℕ → ℕ → ℕ → ℕ → ℤ → Bool
 inWindow d x p k t z = inTime d x (arrives d t p x) && leZ (pos (arrives d t p x + d .service x + d .seconds x k)) z
 
 -- the same from what the code has read
-pub window-is : (d : Day) (x p k t : ℕ) (z : ℤ) {r q : Bool} {o y : ℤ} {a b c : ℕ} → r ≡ leZ (pos a) o → q ≡ leZ (pos (a + b + c)) y → a ≡ arrives d t p x → o ≡ lastMoment d x
+pub window-is : (d : Day) (x p k t : ℕ) (z : ℤ) {r q : Bool} {o y : ℤ} {a b c : ℕ} → r ≡ leZ (pos a) o → q ≡ leZ (pos (a + b + c)) y → a ≡ arrives d t p x
+    → o ≡ lastMoment d x
     → b ≡ d .service x → c ≡ d .seconds x k → y ≡ z → (r && q) ≡ inWindow d x p k t z
 window-is d x p k t z f g a o b c y = (λ u. f u && g u) ∙ (λ u. leZ (pos (a u)) (o u) && leZ (pos (a u + b u + c u)) (y u))
 
@@ -147,12 +150,14 @@ loadOk (Soiled a w) old l h legs cap y i = not (eqb a y) || ridesDown l h (throu
 loadOk (Transfer a b w) old l h legs cap y i =
     (not (eqb a y) || ridesDown l h (between cap w b (getD old b 0)) legs i) && (not (eqb b y) || ridesUp l h (between cap w a (getD old a 0)) i)
 
-pub job-clean : {l : List ℕ} {legs : ℕ} {ws vs : List ℕ} (old h : List ℕ) (cap a w : ℕ) → Kepts l legs (λ y i. not (eqb a y) || ridesUp l h (through cap w) i) ws vs
+pub job-clean : {l : List ℕ} {legs : ℕ} {ws vs : List ℕ} (old h : List ℕ) (cap a w : ℕ)
+    → Kepts l legs (λ y i. not (eqb a y) || ridesUp l h (through cap w) i) ws vs
     → Kepts l legs (loadOk (Clean a w) old l h legs cap) ws vs
 unfolding loadOk
 job-clean old h cap a w k = k
 
-pub job-soiled : {l : List ℕ} {legs : ℕ} {ws vs : List ℕ} (old h : List ℕ) (cap a w : ℕ) → Kepts l legs (λ y i. not (eqb a y) || ridesDown l h (through cap w) legs i) ws vs
+pub job-soiled : {l : List ℕ} {legs : ℕ} {ws vs : List ℕ} (old h : List ℕ) (cap a w : ℕ)
+    → Kepts l legs (λ y i. not (eqb a y) || ridesDown l h (through cap w) legs i) ws vs
     → Kepts l legs (loadOk (Soiled a w) old l h legs cap) ws vs
 unfolding loadOk
 job-soiled old h cap a w k = k
@@ -169,7 +174,8 @@ job-transfer {l} {legs} old h cap a b w e f j k =
 unfoldable pub loadsOk : (ℕ → Job) → List ℕ → List ℕ → List ℕ → ℕ → ℕ → ℕ → ℕ → ℕ → Bool
 loadsOk g old l h legs cap m y i = allBelow m (λ k. loadOk (g k) old l h legs cap y i)
 
-pub loads-none : {l : List ℕ} {legs : ℕ} {ws : List ℕ} (g : ℕ → Job) (old h : List ℕ) (cap : ℕ) → length ws ≡ 64 → Kepts l legs (loadsOk g old l h legs cap 0) ws ws
+pub loads-none : {l : List ℕ} {legs : ℕ} {ws : List ℕ} (g : ℕ → Job) (old h : List ℕ) (cap : ℕ) → length ws ≡ 64
+    → Kepts l legs (loadsOk g old l h legs cap 0) ws ws
 unfolding loadsOk allBelow
 loads-none g old h cap n = kepts-all n (λ y i. refl)
 

@@ -1,11 +1,11 @@
 -- The words of a state as the rules see them: the open places, and the one array of words that has given places.
 use mathlib.Core.Path.{_≡_, refl, sym, ap, _∙_, subst}
-use Prim.Native.Nat.{ℕ, zero, suc, _+_, _*_, _^_, _<_, _≤_}
+use Prim.Native.Nat.{ℕ, zero, suc, _+_, _^_, _<_, _≤_}
 use mathlib.Core.Bool.{Bool, true, false, cond, _&&_}
 use mathlib.Core.List.{List}
 use native.Mathlib.Nat.{pow-succ'}
 use native.Mathlib.Omega.{arith}
-use lib.Dec.{T, eqb, ltb}
+use lib.Dec.{T, eqb, ltb, lit<}
 use borrow.Author.Tests.{eqb-true, eqb-false, ltb-true, ltb-false, lt-ltb, le-ltb}
 use lib.ListN.{getD, length, take, List·getD-eq-default}
 use lib.Seq.{ext-getD}
@@ -13,7 +13,7 @@ use Rattle.laws.specs.Logic.{decided, true→T}
 use Rattle.laws.specs.Table.{tab, length-tab, getD-tab}
 use Rattle.bits.specs.Places.{has, with}
 use Rattle.bits.specs.Digits.{digits-ext}
-use Rattle.bits.specs.Members.{has-none, with-same, with-other, same-has}
+use Rattle.bits.specs.Members.{has-none, with-same, with-other, with-fits, same-has}
 use Rattle.rules.specs.Plan.{Plan, Places}
 
 -- node x is open in the leg that leaves p: bit p of its word
@@ -49,7 +49,9 @@ word-more f k w p h new ih = decided (eqb p k) (λ e. here (eqb-true p k e)) (λ
         go false = refl
 
         same : ltb p k ≡ ltb p (suc k)
-        same = decided (ltb p k) (λ t. t ∙ sym (lt-ltb p (suc k) (omega (arith, ltb-true p k t)))) (λ t. t ∙ sym (le-ltb p (suc k) (omega (arith, ltb-false p k t, n))))
+        same =
+            decided (ltb p k) (λ t. t ∙ sym (lt-ltb p (suc k) (omega (arith, ltb-true p k t))))
+            (λ t. t ∙ sym (le-ltb p (suc k) (omega (arith, ltb-false p k t, n))))
 
 word-has : (k : ℕ) (f : ℕ → Bool) (p : ℕ) → k ≤ 64 → has (wordOf k f) p ≡ (ltb p k && f p)
 unfolding wordOf
@@ -97,4 +99,24 @@ places-sets o small x p = decided (ltb x 64) (λ t. near (ltb-true x 64 t)) (λ 
         ∙ decided (ltb p 64) (λ t. ap (λ (b : Bool). b && o x p) t) (λ t. ap (λ (b : Bool). b && o x p) t ∙ sym (shut (λ a b. omega (arith, ltb-false p 64 t))))
 
     far : 64 ≤ x → placesOf (tab 64 (λ x. wordOf 64 (o x))) x p ≡ o x p
-    far h = ap (λ (w : ℕ). has w p) (List·getD-eq-default (tab 64 (λ x. wordOf 64 (o x))) 0 {n = x} (omega (arith, length-tab 64 (λ x. wordOf 64 (o x))))) ∙ has-none p ∙ sym (shut (λ a b. omega arith))
+    far h =
+        ap (λ (w : ℕ). has w p) (List·getD-eq-default (tab 64 (λ x. wordOf 64 (o x))) 0 {n = x} (omega (arith, length-tab 64 (λ x. wordOf 64 (o x)))))
+        ∙ has-none p
+        ∙ sym (shut (λ a b. omega arith))
+
+-- ---- they are words of 64 bits
+
+word-fits : (k : ℕ) (f : ℕ → Bool) → wordOf k f < 2 ^ 64
+unfolding wordOf
+word-fits zero f = lit< tt
+word-fits (suc k) f = go (f k) (word-fits k f)
+  where
+    go : (b : Bool) → wordOf k f < 2 ^ 64 → cond b (with (wordOf k f) k) (wordOf k f) < 2 ^ 64
+    go true h = with-fits (wordOf k f) k h
+    go false h = h
+
+pub sets-fit : (o : Places) (x : ℕ) → getD (setsOf o) x 0 < 2 ^ 64
+unfolding setsOf
+sets-fit o x = decided (ltb x 64)
+    (λ t. rw (getD-tab 64 (λ x. wordOf 64 (o x)) 0 x (ltb-true x 64 t)) (word-fits 64 (o x)))
+    (λ t. rw (List·getD-eq-default (tab 64 (λ x. wordOf 64 (o x))) 0 {n = x} (omega (arith, length-tab 64 (λ x. wordOf 64 (o x)), ltb-false x 64 t))) (lit< tt))

@@ -1,13 +1,11 @@
 -- The verdict's parts from arrays: who is called for, who stands, which transfers are in order. `on` says which nodes are on the route.
-use mathlib.Core.Path.{_≡_, refl, sym, ap, _∙_, subst}
-use Prim.Native.Nat.{ℕ, zero, suc, _+_, _-_, _<_, _≤_}
-use mathlib.Core.Bool.{Bool, true, false, not, _&&_, _||_}
-use mathlib.Core.List.{List, [], _∷_}
-use lib.Dec.{leb, ltb, eqb}
+use mathlib.Core.Path.{_≡_, refl}
+use Prim.Native.Nat.{ℕ, _+_, _-_}
+use mathlib.Core.Bool.{Bool, true, not, _&&_, _||_}
+use mathlib.Core.List.{List}
+use lib.Dec.{ltb, eqb}
 use lib.ListN.{getD}
-use Rattle.laws.specs.Below.{allBelow}
 use Rattle.bits.specs.Places.{has}
-use Rattle.rules.specs.Verdict.{partnered}
 use Rattle.rules.specs.declared.Job.{Job}
 use Rattle.rules.specs.declared.Job.the-variants.{Clean, Soiled, Transfer}
 
@@ -51,7 +49,8 @@ pub ends-soiled : (on : ℕ → Bool) (ws : List ℕ) (marks a w : ℕ) → true
 unfolding endsOk
 ends-soiled on ws marks a w = refl
 
-pub ends-transfer : (on : ℕ → Bool) (ws : List ℕ) (marks a b w : ℕ) {ca cb sa sb : Bool} → ca ≡ called on marks a → cb ≡ called on marks b → sb ≡ standing on ws b → sa ≡ standing on ws a
+pub ends-transfer : (on : ℕ → Bool) (ws : List ℕ) (marks a b w : ℕ) {ca cb sa sb : Bool} → ca ≡ called on marks a → cb ≡ called on marks b
+    → sb ≡ standing on ws b → sa ≡ standing on ws a
     → ((not ca || sb) && (not cb || sa)) ≡ endsOk on ws marks (Transfer a b w)
 unfolding endsOk
 ends-transfer on ws marks a b w ca cb sb sa = λ u. (not (ca u) || sb u) && (not (cb u) || sa u)

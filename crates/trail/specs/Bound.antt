@@ -1,6 +1,6 @@
 -- From a fresh state any accepted steps keep the record count at or below n(n − 2).
 -- What a board is still worth: for each inner node off the route its open places, its mark, and one for each node not yet placed. Each record lowers it.
-use mathlib.Core.Path.{_≡_, refl, ap, sym, _∙_, subst}
+use mathlib.Core.Path.{_≡_, refl, ap, sym, _∙_}
 use mathlib.Core.Bool.{Bool, true, false, cond, not, _&&_, and-false}
 use mathlib.Core.List.{List, []}
 use Prim.Native.Nat.{ℕ, zero, suc, _+_, _-_, _*_, _≤_, _<_, min}
@@ -18,7 +18,7 @@ use Rattle.board.specs.Board.{Board, board, boardOf, onRoute, routeOf, setOf, i
 use Rattle.board.specs.Fresh.{freshState, freshSet, fresh-is}
 use Rattle.board.specs.FreshForm.{freshBoard, fresh-wide, fresh-set, fresh-off, fresh-formed, fresh-inform, fresh-held}
 use Rattle.board.specs.Change.{heir, putSet, placed, marked}
-use Rattle.board.specs.FormLaws.{Sound, InForm, inner-in, room-left}
+use Rattle.board.specs.FormLaws.{Sound, inner-in, room-left}
 use Rattle.board.specs.Held.{Words}
 use Rattle.board.specs.declared.State.{State}
 use Rattle.board.specs.Keep.{Splits, put-same, put-other, placed-set, placed-on, placed-others, heir-yes, heir-no}
@@ -26,7 +26,7 @@ use Rattle.trail.specs.Trail.{shrunk}
 use Rattle.trail.specs.Undo.{strictly, Undone}
 use Rattle.trail.specs.Steps.{undoLevel, baseOf}
 use Rattle.trail.specs.StepLaws.{Free}
-use Rattle.trail.specs.Small.{Small, shrinks, places, marks, small-sound}
+use Rattle.trail.specs.Small.{Small, shrinks, places, marks}
 use Rattle.trail.specs.Spells.{Spells, none, more, spells-sound, spells-undo}
 use Rattle.trail.specs.Run.{Smaller, Runs}
 use Rattle.trail.specs.Since.{Since, strict, changed-free, move-since}

@@ -1,21 +1,19 @@
 -- Small cases, computed.
 use mathlib.Core.Path.{_≡_, refl}
 use mathlib.Core.Bool.{true, false}
-use mathlib.Core.List.{List, [], _∷_}
-use Prim.Native.Nat.{ℕ, _+_, _-_}
-use lib.ListN.{length, getD, take, set, replicate}
+use mathlib.Core.List.{[], _∷_}
+use lib.ListN.{take, set, replicate}
 use Rattle.laws.specs.Table.{tab}
 use Rattle.laws.specs.Below.{allBelow}
 use Rattle.laws.specs.Choice.{orElse}
-use Rattle.bits.specs.Places.{digit, has, with, without, within}
-use Rattle.board.specs.Route.{indexOf, insertIn, removeIn, wordOf}
+use Rattle.bits.specs.Places.{digit, has, with, within}
+use Rattle.board.specs.Route.{indexOf, insertIn, wordOf}
 use Rattle.board.specs.Board.{routeOf, onRoute, legsOf, setOf, openAt, inner, legNode}
 use Rattle.board.specs.Fresh.{noState, freshSet, freshSets, freshState}
 use Rattle.board.specs.Form.{stopOk, setOk, markOk, nodeOk, boardOk, levelOk, levelsOk, inForm}
-use Rattle.board.specs.Change.{heir, strike, putSet, placed, marked, unplaced}
-use Rattle.trail.specs.Trail.{roomOf, pushed, firstOf, secondOf}
+use Rattle.board.specs.Change.{heir, placed}
+use Rattle.trail.specs.Trail.{roomOf, pushed}
 use Rattle.trail.specs.Refusals.{placeRefusal}
-use Rattle.trail.specs.Undo.{strictly, stopBefore, fitsShrunk, fitsPlaced, fitsMarked, undone, undoOne}
 use Rattle.trail.specs.Steps.{stepOf, recorded, placeStep}
 
 -- the fresh state of four nodes is in form, the state of all zeros is not

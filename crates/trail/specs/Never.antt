@@ -1,10 +1,9 @@
 -- From a fresh state, with room for n(n − 2) records, 17 and 20 are never met.
-use mathlib.Core.Path.{_≡_, refl, ap, sym, _∙_}
+use mathlib.Core.Path.{_≡_, refl, ap, sym}
 use mathlib.Core.Bool.{Bool, true, false, not, _&&_, _||_}
 use mathlib.Core.List.{List}
-use Prim.Native.Nat.{ℕ, zero, suc, _+_, _-_, _*_, _/_, _≤_, _<_, _^_}
+use Prim.Native.Nat.{ℕ, suc, _+_, _-_, _*_, _/_, _≤_, _<_}
 use native.Mathlib.Omega.{arith}
-use lib.ListN.{length}
 use lib.Dec.{eqb, leb, ltb}
 use borrow.Author.Tests.{eqb-false, ltb-false, leb-false, not-true}
 use Rattle.laws.specs.Logic.{and-true}
@@ -19,7 +18,6 @@ use Rattle.board.specs.declared.State.{State}
 use Rattle.trail.specs.Trail.{roomOf, shrunk}
 use Rattle.trail.specs.Refusals.{placeRefusal, excludeRefusal, requireRefusal}
 use Rattle.trail.specs.Steps.{undoLevel}
-use Rattle.trail.specs.StepLaws.{Free}
 use Rattle.trail.specs.Small.{shrinks, places, marks}
 use Rattle.trail.specs.Run.{Smaller, Runs}
 use Rattle.trail.specs.Since.{strict}

@@ -1,9 +1,9 @@
 -- What holds since a board b had k records and d levels were open: the trail spells the small steps from it.
-use mathlib.Core.Path.{_≡_, refl, ap, ap₂, sym, _∙_, subst}
+use mathlib.Core.Path.{_≡_, refl, ap, sym, _∙_, subst}
 use mathlib.Core.Logic.{_⊎_, inl, inr, ⊎-elim}
 use mathlib.Core.Bool.{Bool, true, false, cond, not, _&&_}
 use mathlib.Core.List.{List}
-use Prim.Native.Nat.{ℕ, zero, suc, _+_, _-_, _*_, _/_, _≤_, _<_, _^_}
+use Prim.Native.Nat.{ℕ, zero, suc, _+_, _-_, _*_, _≤_, _<_, _^_}
 use native.Mathlib.Omega.{arith}
 use native.Mathlib.Numerals.{add-one}
 use lib.ListN.{length, getD, set, length-set}
@@ -12,26 +12,24 @@ use lib.Dec.{eqb, leb, ltb}
 use borrow.Author.Tests.{eqb-true, eqb-false, ltb-true, leb-true, not-true}
 use Rattle.laws.specs.Logic.{decided, and-true}
 use Rattle.laws.specs.Choice.{orElse, unless, or-else-zero, unless-zero}
-use Rattle.laws.specs.Sweep.{swept, swept-start, swept-end, swept-more, swept-ahead, length-swept}
+use Rattle.laws.specs.Sweep.{swept, swept-start, swept-end, swept-more, swept-ahead}
 use Rattle.bits.specs.Places.{has, without, within}
-use Rattle.bits.specs.Members.{false-true, has-none, without-same, without-fits, within-without, within-has, within-ext, within-none}
+use Rattle.bits.specs.Members.{false-true, without-same, without-fits, within-without, within-ext, within-none}
 use Rattle.board.specs.Board.{Board, board, boardOf, stateOf, onBoard, onRoute, legsOf, setOf, openAt, inner}
 use Rattle.board.specs.Form.{setOk}
 use Rattle.board.specs.Change.{putSet, placed, marked}
-use Rattle.board.specs.FormLaws.{Formed, Wide, Sound, Levels, InForm, inner-in}
+use Rattle.board.specs.FormLaws.{Sound, Levels, InForm, inner-in}
 use Rattle.board.specs.Held.{Words, Held}
-use Rattle.board.specs.Keep.{Splits}
 use Rattle.board.specs.declared.State.{State}
 use Rattle.trail.specs.Trail.{roomOf, pushed, firstOf, secondOf, shrunk, Noted, noteOne, noteBelow}
 use Rattle.trail.specs.TrailLaws.{pushed-first, pushed-second, pushed-long, pushed-room, pushed-other, shrunk-upto, shrunk-differ, note-same, note-differ, note-all}
 use Rattle.trail.specs.Refusals.{placeRefusal, excludeRefusal, requireRefusal}
 use Rattle.trail.specs.Undo.{strictly, undoMany}
 use Rattle.trail.specs.Steps.{Ran, answered, stepOf, recorded, placeStep, closeStep, excludeStep, requireStep, settleStep, levelStep, backStep, baseOf, undoLevel, dropped}
-use Rattle.trail.specs.StepLaws.{step-yes, step-zero, Placeable, placeable, Free, excludable, requirable, back-fits, base-low}
+use Rattle.trail.specs.StepLaws.{step-yes, step-zero, placeable, Free, excludable, requirable}
 use Rattle.trail.specs.Small.{Small, shrinks, places, marks, small-sound, small-words}
-use Rattle.trail.specs.Spells.{Spells, none, more, spells-sound, spells-words, spells-agree, spells-undo}
+use Rattle.trail.specs.Spells.{Spells, more, spells-sound, spells-words, spells-agree, spells-undo}
 use Rattle.trail.specs.Run.{Smaller, Move, place, close, exclude, require, settle, level, back}
-use Rattle.trail.specs.declared.Outcome.{Outcome}
 
 pub record Since (n : ℕ) (b : Board) (k d : ℕ) (levels t₀ : List ℕ) (s : State) (t : List ℕ) : Type 0 where
   pub small : n ≤ 64

@@ -1,23 +1,22 @@
 -- A small step: what one record stands for, from the board before to the board after. It keeps the form, and undoing inverts it.
-use mathlib.Core.Path.{_≡_, refl, ap, sym, _∙_, subst}
-use mathlib.Core.Bool.{Bool, true, false, cond, not, _&&_}
-use mathlib.Core.List.{List, map}
-use Prim.Native.Nat.{ℕ, zero, suc, _+_, _-_, _*_, _/_, _%_, _≤_, _<_, _^_}
+use mathlib.Core.Path.{_≡_, refl, ap, _∙_}
+use mathlib.Core.Bool.{true, false}
+use Prim.Native.Nat.{ℕ, _+_, _-_, _/_, _%_, _<_, _^_}
 use native.Mathlib.Omega.{arith}
-use lib.ListN.{length, getD, set}
-use lib.Dec.{eqb, ltb}
-use borrow.Author.Tests.{eqb-true, eqb-false, eq-eqb, ltb-true, ltb-false}
+use lib.ListN.{length}
+use lib.Dec.{eqb}
+use borrow.Author.Tests.{eqb-true, eqb-false}
 use Rattle.laws.specs.Logic.{decided, and-true}
-use Rattle.bits.specs.Places.{has, with, without, within}
-use Rattle.bits.specs.Members.{with-same, with-fits, without-no, within-trans}
+use Rattle.bits.specs.Places.{has, within}
+use Rattle.bits.specs.Members.{with-same, with-fits, within-trans}
 use Rattle.board.specs.Route.{indexOf}
-use Rattle.board.specs.Board.{Board, routeOf, onRoute, legsOf, setOf, openAt, inner}
+use Rattle.board.specs.Board.{Board, routeOf, onRoute, legsOf, setOf, openAt}
 use Rattle.board.specs.Change.{heir, putSet, placed, marked, unplaced, unmarked}
-use Rattle.board.specs.FormLaws.{Formed, Wide, Sound, inner-in, set-legs}
+use Rattle.board.specs.FormLaws.{Wide, Sound, inner-in, set-legs}
 use Rattle.board.specs.Held.{Words}
 use Rattle.board.specs.Keep.{Splits, put-same, put-other, put-wide, put-formed, placed-wide, placed-formed, placed-set, placed-none, placed-on, legs-after, marked-formed, heir-yes, heir-no}
 use Rattle.board.specs.Inverse.{put-back, mark-back, place-back, placed-index, placed-before}
-use Rattle.trail.specs.Undo.{strictly, stopBefore, fitsShrunk, fitsPlaced, fitsMarked, undone, undoOne}
+use Rattle.trail.specs.Undo.{strictly, stopBefore, fitsShrunk, fitsPlaced, fitsMarked, undoOne}
 use Rattle.trail.specs.UndoLaws.{one-shrunk, one-placed, one-marked, undone-yes}
 use Rattle.trail.specs.StepLaws.{Free}
 

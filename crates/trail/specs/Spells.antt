@@ -1,15 +1,15 @@
 -- A stretch of the trail that spells small steps: undone, it gives the board before them.
-use mathlib.Core.Path.{_≡_, refl, ap, sym, _∙_, subst}
-use mathlib.Core.Bool.{Bool, true, false, cond}
+use mathlib.Core.Path.{_≡_, refl, sym, subst}
+use mathlib.Core.Bool.{true}
 use mathlib.Core.List.{List}
-use Prim.Native.Nat.{ℕ, zero, suc, _+_, _-_, _*_, _≤_, _<_}
+use Prim.Native.Nat.{ℕ, zero, suc, _+_, _-_, _*_, _<_}
 use native.Mathlib.Omega.{arith}
 use lib.ListN.{getD}
 use Rattle.board.specs.Board.{Board}
 use Rattle.board.specs.FormLaws.{Sound}
 use Rattle.board.specs.Held.{Words}
 use Rattle.trail.specs.Trail.{firstOf, secondOf}
-use Rattle.trail.specs.Undo.{undoOne, undoMany}
+use Rattle.trail.specs.Undo.{undoMany}
 use Rattle.trail.specs.Small.{Small, small-sound, small-undo, small-words}
 
 -- from b at k records: m records of the trail spell small steps to the board

@@ -1,9 +1,9 @@
 -- The step-back theorem, and every accepted step keeps the form.
 use mathlib.Core.Path.{_≡_, refl, ap, sym, _∙_, subst}
 use mathlib.Core.Logic.{⊎-elim}
-use mathlib.Core.Bool.{Bool, true, false}
+use mathlib.Core.Bool.{true}
 use mathlib.Core.List.{List}
-use Prim.Native.Nat.{ℕ, zero, suc, _+_, _-_, _*_, _≤_, _<_, _^_, min}
+use Prim.Native.Nat.{ℕ, _+_, _-_, _*_, _≤_, _<_, _^_, min}
 use native.Mathlib.Omega.{arith}
 use lib.ListN.{length, getD, take, set, length-set, length-take}
 use lib.Seq.{getD-set-same, getD-set-other, getD-take, ext-getD}
@@ -12,7 +12,7 @@ use borrow.Author.Tests.{eqb-true, eqb-false, ltb-true, ltb-false}
 use Rattle.laws.specs.Logic.{decided}
 use Rattle.laws.specs.Choice.{orElse, unless, or-else-zero, unless-zero}
 use Rattle.board.specs.Board.{Board, boardOf, stateOf}
-use Rattle.board.specs.FormLaws.{Sound, Levels, InForm}
+use Rattle.board.specs.FormLaws.{Sound, InForm}
 use Rattle.board.specs.Held.{Words, Held}
 use Rattle.board.specs.declared.State.{State}
 use Rattle.trail.specs.Trail.{roomOf}

@@ -1,22 +1,21 @@
 -- Each step refused and accepted, and what an accepted one knows.
 use mathlib.Core.Path.{_≡_, refl, ap, sym, _∙_}
-use mathlib.Core.Bool.{Bool, true, false, cond, not, _&&_, _||_}
+use mathlib.Core.Bool.{Bool, true, false, not, _&&_, _||_}
 use mathlib.Core.List.{List}
-use Prim.Native.Nat.{ℕ, zero, suc, _+_, _-_, _≤_, _<_}
+use Prim.Native.Nat.{ℕ, _-_, _≤_, _<_}
 use native.Mathlib.Omega.{arith}
-use lib.Dec.{eqb, leb, ltb}
-use borrow.Author.Tests.{eqb-true, eqb-false, eq-eqb, ne-eqb, ltb-true, leb-true, not-true, lt-ltb, le-ltb}
+use lib.Dec.{eqb, ltb}
+use borrow.Author.Tests.{eqb-true, eqb-false, ne-eqb, ltb-true, not-true, lt-ltb, le-ltb}
 use Rattle.laws.specs.Logic.{decided, and-true}
 use Rattle.laws.specs.Choice.{orElse, unless, or-else-zero, unless-zero}
 use Rattle.bits.specs.Places.{has}
 use Rattle.bits.specs.Members.{false-true}
-use Rattle.board.specs.Board.{Board, boardOf, onRoute, setOf, openAt, inner, legNode}
+use Rattle.board.specs.Board.{Board, onRoute, setOf, openAt, inner, legNode}
 use Rattle.board.specs.FormLaws.{InForm}
 use Rattle.board.specs.Keep.{Splits}
 use Rattle.board.specs.declared.State.{State}
 use Rattle.trail.specs.Refusals.{placeRefusal, excludeRefusal, requireRefusal}
 use Rattle.trail.specs.Steps.{Ran, answered, stepOf, baseOf, undoLevel, dropped, backStep}
-use Rattle.trail.specs.declared.Outcome.{Outcome}
 
 pub step-no : (k : ℕ) (s : State) (t : List ℕ) (ran : Ran) → (k ≡ 0 → ⊥) → stepOf k s t ran ≡ answered k s t
 unfolding stepOf

@@ -1,5 +1,5 @@
 -- The steps on a state in form: the answer with the state, and the trail (01, Steps). Refused: state and trail as before.
-use mathlib.Core.Bool.{Bool, cond, _&&_}
+use mathlib.Core.Bool.{Bool, cond}
 use mathlib.Core.List.{List}
 use Prim.Native.Nat.{ℕ, _+_, _-_}
 use lib.ListN.{getD, set}

@@ -37,12 +37,22 @@ Undone = Bool × Board
 unfoldable pub undone : Bool → Board → Board → Undone
 undone fits c b = cond fits (true, c) (false, b)
 
+-- a record of each kind, for node x with the second word w
+abbrev pub undoShrunk : ℕ → Board → ℕ → ℕ → Undone
+undoShrunk n b x w = undone (fitsShrunk n b x w) (putSet b x w) b
+
+abbrev pub undoPlaced : ℕ → Board → ℕ → ℕ → Undone
+undoPlaced n b x w = undone (fitsPlaced n b x w) (unplaced b x w) b
+
+abbrev pub undoMarked : Board → ℕ → ℕ → Undone
+undoMarked b x w = undone (fitsMarked b x w) (unmarked b x) b
+
 -- the record with these two words: 256 × kind + node, and the old set or 0. No other first word fits
 unfoldable pub undoOne : ℕ → Board → ℕ → ℕ → Undone
 undoOne n b first w =
-    cond (eqb (first / 256) 1) (undone (fitsShrunk n b (first % 256) w) (putSet b (first % 256) w) b)
-    (cond (eqb (first / 256) 2) (undone (fitsPlaced n b (first % 256) w) (unplaced b (first % 256) w) b)
-    (cond (eqb (first / 256) 3) (undone (fitsMarked b (first % 256) w) (unmarked b (first % 256)) b)
+    cond (eqb (first / 256) 1) (undoShrunk n b (first % 256) w)
+    (cond (eqb (first / 256) 2) (undoPlaced n b (first % 256) w)
+    (cond (eqb (first / 256) 3) (undoMarked b (first % 256) w)
     (false, b)))
 
 -- the k newest of so many records, newest first, each against the board after the newer ones are undone, as far as they fit

@@ -2,17 +2,15 @@
 use mathlib.Core.Path.{_≡_, refl, ap, sym, _∙_, subst}
 use mathlib.Core.Bool.{Bool, true, false, cond, not, _&&_, and-false}
 use mathlib.Core.List.{List}
-use Prim.Native.Nat.{ℕ, zero, suc, _+_, _-_, _*_, _/_, _%_, _≤_, _<_}
+use Prim.Native.Nat.{ℕ, zero, suc, _-_, _/_, _%_, _≤_, _<_}
 use native.Mathlib.Omega.{arith}
-use native.Mathlib.Numerals.{add-one}
 use lib.Dec.{eqb, leb, ltb}
-use borrow.Author.Tests.{eqb-true, eqb-false, eq-eqb, ne-eqb, not-true, ltb-true, ltb-false, lt-ltb, le-ltb, lt-leb, le-leb}
+use borrow.Author.Tests.{eqb-true, eqb-false, ne-eqb, not-true, ltb-true, ltb-false, lt-ltb, le-ltb, lt-leb, le-leb}
 use Rattle.laws.specs.Logic.{decided, and-true}
 use Rattle.bits.specs.Places.{has, without, within}
-use Rattle.bits.specs.Members.{false-true}
 use Rattle.board.specs.Board.{Board, routeOf, onRoute, legsOf, setOf, inner}
 use Rattle.board.specs.Change.{putSet, unplaced, unmarked}
-use Rattle.board.specs.FormLaws.{Formed, Wide, Sound, inner-in, on-leg, route-long}
+use Rattle.board.specs.FormLaws.{Wide, Sound, inner-in, on-leg, route-long}
 use Rattle.board.specs.Route.{indexOf}
 use Rattle.board.specs.RouteLaws.{index-mem}
 use Rattle.board.specs.Keep.{put-wide, put-formed, unplaced-wide, unplaced-formed, unmarked-formed}

@@ -1,22 +1,21 @@
 -- Undoing records of a trail of words leaves sets and marks that are words.
-use mathlib.Core.Path.{_≡_, refl, ap, sym, _∙_}
+use mathlib.Core.Path.{_≡_, refl}
 use mathlib.Core.Bool.{Bool, true, false, cond, not, _&&_}
 use mathlib.Core.List.{List}
-use Prim.Native.Nat.{ℕ, zero, suc, _+_, _-_, _/_, _%_, _≤_, _<_, _^_}
+use Prim.Native.Nat.{ℕ, zero, suc, _-_, _/_, _%_, _<_, _^_}
 use native.Mathlib.Omega.{arith}
-use lib.ListN.{length, getD}
+use lib.ListN.{getD}
 use lib.Dec.{eqb}
 use borrow.Author.Tests.{eqb-true, eqb-false}
 use Rattle.laws.specs.Logic.{decided, and-true}
-use Rattle.bits.specs.Places.{without, within}
 use Rattle.bits.specs.Members.{without-fits}
-use Rattle.board.specs.Board.{Board, onRoute, legsOf, setOf, inner}
+use Rattle.board.specs.Board.{Board, onRoute, setOf, inner}
 use Rattle.board.specs.Change.{strike, putSet, unplaced, unmarked}
 use Rattle.board.specs.FormLaws.{Sound, inner-in}
 use Rattle.board.specs.Held.{Words}
 use Rattle.board.specs.Keep.{unplaced-set, unplaced-here}
 use Rattle.trail.specs.Trail.{firstOf, secondOf}
-use Rattle.trail.specs.Undo.{strictly, stopBefore, fitsShrunk, fitsPlaced, fitsMarked, undone, undoOne, undoMany}
+use Rattle.trail.specs.Undo.{fitsShrunk, fitsPlaced, fitsMarked, undone, undoOne, undoMany}
 use Rattle.trail.specs.UndoLaws.{one-shrunk, one-placed, one-marked, one-other, one-sound}
 use Rattle.trail.specs.Small.{put-words}
 

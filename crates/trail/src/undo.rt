@@ -9,10 +9,9 @@ ghost use mathlib.Core.Bool.{not, _&&_};
 ghost use Prim.Native.Nat.{_+_, _-_, _≤_, _<_};
 ghost use Rattle.bits.specs.Places.{has, without, within};
 ghost use Rattle.board.specs.Board.{board};
-ghost use Rattle.board.specs.Change.{putSet, unplaced, unmarked};
 ghost use Rattle.board.specs.FormLaws.{Sound};
 ghost use Rattle.trail.specs.Trail.{roomOf};
-ghost use Rattle.trail.specs.Undo.{strictly, fitsShrunk, fitsPlaced, fitsMarked, undone, undoOne, undoMany};
+ghost use Rattle.trail.specs.Undo.{strictly, undoShrunk, undoPlaced, undoMarked, undoOne, undoMany};
 
 // Whether it fitted, and the numbers of the board after; the arrays are changed in place.
 pub struct Undone {
@@ -38,7 +37,7 @@ fn undo_shrunk(
     w: u64,
 ) -> Undone
     requires { ⌜ Sound n (board (now route) stops (now sets) marks) ⌝ }
-    ensures { λ r. ⌜ undone (fitsShrunk n (board (now (route .entry)) stops (now (sets .entry)) marks) x w) (putSet (board (now (route .entry)) stops (now (sets .entry)) marks) x w) (board (now (route .entry)) stops (now (sets .entry)) marks) ≡ (r .fits, board (now (route .entry)) (r .stops) (now (sets .exit)) (r .marks)) ⌝ }
+    ensures { λ r. ⌜ undoShrunk n (board (now (route .entry)) stops (now (sets .entry)) marks) x w ≡ (r .fits, board (now (route .entry)) (r .stops) (now (sets .exit)) (r .marks)) ⌝ }
 {
     if !inner(n, x) {
         return Undone {
@@ -82,7 +81,7 @@ fn undo_placed(
     old: u64,
 ) -> Undone
     requires { ⌜ Sound n (board (now route) stops (now sets) marks) ⌝ }
-    ensures { λ r. ⌜ undone (fitsPlaced n (board (now (route .entry)) stops (now (sets .entry)) marks) x old) (unplaced (board (now (route .entry)) stops (now (sets .entry)) marks) x old) (board (now (route .entry)) stops (now (sets .entry)) marks) ≡ (r .fits, board (now (route .exit)) (r .stops) (now (sets .exit)) (r .marks)) ⌝ }
+    ensures { λ r. ⌜ undoPlaced n (board (now (route .entry)) stops (now (sets .entry)) marks) x old ≡ (r .fits, board (now (route .exit)) (r .stops) (now (sets .exit)) (r .marks)) ⌝ }
 {
     if !inner(n, x) {
         return Undone {
@@ -129,7 +128,7 @@ fn undo_marked<'a>(
     w: u64,
 ) -> Undone
     requires { ⌜ Sound n (board (now route) stops (now sets) marks) ⌝ }
-    ensures { λ r. ⌜ undone (fitsMarked (board (now (route .entry)) stops (now (sets .entry)) marks) x w) (unmarked (board (now (route .entry)) stops (now (sets .entry)) marks) x) (board (now (route .entry)) stops (now (sets .entry)) marks) ≡ (r .fits, board (now (route .entry)) (r .stops) (now (sets .entry)) (r .marks)) ⌝ }
+    ensures { λ r. ⌜ undoMarked (board (now (route .entry)) stops (now (sets .entry)) marks) x w ≡ (r .fits, board (now (route .entry)) (r .stops) (now (sets .entry)) (r .marks)) ⌝ }
 {
     let i = position(route, stops, x);
     let fits = (stops <= i) & (bits::has(marks, x) & (w == 0));

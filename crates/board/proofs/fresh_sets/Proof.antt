@@ -1,6 +1,6 @@
 use borrow.Author.Needs.{needs}
 use native.Mathlib.Omega.{arith}
-use mathlib.Core.Path.{_≡_, refl}
+use mathlib.Core.Path.{refl}
 use Prim.Native.Nat.{_≤_, _-_}
 use Rattle.laws.specs.Table.{Filled, filled-none, filled-more, filled-all}
 use Rattle.board.specs.Fresh.{freshSet, freshSets}

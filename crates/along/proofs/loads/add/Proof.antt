@@ -20,7 +20,8 @@ element-copy-out-v : tie.Need-element-copy-out-v Inv-loop μ-loop
 element-copy-out-v c = omega (arith, c .before .loop .inv .2 .long)
 
 add-h : tie.Need-add-h Inv-loop μ-loop
-add-h c = omega (arith, added-here (c .before .before .loop .inv .2), c .before .before .before .pre .3 (c .before .before .loop .i) (c .before .loop-test .taken))
+add-h c =
+    omega (arith, added-here (c .before .before .loop .inv .2), c .before .before .before .pre .3 (c .before .before .loop .i) (c .before .loop-test .taken))
 
 mul-h : tie.Need-mul-h Inv-loop μ-loop
 mul-h c = omega arith

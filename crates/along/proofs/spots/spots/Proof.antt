@@ -33,7 +33,8 @@ loop-less : tie.Need-loop-less Inv-loop μ-loop
 loop-less c = omega arith
 
 loop-again : tie.Need-loop-again Inv-loop μ-loop
-loop-again c = (omega arith, spots-more (c .before .before .before .pre .2 (c .before .before .loop .i) (omega arith)) (c .before .before .loop .inv .1))
+loop-again c =
+    (omega arith, spots-more (c .before .before .before .pre .2 (c .before .before .loop .i) (omega arith)) (c .before .before .loop .inv .1))
 
 returns : tie.Need-returns Inv-loop μ-loop
 returns c = let v = c .before .loop .inv in let e : c .before .loop .i ≡ c .before .before .args .stops = omega arith in rw e at (v .1)

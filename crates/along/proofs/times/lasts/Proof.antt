@@ -38,7 +38,13 @@ array-set-from-l : tie.Need-array-set-from-l Inv-loop μ-loop
 array-set-from-l c = omega arith
 
 loop-holds : tie.Need-loop-holds Inv-loop μ-loop
-loop-holds c = let a = c .before .before .before .args in let d = dayOf (a .s .now) in let e = last-kept d (low (a .s .now)) (a .route .now) (a .stops) (a .stops - 1) (omega arith) (c .last-moment .ensures ∙ last-first d (a .route .now) (a .stops) (omega arith) (omega arith)) in (omega arith, e, from-last _ _ (a .stops) (replicate 64 (pos 0)) _ refl (omega arith) (omega arith) e)
+loop-holds c =
+    let a = c .before .before .before .args in
+    let d = dayOf (a .s .now) in
+    let e =
+    last-kept d (low (a .s .now)) (a .route .now) (a .stops) (a .stops - 1) (omega arith)
+    (c .last-moment .ensures ∙ last-first d (a .route .now) (a .stops) (omega arith) (omega arith)) in
+    (omega arith, e, from-last _ _ (a .stops) (replicate 64 (pos 0)) _ refl (omega arith) (omega arith) e)
 
 mul-k : tie.Need-mul-k Inv-loop μ-loop
 mul-k c = omega arith
@@ -56,19 +62,33 @@ element-copy-out-p : tie.Need-element-copy-out-p Inv-loop μ-loop
 element-copy-out-p c = omega arith
 
 service-requires : tie.Need-service-requires Inv-loop μ-loop
-service-requires c κs = let p = c .before .before .before .before .before .before .before .pre in (p .0, node-at (p .1) (c .before .before .before .loop .i - 1) (omega arith))
+service-requires c κs =
+    let p = c .before .before .before .before .before .before .before .pre in
+    (p .0, node-at (p .1) (c .before .before .before .loop .i - 1) (omega arith))
 
 seconds-requires : tie.Need-seconds-requires Inv-loop μ-loop
-seconds-requires c κs = let p = c .before .before .before .before .before .before .before .before .pre in (p .0, node-at (p .1) (c .before .before .before .before .loop .i - 1) (omega arith), node-at (p .1) (c .before .before .before .before .loop .i) (omega arith))
+seconds-requires c κs =
+    let p = c .before .before .before .before .before .before .before .before .pre in (
+      p .0,
+      node-at (p .1) (c .before .before .before .before .loop .i - 1) (omega arith),
+      node-at (p .1) (c .before .before .before .before .loop .i) (omega arith),
+    )
 
 add-gap : tie.Need-add-gap Inv-loop μ-loop
 add-gap c = omega arith
 
 last-moment-requires-2 : tie.Need-last-moment-requires-2 Inv-loop μ-loop
-last-moment-requires-2 c κs = let p = c .before .before .before .before .before .before .before .before .before .pre in (p .0, node-at (p .1) (c .before .before .before .before .before .loop .i - 1) (omega arith))
+last-moment-requires-2 c κs =
+    let p = c .before .before .before .before .before .before .before .before .before .pre in
+    (p .0, node-at (p .1) (c .before .before .before .before .before .loop .i - 1) (omega arith))
 
 before-requires : tie.Need-before-requires Inv-loop μ-loop
-before-requires c κs = let a = c .before .before .before .before .before .before .before .before .before .before .args in let v = c .before .before .before .before .before .before .loop .inv in (omega arith, rw (v .1) (last-low (dayOf (a .s .now)) (low (a .s .now)) (a .route .now) (a .stops) (c .before .before .before .before .before .before .loop .i) (omega arith)))
+before-requires c κs =
+    let a = c .before .before .before .before .before .before .before .before .before .before .args in
+    let v = c .before .before .before .before .before .before .loop .inv in (
+      omega arith,
+      rw (v .1) (last-low (dayOf (a .s .now)) (low (a .s .now)) (a .route .now) (a .stops) (c .before .before .before .before .before .before .loop .i) (omega arith)),
+    )
 
 mul-l-2 : tie.Need-mul-l-2 Inv-loop μ-loop
 mul-l-2 c = omega arith
@@ -80,7 +100,17 @@ loop-less : tie.Need-loop-less Inv-loop μ-loop
 loop-less c = omega arith
 
 loop-again : tie.Need-loop-again Inv-loop μ-loop
-loop-again c = let v = c .before .before .before .before .before .before .before .loop .inv in let a = c .before .before .before .before .before .before .before .before .before .before .before .args in let d = dayOf (a .s .now) in let i = c .before .before .before .before .before .before .before .loop .i in let e = last-told d (a .route .now) (a .stops) i (omega arith) (omega arith) (omega arith) (v .1) (c .before2 .ensures) (moment-kept d (low (a .s .now)) (getD (a .route .now) (i - 1) 0) (c .before .last-moment2 .ensures)) (c .before .before .before .service .ensures .is) (c .before .before .seconds .ensures .is) in let f = last-kept d (low (a .s .now)) (a .route .now) (a .stops) (i - 1) (omega arith) e in (omega arith, f, from-down _ (omega arith) (omega arith) f (v .2))
+loop-again c =
+    let v = c .before .before .before .before .before .before .before .loop .inv in
+    let a = c .before .before .before .before .before .before .before .before .before .before .before .args in
+    let d = dayOf (a .s .now) in
+    let i = c .before .before .before .before .before .before .before .loop .i in
+    let e =
+    last-told d (a .route .now) (a .stops) i (omega arith) (omega arith) (omega arith) (v .1) (c .before2 .ensures)
+    (moment-kept d (low (a .s .now)) (getD (a .route .now) (i - 1) 0) (c .before .last-moment2 .ensures))
+    (c .before .before .before .service .ensures .is) (c .before .before .seconds .ensures .is) in
+    let f = last-kept d (low (a .s .now)) (a .route .now) (a .stops) (i - 1) (omega arith) e in
+    (omega arith, f, from-down _ (omega arith) (omega arith) f (v .2))
 
 returns : tie.Need-returns Inv-loop μ-loop
 returns c = let v = c .before .loop .inv in from-all (omega arith) (v .2)

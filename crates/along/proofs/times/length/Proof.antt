@@ -37,19 +37,34 @@ element-copy-out-k : tie.Need-element-copy-out-k Inv-loop μ-loop
 element-copy-out-k c = omega arith
 
 metres-requires : tie.Need-metres-requires Inv-loop μ-loop
-metres-requires c κs = let p = c .before .before .before .before .before .pre in (p .0, node-at (p .1) (c .before .before .before .loop .i) (omega arith), node-at (p .1) (c .before .before .before .loop .i + 1) (omega arith))
+metres-requires c κs =
+    let p = c .before .before .before .before .before .pre in
+    (p .0, node-at (p .1) (c .before .before .before .loop .i) (omega arith), node-at (p .1) (c .before .before .before .loop .i + 1) (omega arith))
 
 add-total : tie.Need-add-total Inv-loop μ-loop
-add-total c = let a = c .before .before .before .before .before .before .args in omega (arith, length-low (dayOf (a .s .now)) (low (a .s .now)) (a .route .now) (c .before .before .before .before .loop .i + 1) (omega arith), c .metres .ensures .low)
+add-total c =
+    let a = c .before .before .before .before .before .before .args in
+    omega (arith, length-low (dayOf (a .s .now)) (low (a .s .now)) (a .route .now) (c .before .before .before .before .loop .i + 1) (omega arith), c .metres .ensures .low)
 
 loop-less : tie.Need-loop-less Inv-loop μ-loop
 loop-less c = omega arith
 
 loop-again : tie.Need-loop-again Inv-loop μ-loop
-loop-again c = let a = c .before .before .before .before .before .before .args in let v = c .before .before .before .before .loop .inv in (omega arith, ap (λ (x : ℕ). c .before .before .before .before .loop .total + x) (c .metres .ensures .is) ∙ length-turn (dayOf (a .s .now)) (a .route .now) (c .before .before .before .before .loop .i) (omega arith) (v .1))
+loop-again c =
+    let a = c .before .before .before .before .before .before .args in
+    let v = c .before .before .before .before .loop .inv in (
+      omega arith,
+      ap (λ (x : ℕ). c .before .before .before .before .loop .total + x) (c .metres .ensures .is)
+          ∙ length-turn (dayOf (a .s .now)) (a .route .now) (c .before .before .before .before .loop .i) (omega arith) (v .1),
+    )
 
 returns : tie.Need-returns Inv-loop μ-loop
-returns c = let a = c .before .before .before .args in let v = c .before .loop .inv in let q : c .before .loop .i + 1 ≡ a .stops = omega arith in let e : c .before .loop .total ≡ driven (dayOf (a .s .now)) (take (a .stops) (a .route .now)) = rw (← q) (v .1) in (e, omega (arith, e, length-low (dayOf (a .s .now)) (low (a .s .now)) (a .route .now) (a .stops) (omega arith)))
+returns c =
+    let a = c .before .before .before .args in
+    let v = c .before .loop .inv in
+    let q : c .before .loop .i + 1 ≡ a .stops = omega arith in
+    let e : c .before .loop .total ≡ driven (dayOf (a .s .now)) (take (a .stops) (a .route .now)) = rw (← q) (v .1) in
+    (e, omega (arith, e, length-low (dayOf (a .s .now)) (low (a .s .now)) (a .route .now) (a .stops) (omega arith)))
 
 pub length-spec : {M : Type 1} → statement M
 length-spec =

@@ -26,7 +26,10 @@ array-write-e : tie.Need-array-write-e Inv-loop μ-loop
 array-write-e c = omega arith
 
 loop-holds : tie.Need-loop-holds Inv-loop μ-loop
-loop-holds c = let a = c .before .before .before .args in let e : c .earliest .result ≡ startAt (dayOf (a .s .now)) (take (a .stops) (a .route .now)) 0 = c .earliest .ensures .is ∙ start-first (dayOf (a .s .now)) (a .route .now) (a .stops) (omega arith) in (omega arith, e, filled-more _ (filled-none 64 _ 0 (replicate 64 0) refl) (omega arith) e)
+loop-holds c =
+    let a = c .before .before .before .args in
+    let e : c .earliest .result ≡ startAt (dayOf (a .s .now)) (take (a .stops) (a .route .now)) 0 = c .earliest .ensures .is ∙ start-first (dayOf (a .s .now)) (a .route .now) (a .stops) (omega arith) in
+    (omega arith, e, filled-more _ (filled-none 64 _ 0 (replicate 64 0) refl) (omega arith) e)
 
 add-loop : tie.Need-add-loop Inv-loop μ-loop
 add-loop c = omega arith
@@ -47,7 +50,14 @@ element-copy-out-x : tie.Need-element-copy-out-x Inv-loop μ-loop
 element-copy-out-x c = omega arith
 
 arrive-requires : tie.Need-arrive-requires Inv-loop μ-loop
-arrive-requires c κs = let a = c .before .before .before .before .before .before .before .args in let p = c .before .before .before .before .before .before .before .pre in (p .0, node-at (p .1) (c .before .before .before .loop .i) (omega arith), node-at (p .1) (c .before .before .before .loop .i + 1) (omega arith), omega (arith, start-low (dayOf (a .s .now)) (low (a .s .now)) (take (a .stops) (a .route .now)) (c .before .before .before .loop .i) (omega arith)))
+arrive-requires c κs =
+    let a = c .before .before .before .before .before .before .before .args in
+    let p = c .before .before .before .before .before .before .before .pre in (
+      p .0,
+      node-at (p .1) (c .before .before .before .loop .i) (omega arith),
+      node-at (p .1) (c .before .before .before .loop .i + 1) (omega arith),
+      omega (arith, start-low (dayOf (a .s .now)) (low (a .s .now)) (take (a .stops) (a .route .now)) (c .before .before .before .loop .i) (omega arith)),
+    )
 
 mul-e : tie.Need-mul-e Inv-loop μ-loop
 mul-e c = omega arith
@@ -59,7 +69,13 @@ loop-less : tie.Need-loop-less Inv-loop μ-loop
 loop-less c = omega arith
 
 loop-again : tie.Need-loop-again Inv-loop μ-loop
-loop-again c = let a = c .before .before .before .before .before .before .before .before .args in let v = c .before .before .before .before .loop .inv in let e = c .arrive .ensures .0 ∙ start-turn (dayOf (a .s .now)) (a .route .now) (a .stops) (c .before .before .before .before .loop .i) (omega arith) (v .1) in (omega arith, e, filled-more _ (v .2) (omega arith) e)
+loop-again c =
+    let a = c .before .before .before .before .before .before .before .before .args in
+    let v = c .before .before .before .before .loop .inv in
+    let e =
+    c .arrive .ensures .0
+    ∙ start-turn (dayOf (a .s .now)) (a .route .now) (a .stops) (c .before .before .before .before .loop .i) (omega arith) (v .1) in
+    (omega arith, e, filled-more _ (v .2) (omega arith) e)
 
 returns : tie.Need-returns Inv-loop μ-loop
 returns c = let v = c .before .loop .inv in record { long = v .2 .long; at = λ k b. v .2 .at k (omega arith) }

@@ -39,8 +39,9 @@ element-copy-out-v c = search needs
 has-requires : tie.Need-has-requires Inv-loop μ-loop
 has-requires c κs = search needs
 
-add-ok : tie.Need-add-ok Inv-loop μ-loop
-add-ok c = omega (arith, c .before .before .before .before .before .before .before .before .pre .loads (c .before .before .before .before .before .before .before .loop .i - 1) (omega arith))
+add-room : tie.Need-add-room Inv-loop μ-loop
+add-room c =
+    omega (arith, c .before .before .before .before .before .before .before .before .pre .loads (c .before .before .before .before .before .before .before .loop .i - 1) (omega arith))
 
 strike-requires : tie.Need-strike-requires Inv-loop μ-loop
 strike-requires c κs = search needs
@@ -49,7 +50,13 @@ loop-less : tie.Need-loop-less Inv-loop μ-loop
 loop-less c = search needs
 
 loop-again : tie.Need-loop-again Inv-loop μ-loop
-loop-again c = let v = c .before .before .before .before .before .before .before .before .before .loop .inv in let a = c .before .before .before .before .before .before .before .before .before .before .args in let e = down-next (a .route .now) (a .h .now) (a .ride) (a .legs) (c .before .before .before .before .before .before .before .before .before .loop .i) (omega arith) (omega arith) (c .before .before .before .has .ensures) (v .1) in (omega arith, e, kept-down (omega arith) (omega arith) e (c .strike .ensures) (v .2))
+loop-again c =
+    let v = c .before .before .before .before .before .before .before .before .before .loop .inv in
+    let a = c .before .before .before .before .before .before .before .before .before .before .args in
+    let e =
+    down-next (a .route .now) (a .h .now) (a .ride) (a .legs) (c .before .before .before .before .before .before .before .before .before .loop .i)
+    (omega arith) (omega arith) (c .before .before .before .has .ensures) (v .1) in
+    (omega arith, e, kept-down (omega arith) (omega arith) e (c .strike .ensures) (v .2))
 
 returns : tie.Need-returns Inv-loop μ-loop
 returns c = let v = c .before .loop .inv in let e : c .before .loop .i ≡ 0 = omega arith in rw e at (v .2)
@@ -69,7 +76,7 @@ backward-spec =
     mul-v
     element-copy-out-v
     has-requires
-    add-ok
+    add-room
     strike-requires
     loop-less
     loop-again

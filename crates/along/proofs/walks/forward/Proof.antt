@@ -30,8 +30,9 @@ element-copy-out-v c = search needs
 has-requires : tie.Need-has-requires Inv-loop μ-loop
 has-requires c κs = search needs
 
-add-ok : tie.Need-add-ok Inv-loop μ-loop
-add-ok c = omega (arith, c .before .before .before .before .before .before .before .pre .loads (c .before .before .before .before .before .before .loop .i) (omega arith))
+add-fits : tie.Need-add-fits Inv-loop μ-loop
+add-fits c =
+    omega (arith, c .before .before .before .before .before .before .before .pre .loads (c .before .before .before .before .before .before .loop .i) (omega arith))
 
 strike-requires : tie.Need-strike-requires Inv-loop μ-loop
 strike-requires c κs = search needs
@@ -43,7 +44,13 @@ loop-less : tie.Need-loop-less Inv-loop μ-loop
 loop-less c = search needs
 
 loop-again : tie.Need-loop-again Inv-loop μ-loop
-loop-again c = let v = c .before .before .before .before .before .before .before .before .loop .inv in let a = c .before .before .before .before .before .before .before .before .before .args in let e = up-next (a .route .now) (a .h .now) (a .ride) (c .before .before .before .before .before .before .before .before .loop .i) (c .before .before .before .has .ensures) (v .1) in (omega arith, e, kept-up (omega arith) e (c .strike .ensures) (v .2))
+loop-again c =
+    let v = c .before .before .before .before .before .before .before .before .loop .inv in
+    let a = c .before .before .before .before .before .before .before .before .before .args in
+    let e =
+    up-next (a .route .now) (a .h .now) (a .ride) (c .before .before .before .before .before .before .before .before .loop .i)
+    (c .before .before .before .has .ensures) (v .1) in
+    (omega arith, e, kept-up (omega arith) e (c .strike .ensures) (v .2))
 
 returns : tie.Need-returns Inv-loop μ-loop
 returns c = let v = c .before .loop .inv in let e : c .before .loop .i ≡ c .before .before .args .legs = omega arith in rw e at (v .2)
@@ -60,7 +67,7 @@ forward-spec =
     mul-v
     element-copy-out-v
     has-requires
-    add-ok
+    add-fits
     strike-requires
     add-i
     loop-less

@@ -1,8 +1,8 @@
 use borrow.Author.Needs.{needs}
 use native.Mathlib.Omega.{arith}
-use mathlib.Core.Path.{_≡_, refl, sym, _∙_, ap}
-use Prim.Native.Nat.{ℕ, _≤_, _-_, _+_}
-use lib.ListN.{length, getD}
+use mathlib.Core.Path.{_≡_, refl, _∙_}
+use Prim.Native.Nat.{_≤_, _-_, _+_}
+use lib.ListN.{getD}
 use borrow.Author.Tests.{lt-leb, le-leb}
 use Rattle.laws.specs.Below.{allBelow, below-none, flag-goes, flag-done}
 use Rattle.board.specs.Form.{levelOk, levelsOk}

@@ -1,6 +1,5 @@
-use mathlib.Core.Path.{_≡_, refl, sym, _∙_, ap}
+use mathlib.Core.Path.{_≡_, _∙_}
 use Prim.Native.Nat.{_≤_, _-_}
-use lib.ListN.{length, getD}
 use Rattle.laws.specs.Below.{allBelow, below-none, flag-goes, flag-done}
 use Rattle.board.specs.Board.{board, legsOf, setOf}
 use Rattle.board.specs.Form.{nodeOk}

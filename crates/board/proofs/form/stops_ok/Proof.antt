@@ -1,8 +1,7 @@
 use borrow.Author.Needs.{needs}
 use native.Mathlib.Omega.{arith}
-use mathlib.Core.Path.{_≡_, sym, _∙_, ap₂}
-use Prim.Native.Nat.{_≤_, _-_, _+_}
-use lib.ListN.{length, getD}
+use mathlib.Core.Path.{_≡_, sym, _∙_}
+use Prim.Native.Nat.{_≤_, _-_}
 use Rattle.laws.specs.Below.{allBelow, below-none, flag-goes, flag-done}
 use Rattle.bits.specs.Places.{with}
 use Rattle.board.specs.Route.{wordOf}

@@ -4,7 +4,7 @@ use mathlib.Core.Path.{_≡_, sym}
 use mathlib.Core.List.{map}
 use Prim.Native.Nat.{_≤_, _-_}
 use lib.ListN.{length}
-use Rattle.laws.specs.Sweep.{swept, swept-start, map-turn, map-end, length-swept}
+use Rattle.laws.specs.Sweep.{swept, swept-start, map-turn, map-end}
 use Rattle.board.specs.Change.{heir, strike}
 use Rattle.board.proofs.places.inherit.Statement.{statement}
 use Rattle.board.proofs.places.inherit.Tie as tie

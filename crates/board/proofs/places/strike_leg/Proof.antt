@@ -4,8 +4,8 @@ use mathlib.Core.Path.{_≡_, sym}
 use mathlib.Core.List.{map}
 use Prim.Native.Nat.{_≤_, _-_}
 use lib.ListN.{length}
-use Rattle.laws.specs.Sweep.{swept, swept-start, map-turn, map-end, length-swept}
-use Rattle.board.specs.Change.{heir, strike}
+use Rattle.laws.specs.Sweep.{swept, swept-start, map-turn, map-end}
+use Rattle.board.specs.Change.{strike}
 use Rattle.board.proofs.places.strike_leg.Statement.{statement}
 use Rattle.board.proofs.places.strike_leg.Tie as tie
 

@@ -1,6 +1,6 @@
-use mathlib.Core.Path.{_≡_, sym, _∙_}
+use mathlib.Core.Path.{_≡_, sym}
 use Prim.Native.Nat.{ℕ, _≤_, _<_, _-_}
-use lib.ListN.{getD, length}
+use lib.ListN.{getD}
 use borrow.Author.Count.{below-none, below-more}
 use Rattle.board.specs.RouteLaws.{first-at, first-none}
 use native.Mathlib.Omega.{arith}

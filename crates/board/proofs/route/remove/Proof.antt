@@ -1,6 +1,5 @@
 use mathlib.Core.Path.{_≡_}
 use Prim.Native.Nat.{_≤_, _-_}
-use lib.ListN.{length}
 use Rattle.laws.specs.Sweep.{swept}
 use Rattle.board.specs.Route.{removeIn}
 use Rattle.board.specs.Shift.{close-start, close-turn, close-end}

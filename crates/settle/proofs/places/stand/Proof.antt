@@ -54,7 +54,10 @@ element-copy-out-last : tie.Need-element-copy-out-last Inv-loop μ-loop
 element-copy-out-last c = omega arith
 
 tried-requires : tie.Need-tried-requires Inv-loop μ-loop
-tried-requires c κs = let i = c .before .before .before .before .before .loop .i in let q = c .before .before .before .before .before .before .before .before .pre in (q .0, q .1, q .2 .nodes i (omega arith), q .2 .nodes (i + 1) (omega arith), q .2 .times i (omega arith), q .2 .whole, q .2 .bound)
+tried-requires c κs =
+    let i = c .before .before .before .before .before .loop .i in
+    let q = c .before .before .before .before .before .before .before .before .pre in
+    (q .0, q .1, q .2 .nodes i (omega arith), q .2 .nodes (i + 1) (omega arith), q .2 .times i (omega arith), q .2 .whole, q .2 .bound)
 
 add-i : tie.Need-add-i Inv-loop μ-loop
 add-i c = omega arith
@@ -63,10 +66,18 @@ loop-less : tie.Need-loop-less Inv-loop μ-loop
 loop-less c = omega arith
 
 loop-again : tie.Need-loop-again Inv-loop μ-loop
-loop-again c = let v = c .before .before .before .before .before .before .loop .inv in let a = c .before .before .before .before .before .before .before .before .before .args in (omega arith, kept-up (omega arith) refl (rw (toZ-ofZ {w = w64} {z = getD (a .l .now) (c .before .before .before .before .before .before .loop .i + 1) (pos 0)} (record { sfits = c .before .last .given })) at (c .tried .ensures)) (v .1))
+loop-again c =
+    let v = c .before .before .before .before .before .before .loop .inv in
+    let a = c .before .before .before .before .before .before .before .before .before .args in (
+      omega arith,
+      kept-up (omega arith) refl
+          (rw (toZ-ofZ {w = w64} {z = getD (a .l .now) (c .before .before .before .before .before .before .loop .i + 1) (pos 0)} (record { sfits = c .before .last .given })) at (c .tried .ensures))
+          (v .1),
+    )
 
 returns-2 : tie.Need-returns-2 Inv-loop μ-loop
-returns-2 c = let v = c .before .loop .inv in let e : c .before .loop .i ≡ c .before .before .before .before .args .legs = omega arith in rw e at (v .1)
+returns-2 c =
+    let v = c .before .loop .inv in let e : c .before .loop .i ≡ c .before .before .before .before .args .legs = omega arith in rw e at (v .1)
 
 pub stand-spec : {M : Type 1} → statement M
 stand-spec =

@@ -22,10 +22,15 @@ strike-requires c κs = search needs
 
 returns : tie.Need-returns
 unfolding stands
-returns c = let w = rw (toZ-ofZ (c .before .before .before .before .before .before .fits .last)) at (c .before .before .window .ensures) in c .strike .ensures ∙ ap (struck _ _) (λ i. w i && c .before .short-enough .ensures i)
+returns c =
+    let w = rw (toZ-ofZ (c .before .before .before .before .before .before .fits .last)) at (c .before .before .window .ensures) in
+    c .strike .ensures ∙ ap (struck _ _) (λ i. w i && c .before .short-enough .ensures i)
 
 returns-2 : tie.Need-returns-2
-returns-2 c = let a = c .before .before .before .args in struck-lacks (a .word) (a .p) (stands (dayOf (a .s .now)) (a .limit) (a .x) (a .p) (a .k) (a .t) (a .last) (a .total)) (sym (c .before .has .ensures) ∙ c .if1 .left)
+returns-2 c =
+    let a = c .before .before .before .args in
+    struck-lacks (a .word) (a .p) (stands (dayOf (a .s .now)) (a .limit) (a .x) (a .p) (a .k) (a .t) (a .last) (a .total))
+    (sym (c .before .has .ensures) ∙ c .if1 .left)
 
 pub tried-spec : {M : Type 1} → statement M
 tried-spec =

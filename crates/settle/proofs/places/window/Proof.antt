@@ -32,7 +32,13 @@ in-time-requires-2 : tie.Need-in-time-requires-2
 in-time-requires-2 c κs = search needs
 
 returns : tie.Need-returns
-returns c = let a = c .before .before .before .before .before .before .before .args in window-is (dayOf (a .s .now)) (a .x) (a .p) (a .k) (a .t) (a .last) (c .before .in-time .ensures) (c .in-time2 .ensures) (c .before .before .before .before .before .arrive .ensures .0) (moment-kept (dayOf (a .s .now)) (low (a .s .now)) (a .x) (c .before .before .last-moment .ensures)) (c .before .before .before .before .service .ensures .is) (c .before .before .before .seconds .ensures .is) (toZ-ofZ (c .before .before .before .before .before .before .before .fits .last))
+returns c =
+    let a = c .before .before .before .before .before .before .before .args in
+    window-is (dayOf (a .s .now)) (a .x) (a .p) (a .k) (a .t) (a .last) (c .before .in-time .ensures) (c .in-time2 .ensures)
+    (c .before .before .before .before .before .arrive .ensures .0)
+    (moment-kept (dayOf (a .s .now)) (low (a .s .now)) (a .x) (c .before .before .last-moment .ensures))
+    (c .before .before .before .before .service .ensures .is) (c .before .before .before .seconds .ensures .is)
+    (toZ-ofZ (c .before .before .before .before .before .before .before .fits .last))
 
 pub window-spec : {M : Type 1} → statement M
 window-spec =

@@ -37,7 +37,11 @@ loop-less : tie.Need-loop-less Inv-loop μ-loop
 loop-less c = omega arith
 
 loop-again : tie.Need-loop-again Inv-loop μ-loop
-loop-again c = (omega arith, upto-more (omega (arith, nodes-most (c .before .before .before .before .before .pre .0))) (c .before .before .before .loop .inv .1) (c .stand .ensures))
+loop-again c = (
+  omega arith,
+  upto-more (omega (arith, nodes-most (c .before .before .before .before .before .pre .0))) (c .before .before .before .loop .inv .1)
+      (c .stand .ensures),
+)
 
 returns : tie.Need-returns Inv-loop μ-loop
 returns c = upto-all (λ y h. c .before .before .before .pre .2 y (omega arith)) (c .before .loop .inv .1)

@@ -28,7 +28,9 @@ places-requires-2 : tie.Need-places-requires-2
 places-requires-2 c κs = search needs
 
 front-requires-2 : tie.Need-front-requires-2
-front-requires-2 c κs = let q = c .before .before .before .before .before .before .before .before .pre in (c .before .before .rear2 .ensures .long, rw (c .before .before .before .before .before .before .job3 .given .1) at (q .2))
+front-requires-2 c κs =
+    let q = c .before .before .before .before .before .before .before .before .pre in
+    (c .before .before .rear2 .ensures .long, rw (c .before .before .before .before .before .before .job3 .given .1) at (q .2))
 
 returns : tie.Need-returns
 returns c = rw (c .before .before .before .job .given .1) (job-clean _ _ _ _ _ (c .front .ensures))
@@ -37,7 +39,8 @@ returns-2 : tie.Need-returns-2
 returns-2 c = rw (c .before .before .before .job2 .given .1) (job-soiled _ _ _ _ _ (c .rear .ensures))
 
 returns-3 : tie.Need-returns-3
-returns-3 c = rw (c .before .before .before .before .before .before .before .job3 .given .1) (job-transfer _ _ _ _ _ _ (c .before .before .before .before .before .places .ensures) (c .before .before .places2 .ensures) (c .before .before .before .rear2 .ensures) (c .front2 .ensures))
+returns-3 c =
+    rw (c .before .before .before .before .before .before .before .job3 .given .1) (job-transfer _ _ _ _ _ _ (c .before .before .before .before .before .places .ensures) (c .before .before .places2 .ensures) (c .before .before .before .rear2 .ensures) (c .front2 .ensures))
 
 pub strike-job-spec : {M : Type 1} → statement M
 strike-job-spec =

@@ -22,7 +22,14 @@ job-requires : tie.Need-job-requires Inv-loop μ-loop
 job-requires c κs = (c .before .before .before .pre .0, omega arith)
 
 strike-job-requires : tie.Need-strike-job-requires Inv-loop μ-loop
-strike-job-requires c κs = let q = c .before .before .before .before .before .pre in let a = c .before .before .before .before .before .args in let e : loadOf (c .before .job .result) < 4294967296 = subst (λ (j : Job). loadOf j < 4294967296) (sym (c .before .job .ensures)) (job-low (a .s .now) (c .before .before .before .loop .j)) in (q .1, c .before .before .before .loop .inv .1 .long, record { long = q .3 .long; wide = q .3 .wide; few = q .3 .few; low = e; loads = q .3 .loads })
+strike-job-requires c κs =
+    let q = c .before .before .before .before .before .pre in
+    let a = c .before .before .before .before .before .args in
+    let e : loadOf (c .before .job .result) < 4294967296 = subst (λ (j : Job). loadOf j < 4294967296) (sym (c .before .job .ensures)) (job-low (a .s .now) (c .before .before .before .loop .j)) in (
+      q .1,
+      c .before .before .before .loop .inv .1 .long,
+      record { long = q .3 .long; wide = q .3 .wide; few = q .3 .few; low = e; loads = q .3 .loads },
+    )
 
 add-j : tie.Need-add-j Inv-loop μ-loop
 add-j c = omega arith
@@ -31,7 +38,9 @@ loop-less : tie.Need-loop-less Inv-loop μ-loop
 loop-less c = omega arith
 
 loop-again : tie.Need-loop-again Inv-loop μ-loop
-loop-again c = let v = c .before .before .before .before .loop .inv in (omega arith, loads-more _ _ _ _ _ (c .before .before .job .ensures) (v .1) (c .strike-job .ensures))
+loop-again c =
+    let v = c .before .before .before .before .loop .inv in
+    (omega arith, loads-more _ _ _ _ _ (c .before .before .job .ensures) (v .1) (c .strike-job .ensures))
 
 returns : tie.Need-returns Inv-loop μ-loop
 returns c = let v = c .before .loop .inv in let e : c .before .loop .j ≡ c .before .before .before .args .at .jobs = omega arith in rw e at (v .1)

@@ -31,7 +31,9 @@ element-copy-out-if1-2 : tie.Need-element-copy-out-if1-2 Inv-loop μ-loop
 element-copy-out-if1-2 c = omega arith
 
 returns : tie.Need-returns Inv-loop μ-loop
-returns c = let a = c .before .before .before .before .before .args in sym (below-fails 64 (c .before .before .before .before .loop .i) (λ k. eqb (getD (a .a .now) k 0) (getD (a .b .now) k 0)) (omega arith) (ne-eqb _ _ (c .if1 .taken)))
+returns c =
+    let a = c .before .before .before .before .before .args in
+    sym (below-fails 64 (c .before .before .before .before .loop .i) (λ k. eqb (getD (a .a .now) k 0) (getD (a .b .now) k 0)) (omega arith) (ne-eqb _ _ (c .if1 .taken)))
 
 add-i : tie.Need-add-i Inv-loop μ-loop
 add-i c = omega arith
@@ -40,7 +42,12 @@ loop-less : tie.Need-loop-less Inv-loop μ-loop
 loop-less c = omega arith
 
 loop-again : tie.Need-loop-again Inv-loop μ-loop
-loop-again c = let a = c .before .before .before .before .before .args in (omega arith, below-next (c .before .before .before .before .loop .i) (λ k. eqb (getD (a .a .now) k 0) (getD (a .b .now) k 0)) (c .before .before .before .before .loop .inv .1) (eq-eqb _ _ (c .if1 .left)))
+loop-again c =
+    let a = c .before .before .before .before .before .args in (
+      omega arith,
+      below-next (c .before .before .before .before .loop .i) (λ k. eqb (getD (a .a .now) k 0) (getD (a .b .now) k 0))
+          (c .before .before .before .before .loop .inv .1) (eq-eqb _ _ (c .if1 .left)),
+    )
 
 returns-2 : tie.Need-returns-2 Inv-loop μ-loop
 returns-2 c = below-done _ _ _ (c .before .loop .inv .0) (c .loop-test .left) (c .before .loop .inv .1)

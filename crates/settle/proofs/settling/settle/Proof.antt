@@ -18,7 +18,17 @@ length-requires : tie.Need-length-requires
 length-requires c κs = let p = c .before .before .before .before .before .before .pre .0 in (p .laid, route-of p)
 
 rounds-requires : tie.Need-rounds-requires
-rounds-requires c κs = let p = c .before .before .before .before .before .before .before .before .before .before .before .pre in (p .0, record { starts = c .before .before .before .before .before .before .before .before .before .starts .ensures; lasts = c .before .before .before .before .before .before .before .before .lasts .ensures; loads = c .before .before .before .before .before .loads .ensures; metres = c .before .before .before .before .length .ensures .0 }, p .1)
+rounds-requires c κs =
+    let p = c .before .before .before .before .before .before .before .before .before .before .before .pre in (
+      p .0,
+      record {
+        starts = c .before .before .before .before .before .before .before .before .before .starts .ensures;
+        lasts = c .before .before .before .before .before .before .before .before .lasts .ensures;
+        loads = c .before .before .before .before .before .loads .ensures;
+        metres = c .before .before .before .before .length .ensures .0;
+      },
+      p .1,
+    )
 
 returns : tie.Need-returns
 returns c = c .rounds .ensures

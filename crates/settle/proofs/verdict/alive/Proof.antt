@@ -1,3 +1,4 @@
+use Rattle.day.specs.Asked.{proper}
 use mathlib.Core.Path.{sym, ap}
 use Prim.Native.Nat.{ℕ}
 use Rattle.laws.specs.Table.{tab}
@@ -22,13 +23,32 @@ length-requires : tie.Need-length-requires
 length-requires c κs = let p = c .before .before .before .before .before .pre in (p .laid, route-of p)
 
 none-owed-requires : tie.Need-none-owed-requires
-none-owed-requires c κs = let p = c .before .before .before .before .before .before .before .pre in (p .laid, c .before .before .before .before .spots .ensures .long, p .sized)
+none-owed-requires c κs =
+    let p = c .before .before .before .before .before .before .before .pre in
+    (p .laid, c .before .before .before .before .spots .ensures .long, p .sized)
 
 road-kept-requires : tie.Need-road-kept-requires
-road-kept-requires c κs = let p = c .before .before .before .before .before .before .before .before .before .before .before .pre in (p .laid, route-of p, c .before .before .before .before .before .before .before .before .spots .ensures, record { starts = c .before .before .before .before .before .before .before .before .before .starts .ensures; loads = c .before .before .before .before .before .before .loads .ensures; metres = c .before .before .before .before .before .length .ensures .0 })
+road-kept-requires c κs =
+    let p = c .before .before .before .before .before .before .before .before .before .before .before .pre in (
+      p .laid,
+      route-of p,
+      c .before .before .before .before .before .before .before .before .spots .ensures,
+      record {
+        starts = c .before .before .before .before .before .before .before .before .before .starts .ensures;
+        loads = c .before .before .before .before .before .before .loads .ensures;
+        metres = c .before .before .before .before .before .length .ensures .0;
+      },
+    )
 
 returns : tie.Need-returns
-returns c = let a = c .before .before .before .before .before .before .before .before .before .before .before .before .args in let p = c .before .before .before .before .before .before .before .before .before .before .before .before .pre in alive-told (dayOf (a .s .now)) (jobIn (a .s .now)) (a .at .jobs) (ap (λ (k : ℕ). tab k (jobIn (a .s .now))) (sym (jobs-are (p .laid)))) (a .route .now) (a .stops) (p .long) (p .most) (p .form .nodes) (c .before .before .before .before .before .before .before .before .before .spots .result) (c .before .before .before .before .before .before .before .before .before .spots .ensures) (vanIn (a .van)) (a .sets .now) (a .marks) (a .at .nodes) (nodes-are (p .laid)) (p .proper) (p .form .leg) (c .before .before .before .before .none-owed .ensures) (c .road-kept .ensures)
+returns c =
+    let a = c .before .before .before .before .before .before .before .before .before .before .before .before .args in
+    let p = c .before .before .before .before .before .before .before .before .before .before .before .before .pre in
+    alive-told (dayOf (a .s .now)) (jobIn (a .s .now)) (a .at .jobs) (ap (λ (k : ℕ). tab k (jobIn (a .s .now))) (sym (jobs-are (p .laid))))
+    (a .route .now) (a .stops) (p .long) (p .most) (p .form .nodes)
+    (c .before .before .before .before .before .before .before .before .before .spots .result)
+    (c .before .before .before .before .before .before .before .before .before .spots .ensures) (vanIn (a .van)) (a .sets .now) (a .marks)
+    (a .at .nodes) (nodes-are (p .laid)) (proper (a .s .now) (p .clear)) (p .form .leg) (c .before .before .before .before .none-owed .ensures) (c .road-kept .ensures)
 
 pub alive-spec : {M : Type 1} → statement M
 alive-spec =

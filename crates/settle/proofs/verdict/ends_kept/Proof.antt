@@ -31,7 +31,8 @@ returns-2 : tie.Need-returns-2
 returns-2 c = rw (c .enum-told2 .given .1) (ends-soiled _ _ _ _ _)
 
 returns-3 : tie.Need-returns-3
-returns-3 c = rw (c .before .before .before .before .before .job .given .1) (ends-transfer _ _ _ _ _ _ (c .before .before .before .calls .ensures) (c .before .before .calls2 .ensures) (c .before .stands .ensures) (c .stands2 .ensures))
+returns-3 c =
+    rw (c .before .before .before .before .before .job .given .1) (ends-transfer _ _ _ _ _ _ (c .before .before .before .calls .ensures) (c .before .before .calls2 .ensures) (c .before .stands .ensures) (c .stands2 .ensures))
 
 pub ends-kept-spec : {M : Type 1} → statement M
 ends-kept-spec =

@@ -25,7 +25,9 @@ element-copy-out-v : tie.Need-element-copy-out-v Inv-loop μ-loop
 element-copy-out-v c = omega arith
 
 returns : tie.Need-returns Inv-loop μ-loop
-returns c = let a = c .before .before .before .before .args in sym (below-fails (a .legs) (c .before .before .before .loop .i) (λ k. leb (getD (a .h .now) k 0) (a .capacity)) (omega arith) (lt-leb _ _ (c .if1 .taken)))
+returns c =
+    let a = c .before .before .before .before .args in
+    sym (below-fails (a .legs) (c .before .before .before .loop .i) (λ k. leb (getD (a .h .now) k 0) (a .capacity)) (omega arith) (lt-leb _ _ (c .if1 .taken)))
 
 add-i : tie.Need-add-i Inv-loop μ-loop
 add-i c = omega arith
@@ -34,7 +36,12 @@ loop-less : tie.Need-loop-less Inv-loop μ-loop
 loop-less c = omega arith
 
 loop-again : tie.Need-loop-again Inv-loop μ-loop
-loop-again c = let a = c .before .before .before .before .args in (omega arith, below-next (c .before .before .before .loop .i) (λ k. leb (getD (a .h .now) k 0) (a .capacity)) (c .before .before .before .loop .inv .1) (le-leb _ _ (c .if1 .left)))
+loop-again c =
+    let a = c .before .before .before .before .args in (
+      omega arith,
+      below-next (c .before .before .before .loop .i) (λ k. leb (getD (a .h .now) k 0) (a .capacity)) (c .before .before .before .loop .inv .1)
+          (le-leb _ _ (c .if1 .left)),
+    )
 
 returns-2 : tie.Need-returns-2 Inv-loop μ-loop
 returns-2 c = below-done _ _ _ (c .before .loop .inv .0) (c .loop-test .left) (c .before .loop .inv .1)

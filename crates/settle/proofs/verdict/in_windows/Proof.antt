@@ -35,13 +35,20 @@ element-copy-out-t : tie.Need-element-copy-out-t Inv-loop μ-loop
 element-copy-out-t c = omega arith
 
 last-moment-requires : tie.Need-last-moment-requires Inv-loop μ-loop
-last-moment-requires c κs = let p = c .before .before .before .before .before .pre in (p .0, node-at (p .1) (c .before .before .before .loop .i) (omega arith))
+last-moment-requires c κs =
+    let p = c .before .before .before .before .before .pre in (p .0, node-at (p .1) (c .before .before .before .loop .i) (omega arith))
 
 in-time-requires : tie.Need-in-time-requires Inv-loop μ-loop
-in-time-requires c κs = omega (arith, c .before .before .before .before .before .before .pre .3 (c .before .before .before .before .loop .i) (omega arith))
+in-time-requires c κs =
+    omega (arith, c .before .before .before .before .before .before .pre .3 (c .before .before .before .before .loop .i) (omega arith))
 
 returns : tie.Need-returns Inv-loop μ-loop
-returns c = let a = c .before .before .before .before .before .before .before .before .args in let i = c .before .before .before .before .before .before .loop .i in below-stops (a .stops) i (λ k. inTime (dayOf (a .s .now)) (getD (a .route .now) k 0) (getD (a .e .now) k 0)) (omega arith) (c .before .in-time .ensures ∙ ap (λ (z : ℤ). leZ (pos (getD (a .e .now) i 0)) z) (moment-kept (dayOf (a .s .now)) (low (a .s .now)) (getD (a .route .now) i 0) (c .before .before .last-moment .ensures))) (c .if1 .taken)
+returns c =
+    let a = c .before .before .before .before .before .before .before .before .args in
+    let i = c .before .before .before .before .before .before .loop .i in
+    below-stops (a .stops) i (λ k. inTime (dayOf (a .s .now)) (getD (a .route .now) k 0) (getD (a .e .now) k 0)) (omega arith)
+    (c .before .in-time .ensures ∙ ap (λ (z : ℤ). leZ (pos (getD (a .e .now) i 0)) z) (moment-kept (dayOf (a .s .now)) (low (a .s .now)) (getD (a .route .now) i 0) (c .before .before .last-moment .ensures)))
+    (c .if1 .taken)
 
 add-i : tie.Need-add-i Inv-loop μ-loop
 add-i c = omega arith
@@ -50,7 +57,15 @@ loop-less : tie.Need-loop-less Inv-loop μ-loop
 loop-less c = omega arith
 
 loop-again : tie.Need-loop-again Inv-loop μ-loop
-loop-again c = let a = c .before .before .before .before .before .before .before .before .args in let i = c .before .before .before .before .before .before .loop .i in (omega arith, below-goes i (λ k. inTime (dayOf (a .s .now)) (getD (a .route .now) k 0) (getD (a .e .now) k 0)) (c .before .before .before .before .before .before .loop .inv .1) (c .before .in-time .ensures ∙ ap (λ (z : ℤ). leZ (pos (getD (a .e .now) i 0)) z) (moment-kept (dayOf (a .s .now)) (low (a .s .now)) (getD (a .route .now) i 0) (c .before .before .last-moment .ensures))) (c .if1 .left))
+loop-again c =
+    let a = c .before .before .before .before .before .before .before .before .args in
+    let i = c .before .before .before .before .before .before .loop .i in (
+      omega arith,
+      below-goes i (λ k. inTime (dayOf (a .s .now)) (getD (a .route .now) k 0) (getD (a .e .now) k 0))
+          (c .before .before .before .before .before .before .loop .inv .1)
+          (c .before .in-time .ensures ∙ ap (λ (z : ℤ). leZ (pos (getD (a .e .now) i 0)) z) (moment-kept (dayOf (a .s .now)) (low (a .s .now)) (getD (a .route .now) i 0) (c .before .before .last-moment .ensures)))
+          (c .if1 .left),
+    )
 
 returns-2 : tie.Need-returns-2 Inv-loop μ-loop
 returns-2 c = below-done _ _ _ (c .before .loop .inv .0) (c .loop-test .left) (c .before .loop .inv .1)

@@ -24,7 +24,11 @@ ends-kept-requires : tie.Need-ends-kept-requires Inv-loop μ-loop
 ends-kept-requires c κs = (c .before .before .before .before .pre .1, c .before .before .before .before .pre .2)
 
 returns : tie.Need-returns Inv-loop μ-loop
-returns c = let a = c .before .before .before .before .before .before .args in let E = endsOk (onSpot (a .spots .now)) (a .sets .now) (a .marks) in below-stops (a .at .jobs) (c .before .before .before .before .loop .j) (ofJob E (jobIn (a .s .now))) (omega arith) (c .before .ends-kept .ensures ∙ ap E (c .before .before .job .ensures)) (c .if1 .taken)
+returns c =
+    let a = c .before .before .before .before .before .before .args in
+    let E = endsOk (onSpot (a .spots .now)) (a .sets .now) (a .marks) in
+    below-stops (a .at .jobs) (c .before .before .before .before .loop .j) (ofJob E (jobIn (a .s .now))) (omega arith)
+    (c .before .ends-kept .ensures ∙ ap E (c .before .before .job .ensures)) (c .if1 .taken)
 
 add-j : tie.Need-add-j Inv-loop μ-loop
 add-j c = omega arith
@@ -33,7 +37,13 @@ loop-less : tie.Need-loop-less Inv-loop μ-loop
 loop-less c = omega arith
 
 loop-again : tie.Need-loop-again Inv-loop μ-loop
-loop-again c = let a = c .before .before .before .before .before .before .args in let E = endsOk (onSpot (a .spots .now)) (a .sets .now) (a .marks) in (omega arith, below-goes (c .before .before .before .before .loop .j) (ofJob E (jobIn (a .s .now))) (c .before .before .before .before .loop .inv .1) (c .before .ends-kept .ensures ∙ ap E (c .before .before .job .ensures)) (c .if1 .left))
+loop-again c =
+    let a = c .before .before .before .before .before .before .args in
+    let E = endsOk (onSpot (a .spots .now)) (a .sets .now) (a .marks) in (
+      omega arith,
+      below-goes (c .before .before .before .before .loop .j) (ofJob E (jobIn (a .s .now))) (c .before .before .before .before .loop .inv .1)
+          (c .before .ends-kept .ensures ∙ ap E (c .before .before .job .ensures)) (c .if1 .left),
+    )
 
 returns-2 : tie.Need-returns-2 Inv-loop μ-loop
 returns-2 c = below-done _ _ _ (omega arith) (omega arith) (c .before .loop .inv .1)

@@ -30,7 +30,10 @@ stands-requires c κs = (c .before .before .before .pre .0, c .before .before .b
 
 returns : tie.Need-returns Inv-loop μ-loop
 unfolding markOk
-returns c = let a = c .before .before .before .before .before .args in below-stops (a .inner) (c .before .before .before .before .loop .i) _ (omega arith) (λ u. not (c .before .before .has .ensures u) || c .before .stands .ensures u) (c .if1 .taken)
+returns c =
+    let a = c .before .before .before .before .before .args in
+    below-stops (a .inner) (c .before .before .before .before .loop .i) _ (omega arith)
+    (λ u. not (c .before .before .has .ensures u) || c .before .stands .ensures u) (c .if1 .taken)
 
 add-i : tie.Need-add-i Inv-loop μ-loop
 add-i c = omega arith
@@ -40,7 +43,12 @@ loop-less c = omega arith
 
 loop-again : tie.Need-loop-again Inv-loop μ-loop
 unfolding markOk
-loop-again c = let a = c .before .before .before .before .before .args in (omega arith, below-goes (c .before .before .before .before .loop .i) _ (c .before .before .before .before .loop .inv .1) (λ u. not (c .before .before .has .ensures u) || c .before .stands .ensures u) (c .if1 .left))
+loop-again c =
+    let a = c .before .before .before .before .before .args in (
+      omega arith,
+      below-goes (c .before .before .before .before .loop .i) _ (c .before .before .before .before .loop .inv .1)
+          (λ u. not (c .before .before .has .ensures u) || c .before .stands .ensures u) (c .if1 .left),
+    )
 
 returns-2 : tie.Need-returns-2 Inv-loop μ-loop
 returns-2 c = below-done _ _ _ (omega arith) (omega arith) (c .before .loop .inv .1)

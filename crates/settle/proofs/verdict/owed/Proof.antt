@@ -24,7 +24,13 @@ paired-requires : tie.Need-paired-requires
 paired-requires c κs = search needs
 
 returns : tie.Need-returns
-returns c = let a = c .before .before .before .before .before .before .before .args in let p = c .before .before .before .before .before .before .before .pre in owed-told (dayOf (a .s .now)) (jobIn (a .s .now)) (a .at .jobs) (ap (λ (k : ℕ). tab k (jobIn (a .s .now))) (sym (jobs-are (p .0)))) (a .route .now) (a .stops) (p .1 .long) (p .1 .most) (p .1 .nodes) (c .before .before .before .before .before .spots .result) (c .before .before .before .before .before .spots .ensures) (a .marks) (a .x) (c .before .before .before .placed .ensures) (c .before .before .has .ensures) (c .paired .ensures)
+returns c =
+    let a = c .before .before .before .before .before .before .before .args in
+    let p = c .before .before .before .before .before .before .before .pre in
+    owed-told (dayOf (a .s .now)) (jobIn (a .s .now)) (a .at .jobs) (ap (λ (k : ℕ). tab k (jobIn (a .s .now))) (sym (jobs-are (p .0))))
+    (a .route .now) (a .stops) (p .1 .long) (p .1 .most) (p .1 .nodes) (c .before .before .before .before .before .spots .result)
+    (c .before .before .before .before .before .spots .ensures) (a .marks) (a .x) (c .before .before .before .placed .ensures)
+    (c .before .before .has .ensures) (c .paired .ensures)
 
 pub owed-spec : {M : Type 1} → statement M
 owed-spec =

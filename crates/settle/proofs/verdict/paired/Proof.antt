@@ -26,7 +26,11 @@ pairs-requires : tie.Need-pairs-requires Inv-loop μ-loop
 pairs-requires c κs = c .before .before .before .before .pre .1
 
 returns : tie.Need-returns Inv-loop μ-loop
-returns c = let a = c .before .before .before .before .before .before .args in let F = called (onSpot (a .spots .now)) (a .marks) in ap not (sym (below-fails (a .at .jobs) (c .before .before .before .before .loop .j) (λ k. not (partnered F (a .x) (jobIn (a .s .now) k))) (omega arith) (ap (λ (q : Job). not (partnered F (a .x) q)) (sym (c .before .before .job .ensures)) ∙ ap not (sym (c .before .pairs .ensures) ∙ c .if1 .taken))))
+returns c =
+    let a = c .before .before .before .before .before .before .args in
+    let F = called (onSpot (a .spots .now)) (a .marks) in
+    ap not
+    (sym (below-fails (a .at .jobs) (c .before .before .before .before .loop .j) (λ k. not (partnered F (a .x) (jobIn (a .s .now) k))) (omega arith) (ap (λ (q : Job). not (partnered F (a .x) q)) (sym (c .before .before .job .ensures)) ∙ ap not (sym (c .before .pairs .ensures) ∙ c .if1 .taken))))
 
 add-j : tie.Need-add-j Inv-loop μ-loop
 add-j c = omega arith
@@ -35,7 +39,14 @@ loop-less : tie.Need-loop-less Inv-loop μ-loop
 loop-less c = omega arith
 
 loop-again : tie.Need-loop-again Inv-loop μ-loop
-loop-again c = let a = c .before .before .before .before .before .before .args in let F = called (onSpot (a .spots .now)) (a .marks) in (omega arith, below-next (c .before .before .before .before .loop .j) (λ k. not (partnered F (a .x) (jobIn (a .s .now) k))) (c .before .before .before .before .loop .inv .1) (ap (λ (q : Job). not (partnered F (a .x) q)) (sym (c .before .before .job .ensures)) ∙ ap not (sym (c .before .pairs .ensures) ∙ c .if1 .left)))
+loop-again c =
+    let a = c .before .before .before .before .before .before .args in
+    let F = called (onSpot (a .spots .now)) (a .marks) in (
+      omega arith,
+      below-next (c .before .before .before .before .loop .j) (λ k. not (partnered F (a .x) (jobIn (a .s .now) k)))
+          (c .before .before .before .before .loop .inv .1)
+          (ap (λ (q : Job). not (partnered F (a .x) q)) (sym (c .before .before .job .ensures)) ∙ ap not (sym (c .before .pairs .ensures) ∙ c .if1 .left)),
+    )
 
 returns-2 : tie.Need-returns-2 Inv-loop μ-loop
 returns-2 c = ap not (below-done _ _ _ (omega arith) (omega arith) (c .before .loop .inv .1))

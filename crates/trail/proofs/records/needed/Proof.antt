@@ -1,4 +1,4 @@
-use mathlib.Core.Path.{_≡_, sym, ap, _∙_}
+use mathlib.Core.Path.{_≡_, ap, _∙_}
 use Prim.Native.Nat.{ℕ, _≤_, _-_}
 use Rattle.trail.specs.Trail.{shrunk}
 use Rattle.trail.specs.TrailLaws.{shrunk-none, shrunk-next}

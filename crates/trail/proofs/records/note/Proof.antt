@@ -1,5 +1,5 @@
-use mathlib.Core.Path.{_≡_, refl, sym, ap, _∙_}
-use Prim.Native.Nat.{ℕ, _≤_, _-_, _+_}
+use mathlib.Core.Path.{_≡_, refl, _∙_}
+use Prim.Native.Nat.{_≤_, _-_, _+_}
 use lib.ListN.{length}
 use Rattle.trail.specs.Trail.{roomOf, shrunk, noteBelow}
 use Rattle.trail.specs.TrailLaws.{note-none, note-next, note-grows, shrunk-none, shrunk-upto, shrunk-differ}

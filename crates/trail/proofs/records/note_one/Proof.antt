@@ -1,4 +1,3 @@
-use mathlib.Core.Path.{sym, _∙_}
 use Rattle.trail.specs.TrailLaws.{note-same, note-differ}
 use borrow.Author.Needs.{needs}
 use Rattle.trail.proofs.records.note_one.Statement.{statement}

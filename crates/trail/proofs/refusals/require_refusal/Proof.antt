@@ -2,8 +2,8 @@ use native.Mathlib.Omega.{arith}
 use borrow.Author.Needs.{needs}
 use mathlib.Core.Path.{_≡_, sym, ap, _∙_}
 use mathlib.Core.List.{List}
-use mathlib.Core.Bool.{true, false}
-use Prim.Native.Nat.{ℕ, _<_}
+use mathlib.Core.Bool.{true}
+use Prim.Native.Nat.{ℕ}
 use borrow.Author.Tests.{not-true, not-false, lt-ltb, le-ltb}
 use Rattle.laws.specs.Choice.{orElse}
 use Rattle.bits.specs.Places.{has}

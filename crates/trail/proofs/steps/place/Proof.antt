@@ -1,13 +1,12 @@
 use lib.ListN.{length, length-map}
 use borrow.Author.Needs.{needs}
 use native.Mathlib.Omega.{arith}
-use mathlib.Core.Path.{_≡_, refl, sym, ap, _∙_}
+use mathlib.Core.Path.{_≡_, sym, ap, _∙_}
 use Prim.Native.Nat.{_+_, _<_}
 use Rattle.board.specs.Route.{indexOf}
 use Rattle.board.specs.Board.{boardOf, routeOf, setOf}
 use Rattle.board.specs.Change.{placed}
 use Rattle.board.specs.FormLaws.{InForm, in-form, inner-in}
-use Rattle.board.specs.Held.{Held}
 use Rattle.board.specs.Keep.{split-inside}
 use Rattle.board.proofs.Told.{told}
 use Rattle.trail.specs.Trail.{roomOf}

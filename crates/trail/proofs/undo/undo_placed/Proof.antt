@@ -1,7 +1,7 @@
 use borrow.Author.Needs.{needs}
 use native.Mathlib.Omega.{arith}
-use mathlib.Core.Path.{_≡_, refl, sym, ap, _∙_}
-use mathlib.Core.Bool.{true, false}
+use mathlib.Core.Path.{_≡_, refl, sym, _∙_}
+use mathlib.Core.Bool.{true}
 use Prim.Native.Nat.{_<_}
 use borrow.Author.Tests.{not-true, not-false}
 use Rattle.board.specs.Board.{board, routeOf, onRoute, legsOf, inner}
