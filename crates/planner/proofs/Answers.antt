@@ -36,7 +36,7 @@ called sheet s t e =
     record { read = h .0; form = and-true (inForm (nOf sheet) s) _ f .0; room = f; fine = fine14 sheet (h .0) }
 
 module _ (sheet : List ℕ) (s : State) (t : List ℕ) (kind a b : ℕ) where
-  call-yes : callRefusal sheet s t ≡ 0 → stepOf sheet s t kind a b ≡ actOf sheet s t kind a b
+  pub call-yes : callRefusal sheet s t ≡ 0 → stepOf sheet s t kind a b ≡ actOf sheet s t kind a b
   unfolding stepOf
   call-yes e = rw (eq-eqb (callRefusal sheet s t) 0 e)
 

@@ -1,8 +1,9 @@
--- Answers: a step refused, and a step accepted. Plans: what an accepted step does to the plan that the state stands for.
--- Moves: an accepted step is one that the trail's theorems speak of. Kept: the promises, each proved.
+-- The promises: Kept has a proof of each. What they rest on: Answers (a step refused, and a step accepted), Plans (what an accepted step does
+-- to the plan that the state stands for), Moves and Courses (accepted steps are steps that the trail's and the rules' theorems speak of).
+-- For the functions: FaceReady (what settling and the verdict ask), FaceLaws (the answers, chosen by tests).
+pub mod FaceReady
+pub mod FaceLaws
 pub mod Answers
 pub mod Plans
 pub mod Moves
--- FaceReady: a sheet and a state that are not refused are what settling and the verdict ask. FaceLaws: the answers, as the code comes to them.
-pub mod FaceReady
-pub mod FaceLaws
+pub mod Kept

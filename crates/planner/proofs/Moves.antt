@@ -53,7 +53,7 @@ module _ (sheet : List ℕ) (s : State) (t : List ℕ) (held : Held s) (c : Call
 
 -- ---- an accepted step is a move
 
-unlift : (j : ℕ) (ran : trail.Ran) {k : ℕ} {s′ : State} {t′ : List ℕ} → stepped j ran ≡ (record { answer = 0; rounds = k; state = s′ }, t′) → ran ≡ trail.answered 0 s′ t′
+pub unlift : (j : ℕ) (ran : trail.Ran) {k : ℕ} {s′ : State} {t′ : List ℕ} → stepped j ran ≡ (record { answer = 0; rounds = k; state = s′ }, t′) → ran ≡ trail.answered 0 s′ t′
 unlift j ran e = λ i. (record { answer = e i .0 .answer; state = e i .0 .state }, e i .1)
 
 abbrev Moves : List ℕ → State → List ℕ → Ran → Type 0

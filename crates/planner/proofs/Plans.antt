@@ -10,6 +10,7 @@ use borrow.Author.Tests.{eqb-true, ltb-true, ltb-false}
 use Rattle.laws.specs.Logic.{decided, T→true, true→T, false→N}
 use Rattle.laws.specs.Lists.{mem}
 use Rattle.sheet.specs.Section.{nOf}
+use Rattle.day.specs.Refuse.{refusal14, fine14}
 use Rattle.day.specs.Tell.{dayOf, vanOf}
 use Rattle.bits.specs.Places.{has}
 use Rattle.bits.specs.Members.{has-none, has-low}
@@ -20,6 +21,7 @@ use Rattle.rules.specs.Settle.{settle, rounds, settled}
 use Rattle.rules.proofs.Fixpoint.{settle-less}
 use Rattle.rules.proofs.Inner.{inner-low}
 use Rattle.board.specs.Board.{Board, boardOf, routeOf, onRoute, setOf, openAt, inner}
+use Rattle.board.specs.Form.{inForm}
 use Rattle.board.specs.FormLaws as board
 use Rattle.board.specs.Held.{Held}
 use Rattle.board.specs.declared.State.{State}
@@ -43,6 +45,12 @@ held-words {s} h = record {
   marks = h .words .marks;
 }
 
+-- the plan of a state in form is in form
+pub state-formed : (sheet : List ℕ) (s : State) → Held s → refusal14 sheet ≡ 0 → inForm (nOf sheet) s ≡ true → Formed (dayOf sheet) (planIn s)
+state-formed sheet s held z e =
+    let small = fine14 sheet z .n-high in
+    stands-formed (dayOf sheet) (boardOf s) small (held-words held) (board.in-form (nOf sheet) s small (held .wide) e .board)
+
 module _ {sheet : List ℕ} {s : State} {t : List ℕ} (typed : Held s) (c : Called sheet s t) where
   small : nOf sheet ≤ 64
   small = c .fine .n-high
@@ -50,9 +58,8 @@ module _ {sheet : List ℕ} {s : State} {t : List ℕ} (typed : Held s) (c : Cal
   inform : board.Formed (nOf sheet) (boardOf s)
   inform = board.in-form (nOf sheet) s small (typed .wide) (c .form) .board
 
-  -- the plan of a state that is called in form is in form
   pub plan-formed : Formed (dayOf sheet) (planIn s)
-  plan-formed = stands-formed (dayOf sheet) (boardOf s) small (held-words typed) inform
+  plan-formed = state-formed sheet s typed (c .read) (c .form)
 
 -- what an accepted step of the board gives
 gave : (k c : ℕ) (s : State) (t : List ℕ) (ran : trail.Ran) {j : ℕ} {s′ : State} {t′ : List ℕ} → stepped k (trail.stepOf c s t ran) ≡ (record { answer = 0; rounds = j; state = s′ }, t′)
