@@ -47,11 +47,11 @@ use Rattle.planner.proofs.Moves.{moved}
 
 -- ---- demand 1
 
-records-in : (n : ℕ) (s : State) (room : ℕ) → formWith n s room ≡ true → s .records ≤ room
+pub records-in : (n : ℕ) (s : State) (room : ℕ) → formWith n s room ≡ true → s .records ≤ room
 unfolding formWith
 records-in n s room e = leb-true (s .records) room (and-true (inForm n s) (leb (s .records) room) e .1)
 
-form-made : (n : ℕ) (s : State) (room : ℕ) → inForm n s ≡ true → s .records ≤ room → formWith n s room ≡ true
+pub form-made : (n : ℕ) (s : State) (room : ℕ) → inForm n s ≡ true → s .records ≤ room → formWith n s room ≡ true
 unfolding formWith
 form-made n s room e l = rw (e, le-leb (s .records) room l)
 

@@ -7,3 +7,4 @@ pub mod Answers
 pub mod Plans
 pub mod Moves
 pub mod Kept
+pub mod Courses
