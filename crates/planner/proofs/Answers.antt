@@ -67,24 +67,25 @@ lifted k c s t ran took left =
 abbrev Leaves : State → List ℕ → Ran → Type 0
 Leaves s t r = (r .0 .answer ≡ 0 → ⊥) → r ≡ refused (r .0 .answer) s t
 
-either : (s : State) (t : List ℕ) (b : Bool) {x y : Ran} → Leaves s t x → Leaves s t y → Leaves s t (cond b x y)
-either s t true p q = p
-either s t false p q = q
+-- of an answer that a test chooses
+pub either : (P : Ran → Type 0) (b : Bool) {x y : Ran} → P x → P y → P (cond b x y)
+either P true p q = p
+either P false p q = q
 
-zero-both : (b : Bool) (x y : trail.Ran) → x .0 .answer ≡ 0 → y .0 .answer ≡ 0 → cond b x y .0 .answer ≡ 0
+pub zero-both : (b : Bool) (x y : trail.Ran) → x .0 .answer ≡ 0 → y .0 .answer ≡ 0 → cond b x y .0 .answer ≡ 0
 zero-both true x y p q = p
 zero-both false x y p q = q
 
 act-leaves : (sheet : List ℕ) (s : State) (t : List ℕ) (kind a b : ℕ) → Leaves s t (actOf sheet s t kind a b)
 unfolding actOf trail.placeStep trail.closeStep trail.excludeStep trail.requireStep trail.settleStep trail.levelStep trail.backStep trail.recorded
 act-leaves sheet s t kind a b =
-    either s t (eqb kind 1) (lifted 0 _ s t _ refl)
-    (either s t (eqb kind 2) (lifted 0 _ s t _ refl)
-    (either s t (eqb kind 3) (lifted 0 _ s t _ (zero-both (eqb (setOf (boardOf s) a) 0) _ _ refl refl))
-    (either s t (eqb kind 4) (lifted 0 _ s t _ (zero-both (has (s .marks) a) _ _ refl refl))
-    (either s t (eqb kind 5) (lifted (settlingRounds sheet s) _ s t _ refl)
-    (either s t (eqb kind 6) (lifted 0 _ s t _ refl)
-    (either s t (eqb kind 7) (lifted 0 _ s t _ refl) (λ n. refl)))))))
+    either (Leaves s t) (eqb kind 1) (lifted 0 _ s t _ refl)
+    (either (Leaves s t) (eqb kind 2) (lifted 0 _ s t _ refl)
+    (either (Leaves s t) (eqb kind 3) (lifted 0 _ s t _ (zero-both (eqb (setOf (boardOf s) a) 0) _ _ refl refl))
+    (either (Leaves s t) (eqb kind 4) (lifted 0 _ s t _ (zero-both (has (s .marks) a) _ _ refl refl))
+    (either (Leaves s t) (eqb kind 5) (lifted (settlingRounds sheet s) _ s t _ refl)
+    (either (Leaves s t) (eqb kind 6) (lifted 0 _ s t _ refl)
+    (either (Leaves s t) (eqb kind 7) (lifted 0 _ s t _ refl) (λ n. refl)))))))
 
 pub unchanged : Unchanged
 unchanged sheet s t kind a b left =

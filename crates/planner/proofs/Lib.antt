@@ -8,3 +8,4 @@ pub mod Plans
 pub mod Moves
 pub mod Kept
 pub mod Courses
+pub mod Never

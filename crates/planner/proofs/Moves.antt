@@ -25,7 +25,7 @@ use Rattle.trail.specs.Run as run
 use Rattle.settle.specs.Sets.{wordOf, setsOf, length-sets, places-sets}
 use Rattle.planner.specs.Face.{Ran, planIn, refused, stepped, actOf, owedOf, settledSets, settlingRounds}
 use Rattle.planner.specs.Promises.{Took}
-use Rattle.planner.proofs.Answers.{Called, acted}
+use Rattle.planner.proofs.Answers.{Called, acted, either}
 use Rattle.planner.proofs.Plans.{places-small}
 
 -- ---- the sets that settling leaves are smaller, and words
@@ -59,20 +59,16 @@ unlift j ran e = λ i. (record { answer = e i .0 .answer; state = e i .0 .state 
 abbrev Moves : List ℕ → State → List ℕ → Ran → Type 0
 Moves sheet s t r = (k : ℕ) (s′ : State) (t′ : List ℕ) → r ≡ (record { answer = 0; rounds = k; state = s′ }, t′) → run.Move (nOf sheet) s t s′ t′
 
-either : (sheet : List ℕ) (s : State) (t : List ℕ) (b : Bool) {x y : Ran} → Moves sheet s t x → Moves sheet s t y → Moves sheet s t (cond b x y)
-either sheet s t true p q = p
-either sheet s t false p q = q
-
 act-moves : (sheet : List ℕ) (s : State) (t : List ℕ) (kind a b : ℕ) → Held s → Called sheet s t → Moves sheet s t (actOf sheet s t kind a b)
 unfolding actOf
 act-moves sheet s t kind a b held c =
-    either sheet s t (eqb kind 1) (λ k s′ t′ e. run.place a b (unlift 0 _ e))
-    (either sheet s t (eqb kind 2) (λ k s′ t′ e. run.close a b (unlift 0 _ e))
-    (either sheet s t (eqb kind 3) (λ k s′ t′ e. run.exclude (owedOf sheet s a) a (unlift 0 _ e))
-    (either sheet s t (eqb kind 4) (λ k s′ t′ e. run.require a (unlift 0 _ e))
-    (either sheet s t (eqb kind 5) (λ k s′ t′ e. run.settle (settledSets sheet s) (settled-smaller sheet s t held c) (unlift (settlingRounds sheet s) _ e))
-    (either sheet s t (eqb kind 6) (λ k s′ t′ e. run.level (unlift 0 _ e))
-    (either sheet s t (eqb kind 7) (λ k s′ t′ e. run.back (unlift 0 _ e)) (λ k s′ t′ e. absurd (eqb-false 11 0 refl (ap (λ (r : Ran). r .0 .answer) e)))))))))
+    either (Moves sheet s t) (eqb kind 1) (λ k s′ t′ e. run.place a b (unlift 0 _ e))
+    (either (Moves sheet s t) (eqb kind 2) (λ k s′ t′ e. run.close a b (unlift 0 _ e))
+    (either (Moves sheet s t) (eqb kind 3) (λ k s′ t′ e. run.exclude (owedOf sheet s a) a (unlift 0 _ e))
+    (either (Moves sheet s t) (eqb kind 4) (λ k s′ t′ e. run.require a (unlift 0 _ e))
+    (either (Moves sheet s t) (eqb kind 5) (λ k s′ t′ e. run.settle (settledSets sheet s) (settled-smaller sheet s t held c) (unlift (settlingRounds sheet s) _ e))
+    (either (Moves sheet s t) (eqb kind 6) (λ k s′ t′ e. run.level (unlift 0 _ e))
+    (either (Moves sheet s t) (eqb kind 7) (λ k s′ t′ e. run.back (unlift 0 _ e)) (λ k s′ t′ e. absurd (eqb-false 11 0 refl (ap (λ (r : Ran). r .0 .answer) e)))))))))
 
 pub moved : (sheet : List ℕ) (s : State) (t : List ℕ) (kind a b : ℕ) {k : ℕ} {s′ : State} {t′ : List ℕ} → Held s → Took sheet s t kind a b k s′ t′ → run.Move (nOf sheet) s t s′ t′
 moved sheet s t kind a b held e = let u = acted sheet s t kind a b e in act-moves sheet s t kind a b held (u .0) _ _ _ (u .1)
