@@ -54,7 +54,7 @@ module _ (sheet : List ℕ) (s : State) (t : List ℕ) (held : Held s) (c : Call
   room : s .records ≤ roomOf t
   room = records-in (nOf sheet) s (roomOf t) (c .room)
 
-  sound : board.Sound (nOf sheet) (boardOf s)
+  pub sound : board.Sound (nOf sheet) (boardOf s)
   sound = record { small = small; wide = held .wide; form = form .board }
 
   pub here : Since (nOf sheet) (boardOf s) (s .records) (s .depth) (s .levels) t s t

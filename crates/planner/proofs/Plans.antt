@@ -62,7 +62,7 @@ module _ {sheet : List ℕ} {s : State} {t : List ℕ} (typed : Held s) (c : Cal
   plan-formed = state-formed sheet s typed (c .read) (c .form)
 
 -- what an accepted step of the board gives
-gave : (k c : ℕ) (s : State) (t : List ℕ) (ran : trail.Ran) {j : ℕ} {s′ : State} {t′ : List ℕ} → stepped k (trail.stepOf c s t ran) ≡ (record { answer = 0; rounds = j; state = s′ }, t′)
+pub gave : (k c : ℕ) (s : State) (t : List ℕ) (ran : trail.Ran) {j : ℕ} {s′ : State} {t′ : List ℕ} → stepped k (trail.stepOf c s t ran) ≡ (record { answer = 0; rounds = j; state = s′ }, t′)
     → (c ≡ 0) × (s′ ≡ ran .0 .state)
 gave k c s t ran e =
     let z = step-zero c s t ran (ap (λ (r : Ran). r .0 .answer) e) in

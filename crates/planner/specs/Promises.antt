@@ -1,4 +1,5 @@
--- The promises, as statements about the answers of the real entry points (Face), each a type; `proofs/Kept.antt` has a proof of each.
+-- The promises, as statements about the answers of the real entry points (Face), each a type. They stand together in the record `Promised` at
+-- the end, and `proofs/All.antt` has its one value: a proof of each.
 -- `Held s` and `Wordy t` are what the types of a state and a trail say and lists of numbers do not: arrays of 64, words of 64 bits.
 use Prim.Native.Nat.{ℕ, _+_, _-_, _*_, _≤_, _<_}
 use mathlib.Core.Path.{_≡_}
@@ -123,3 +124,24 @@ RunsAlike = (sheet : List ℕ) (s s₁ s₂ s₃ s₄ : State) (t t′ t₁ t₂
     → Run sheet s t′ s₃ t₃ Y → Took sheet s₃ t₃ 5 a′ b′ k′ s₄ t₄
     → planIn s₁ .route ≡ planIn s₃ .route → ((y : ℕ) → mem y X ≡ mem y Y) → ((y : ℕ) → T (not (mem y (planIn s₁ .route))) → planIn s₁ .marks y ≡ planIn s₃ .marks y)
     → ((x p : ℕ) → planIn s₂ .places x p ≡ planIn s₄ .places x p) × (judgeOf sheet s₂ .alive ≡ judgeOf sheet s₄ .alive)
+
+-- ---- all of them
+
+pub record Promised : Type 1 where
+  -- a contract equates the outcome with one definition, so any two outcomes that it allows are equal
+  pub one-outcome : (A : Type 0) (answer first second : A) → answer ≡ first → answer ≡ second → first ≡ second
+  pub unchanged : Unchanged
+  pub form-kept : FormKept
+  pub placing-keeps : PlacingKeeps
+  pub closing-keeps : ClosingKeeps
+  pub excluding-keeps : ExcludingKeeps
+  pub requiring-keeps : RequiringKeeps
+  pub settling-strikes : SettlingStrikes
+  pub settling-loses-none : SettlingLosesNone
+  pub no-gap-alive : NoGapAlive
+  pub dead-none : DeadNone
+  pub steps-back : StepsBack
+  pub records-bounded : RecordsBounded
+  pub never-short : NeverShort
+  pub worked-out : WorkedOut
+  pub runs-alike : RunsAlike
