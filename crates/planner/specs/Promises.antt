@@ -1,4 +1,6 @@
--- The promises, as statements about the answers of the real entry points (Face), each a type; `proofs/Kept.antt` has a proof of each.
+-- The promises, as statements about the answers of the real entry points (Face), each a type. They stand together in the record `Promised` at
+-- the end, and `proofs/All.antt` has its one value: a proof of each.
+-- `Held s` and `Wordy t` are what the types of a state and a trail say and lists of numbers do not: arrays of 64, words of 64 bits.
 use Prim.Native.Nat.{ℕ, _+_, _-_, _*_, _≤_, _<_}
 use mathlib.Core.Path.{_≡_}
 use mathlib.Core.Bool.{Bool, true, false, not, _&&_}
@@ -19,15 +21,11 @@ use Rattle.rules.specs.Worked.{worked}
 use Rattle.board.specs.Board.{boardOf}
 use Rattle.board.specs.Fresh.{freshState}
 use Rattle.board.specs.Form.{inForm, formWith}
+use Rattle.board.specs.Held.{Held}
 use Rattle.board.specs.declared.State.{State}
 use Rattle.trail.specs.Trail.{roomOf}
-use Rattle.stands.specs.Stands.{Held}
+use Rattle.trail.specs.StepBack.{Wordy}
 use Rattle.planner.specs.Face.{planIn, refused, stepOf, countOf, judgeOf}
-
--- what the types of a state say and its lists of numbers do not: arrays of 64, words of 64 bits
-pub record Typed (s : State) : Type 0 where
-  pub board : Held (boardOf s)
-  pub levels : length (s .levels) ≡ 64
 
 -- a step, accepted: it took the state s and the trail t to s′ and t′, and k rounds of settling struck something
 abbrev pub Took : List ℕ → State → List ℕ → ℕ → ℕ → ℕ → ℕ → State → List ℕ → Type 0
@@ -55,40 +53,40 @@ Unchanged = (sheet : List ℕ) (s : State) (t : List ℕ) (kind a b : ℕ) → (
 
 -- every accepted step keeps the form, and the trail's length
 abbrev pub FormKept : Type 0
-FormKept = (sheet : List ℕ) (s s′ : State) (t t′ : List ℕ) (kind a b k : ℕ) → Typed s → Took sheet s t kind a b k s′ t′
-    → (formWith (nOf sheet) s′ (roomOf t′) ≡ true) × Typed s′ × (length t′ ≡ length t)
+FormKept = (sheet : List ℕ) (s s′ : State) (t t′ : List ℕ) (kind a b k : ℕ) → Held s → Wordy t → Took sheet s t kind a b k s′ t′
+    → (formWith (nOf sheet) s′ (roomOf t′) ≡ true) × Held s′ × (length t′ ≡ length t)
 
 -- ---- demand 2: the rounds that each step keeps
 
 abbrev pub PlacingKeeps : Type 0
-PlacingKeeps = (sheet : List ℕ) (s s′ : State) (t t′ : List ℕ) (p x k : ℕ) → Typed s → Took sheet s t 1 p x k s′ t′ → (R : List ℕ)
+PlacingKeeps = (sheet : List ℕ) (s s′ : State) (t t′ : List ℕ) (p x k : ℕ) → Held s → Took sheet s t 1 p x k s′ t′ → (R : List ℕ)
     → Belongs (dayOf sheet) (planIn s′) R ↔ (Belongs (dayOf sheet) (planIn s) R × T (uses p x (planIn s .route) R))
 
 abbrev pub ClosingKeeps : Type 0
-ClosingKeeps = (sheet : List ℕ) (s s′ : State) (t t′ : List ℕ) (p x k : ℕ) → Typed s → Took sheet s t 2 p x k s′ t′ → (R : List ℕ)
+ClosingKeeps = (sheet : List ℕ) (s s′ : State) (t t′ : List ℕ) (p x k : ℕ) → Held s → Took sheet s t 2 p x k s′ t′ → (R : List ℕ)
     → Belongs (dayOf sheet) (planIn s′) R ↔ (Belongs (dayOf sheet) (planIn s) R × T (not (uses p x (planIn s .route) R)))
 
 abbrev pub ExcludingKeeps : Type 0
-ExcludingKeeps = (sheet : List ℕ) (s s′ : State) (t t′ : List ℕ) (x b k : ℕ) → Typed s → Took sheet s t 3 x b k s′ t′ → (R : List ℕ)
+ExcludingKeeps = (sheet : List ℕ) (s s′ : State) (t t′ : List ℕ) (x b k : ℕ) → Held s → Took sheet s t 3 x b k s′ t′ → (R : List ℕ)
     → Belongs (dayOf sheet) (planIn s′) R ↔ (Belongs (dayOf sheet) (planIn s) R × T (not (mem x R)))
 
 abbrev pub RequiringKeeps : Type 0
-RequiringKeeps = (sheet : List ℕ) (s s′ : State) (t t′ : List ℕ) (x b k : ℕ) → Typed s → Took sheet s t 4 x b k s′ t′ → (R : List ℕ)
+RequiringKeeps = (sheet : List ℕ) (s s′ : State) (t t′ : List ℕ) (x b k : ℕ) → Held s → Took sheet s t 4 x b k s′ t′ → (R : List ℕ)
     → Belongs (dayOf sheet) (planIn s′) R ↔ (Belongs (dayOf sheet) (planIn s) R × T (mem x R))
 
 -- settling strikes what 01's tests strike, to the last gap, and nothing else; it tells the rounds that struck, and they are at most 2
 abbrev pub SettlingStrikes : Type 0
-SettlingStrikes = (sheet : List ℕ) (s s′ : State) (t t′ : List ℕ) (a b k : ℕ) → Typed s → Took sheet s t 5 a b k s′ t′
+SettlingStrikes = (sheet : List ℕ) (s s′ : State) (t t′ : List ℕ) (a b k : ℕ) → Held s → Took sheet s t 5 a b k s′ t′
     → (planIn s′ ≡ settled (vanOf sheet) (dayOf sheet) (planIn s)) × (k ≡ rounds (vanOf sheet) (dayOf sheet) (planIn s .route) (planIn s .places)) × (k ≤ 2)
 
 -- on an opened sheet no rule-keeping round of the set is lost by settling
 abbrev pub SettlingLosesNone : Type 0
-SettlingLosesNone = (sheet : List ℕ) (s s′ : State) (t t′ : List ℕ) (a b k : ℕ) → refusal15 sheet ≡ 0 → Typed s → Took sheet s t 5 a b k s′ t′
+SettlingLosesNone = (sheet : List ℕ) (s s′ : State) (t t′ : List ℕ) (a b k : ℕ) → refusal15 sheet ≡ 0 → Held s → Took sheet s t 5 a b k s′ t′
     → (R : List ℕ) → T (keeps (vanOf sheet) (dayOf sheet) R) → Belongs (dayOf sheet) (planIn s) R → Belongs (dayOf sheet) (planIn s′) R
 
 -- no gap left and alive: the route itself keeps the rules, and belongs
 abbrev pub NoGapAlive : Type 0
-NoGapAlive = (sheet : List ℕ) (s : State) → Typed s → countOf sheet s ≡ record { answer = 0; places = 0 } → judgeOf sheet s ≡ record { answer = 0; alive = true }
+NoGapAlive = (sheet : List ℕ) (s : State) → Held s → countOf sheet s ≡ record { answer = 0; places = 0 } → judgeOf sheet s ≡ record { answer = 0; alive = true }
     → T (keeps (vanOf sheet) (dayOf sheet) (planIn s .route)) × Belongs (dayOf sheet) (planIn s) (planIn s .route)
 
 -- beyond 01: on an opened sheet a dead state has no rule-keeping round
@@ -98,7 +96,7 @@ DeadNone = (sheet : List ℕ) (s : State) → refusal15 sheet ≡ 0 → judgeOf 
 
 -- stepping back restores the state from before the matching level, and the records below it stand as they stood
 abbrev pub StepsBack : Type 0
-StepsBack = (sheet : List ℕ) (s s₁ s₂ : State) (t t₁ t₂ : List ℕ) (a b k c d : ℕ) → Typed s → Took sheet s t 6 a b k s₁ t₁
+StepsBack = (sheet : List ℕ) (s s₁ s₂ : State) (t t₁ t₂ : List ℕ) (a b k c d : ℕ) → Held s → Took sheet s t 6 a b k s₁ t₁
     → Steps sheet (s₁ .depth) s₁ t₁ s₂ t₂ → s₂ .depth ≡ s₁ .depth
     → Took sheet s₂ t₂ 7 c d 0 s t₂ × (take (2 * s .records) t₂ ≡ take (2 * s .records) t)
 
@@ -114,15 +112,36 @@ NeverShort = (sheet : List ℕ) (s : State) (t t′ : List ℕ) (kind a b : ℕ)
 -- ---- demand 3: a run's end, settled once more, has the gaps and the verdict that 01 works out from the start
 
 abbrev pub WorkedOut : Type 0
-WorkedOut = (sheet : List ℕ) (s s₁ s₂ : State) (t t₁ t₂ X : List ℕ) (a b k : ℕ) → refusal15 sheet ≡ 0 → Typed s → inForm (nOf sheet) s ≡ true
+WorkedOut = (sheet : List ℕ) (s s₁ s₂ : State) (t t₁ t₂ X : List ℕ) (a b k : ℕ) → refusal15 sheet ≡ 0 → Held s → inForm (nOf sheet) s ≡ true
     → Run sheet s t s₁ t₁ X → Took sheet s₁ t₁ 5 a b k s₂ t₂
     → ((x p : ℕ) → planIn s₂ .places x p ≡ settled (vanOf sheet) (dayOf sheet) (worked (planIn s) (planIn s₁ .route) X (planIn s₁ .marks)) .places x p)
     × (judgeOf sheet s₂ .alive ≡ alive (vanOf sheet) (dayOf sheet) (settled (vanOf sheet) (dayOf sheet) (worked (planIn s) (planIn s₁ .route) X (planIn s₁ .marks))))
 
 -- two such runs that end with the same route, excluded wards and unplaced required wards
 abbrev pub RunsAlike : Type 0
-RunsAlike = (sheet : List ℕ) (s s₁ s₂ s₃ s₄ : State) (t t′ t₁ t₂ t₃ t₄ X Y : List ℕ) (a b k a′ b′ k′ : ℕ) → refusal15 sheet ≡ 0 → Typed s → inForm (nOf sheet) s ≡ true
+RunsAlike = (sheet : List ℕ) (s s₁ s₂ s₃ s₄ : State) (t t′ t₁ t₂ t₃ t₄ X Y : List ℕ) (a b k a′ b′ k′ : ℕ) → refusal15 sheet ≡ 0 → Held s → inForm (nOf sheet) s ≡ true
     → Run sheet s t s₁ t₁ X → Took sheet s₁ t₁ 5 a b k s₂ t₂
     → Run sheet s t′ s₃ t₃ Y → Took sheet s₃ t₃ 5 a′ b′ k′ s₄ t₄
     → planIn s₁ .route ≡ planIn s₃ .route → ((y : ℕ) → mem y X ≡ mem y Y) → ((y : ℕ) → T (not (mem y (planIn s₁ .route))) → planIn s₁ .marks y ≡ planIn s₃ .marks y)
     → ((x p : ℕ) → planIn s₂ .places x p ≡ planIn s₄ .places x p) × (judgeOf sheet s₂ .alive ≡ judgeOf sheet s₄ .alive)
+
+-- ---- all of them
+
+pub record Promised : Type 1 where
+  -- a contract equates the outcome with one definition, so any two outcomes that it allows are equal
+  pub one-outcome : (A : Type 0) (answer first second : A) → answer ≡ first → answer ≡ second → first ≡ second
+  pub unchanged : Unchanged
+  pub form-kept : FormKept
+  pub placing-keeps : PlacingKeeps
+  pub closing-keeps : ClosingKeeps
+  pub excluding-keeps : ExcludingKeeps
+  pub requiring-keeps : RequiringKeeps
+  pub settling-strikes : SettlingStrikes
+  pub settling-loses-none : SettlingLosesNone
+  pub no-gap-alive : NoGapAlive
+  pub dead-none : DeadNone
+  pub steps-back : StepsBack
+  pub records-bounded : RecordsBounded
+  pub never-short : NeverShort
+  pub worked-out : WorkedOut
+  pub runs-alike : RunsAlike

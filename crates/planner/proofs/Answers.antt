@@ -1,0 +1,94 @@
+-- A step refused, and a step accepted: what it knows.
+use Prim.Native.Nat.{ℕ, _≤_}
+use mathlib.Core.Path.{_≡_, refl, sym, ap, _∙_}
+use mathlib.Core.Bool.{Bool, true, false, cond}
+use mathlib.Core.List.{List}
+use lib.Dec.{eqb}
+use borrow.Author.Tests.{eqb-true, eqb-false, eq-eqb, ne-eqb}
+use Rattle.laws.specs.Logic.{decided, and-true}
+use Rattle.laws.specs.Choice.{orElse, unless, or-else-zero, unless-zero}
+use Rattle.sheet.specs.Section.{nOf}
+use Rattle.sheet.specs.Place.{Fine}
+use Rattle.day.specs.Refuse.{refusal14, fine14}
+use Rattle.bits.specs.Places.{has}
+use Rattle.board.specs.Board.{boardOf, setOf}
+use Rattle.board.specs.Form.{inForm, formWith}
+use Rattle.board.specs.declared.State.{State}
+use Rattle.trail.specs.Trail.{roomOf}
+use Rattle.trail.specs.Steps as trail
+use Rattle.trail.specs.StepLaws.{step-no, step-yes, step-zero}
+use Rattle.planner.specs.Face.{Ran, refused, stepped, stepOf, actOf, callRefusal, settledSets, settlingRounds, owedOf}
+use Rattle.planner.specs.Promises.{Took, Unchanged}
+
+-- ---- a call that is not refused: the sheet is fine, the state in form, its records within the room
+
+pub record Called (sheet : List ℕ) (s : State) (t : List ℕ) : Type 0 where
+  pub read : refusal14 sheet ≡ 0
+  pub form : inForm (nOf sheet) s ≡ true
+  pub room : formWith (nOf sheet) s (roomOf t) ≡ true
+  pub fine : Fine sheet
+
+pub called : (sheet : List ℕ) (s : State) (t : List ℕ) → callRefusal sheet s t ≡ 0 → Called sheet s t
+unfolding callRefusal formWith
+called sheet s t e =
+    let h = or-else-zero (refusal14 sheet) _ e in
+    let f = unless-zero (formWith (nOf sheet) s (roomOf t)) 18 (h .1) in
+    record { read = h .0; form = and-true (inForm (nOf sheet) s) _ f .0; room = f; fine = fine14 sheet (h .0) }
+
+module _ (sheet : List ℕ) (s : State) (t : List ℕ) (kind a b : ℕ) where
+  pub call-yes : callRefusal sheet s t ≡ 0 → stepOf sheet s t kind a b ≡ actOf sheet s t kind a b
+  unfolding stepOf
+  call-yes e = rw (eq-eqb (callRefusal sheet s t) 0 e)
+
+  call-no : (callRefusal sheet s t ≡ 0 → ⊥) → stepOf sheet s t kind a b ≡ refused (callRefusal sheet s t) s t
+  unfolding stepOf
+  call-no n = rw (ne-eqb (callRefusal sheet s t) 0 n)
+
+  -- an accepted step was called on a fine sheet and a state in form, and it acted
+  pub acted : {k : ℕ} {s′ : State} {t′ : List ℕ} → Took sheet s t kind a b k s′ t′
+      → Called sheet s t × (actOf sheet s t kind a b ≡ (record { answer = 0; rounds = k; state = s′ }, t′))
+  acted e =
+      decided (eqb (callRefusal sheet s t) 0)
+      (λ q. let z = eqb-true (callRefusal sheet s t) 0 q in (called sheet s t z, sym (call-yes z) ∙ e))
+      (λ q. let n = eqb-false (callRefusal sheet s t) 0 q in absurd (n (sym (ap (λ (r : Ran). r .0 .answer) (call-no n)) ∙ ap (λ (r : Ran). r .0 .answer) e)))
+
+-- ---- a step of the board, lifted
+
+-- refused, it leaves state and trail, and tells no round
+lifted : (k c : ℕ) (s : State) (t : List ℕ) (ran : trail.Ran) → ran .0 .answer ≡ 0 → (stepped k (trail.stepOf c s t ran) .0 .answer ≡ 0 → ⊥)
+    → stepped k (trail.stepOf c s t ran) ≡ refused (stepped k (trail.stepOf c s t ran) .0 .answer) s t
+lifted k c s t ran took left =
+    decided (eqb c 0)
+    (λ q. absurd (left (ap (λ (r : trail.Ran). r .0 .answer) (step-yes c s t ran (eqb-true c 0 q)) ∙ took)))
+    (λ q. let e = step-no c s t ran (eqb-false c 0 q) in rw (e, q))
+
+-- ---- refused: state and trail as before, rounds 0
+
+abbrev Leaves : State → List ℕ → Ran → Type 0
+Leaves s t r = (r .0 .answer ≡ 0 → ⊥) → r ≡ refused (r .0 .answer) s t
+
+-- of an answer that a test chooses
+pub either : (P : Ran → Type 0) (b : Bool) {x y : Ran} → P x → P y → P (cond b x y)
+either P true p q = p
+either P false p q = q
+
+pub zero-both : (b : Bool) (x y : trail.Ran) → x .0 .answer ≡ 0 → y .0 .answer ≡ 0 → cond b x y .0 .answer ≡ 0
+zero-both true x y p q = p
+zero-both false x y p q = q
+
+act-leaves : (sheet : List ℕ) (s : State) (t : List ℕ) (kind a b : ℕ) → Leaves s t (actOf sheet s t kind a b)
+unfolding actOf trail.placeStep trail.closeStep trail.excludeStep trail.requireStep trail.settleStep trail.levelStep trail.backStep trail.recorded
+act-leaves sheet s t kind a b =
+    either (Leaves s t) (eqb kind 1) (lifted 0 _ s t _ refl)
+    (either (Leaves s t) (eqb kind 2) (lifted 0 _ s t _ refl)
+    (either (Leaves s t) (eqb kind 3) (lifted 0 _ s t _ (zero-both (eqb (setOf (boardOf s) a) 0) _ _ refl refl))
+    (either (Leaves s t) (eqb kind 4) (lifted 0 _ s t _ (zero-both (has (s .marks) a) _ _ refl refl))
+    (either (Leaves s t) (eqb kind 5) (lifted (settlingRounds sheet s) _ s t _ refl)
+    (either (Leaves s t) (eqb kind 6) (lifted 0 _ s t _ refl)
+    (either (Leaves s t) (eqb kind 7) (lifted 0 _ s t _ refl) (λ n. refl)))))))
+
+pub unchanged : Unchanged
+unchanged sheet s t kind a b left =
+    decided (eqb (callRefusal sheet s t) 0)
+    (λ q. let e = call-yes sheet s t kind a b (eqb-true (callRefusal sheet s t) 0 q) in rw e (act-leaves sheet s t kind a b (rw e at left)))
+    (λ q. let e = call-no sheet s t kind a b (eqb-false (callRefusal sheet s t) 0 q) in rw e refl)

@@ -1,0 +1,135 @@
+-- The promises, kept.
+use Prim.Native.Nat.{ℕ, zero, suc, _+_, _-_, _*_, _≤_, _<_, _^_}
+use mathlib.Core.Path.{_≡_, refl, sym, ap, subst, _∙_}
+use mathlib.Core.Bool.{Bool, true, false, cond, not, _&&_}
+use mathlib.Core.List.{List}
+use mathlib.Core.Logic.{_↔_}
+use native.Mathlib.Omega.{arith}
+use lib.Dec.{T, eqb, leb, ltb}
+use lib.Count.{ones}
+use lib.ListN.{length, getD, List·getD-eq-default}
+use borrow.Author.Tests.{eqb-true, eqb-false, eq-eqb, leb-true, le-leb, ltb-true, ltb-false}
+use Rattle.laws.specs.Logic.{decided, and-true, T→true, true→T, false→N, N→false}
+use Rattle.laws.specs.Lists.{mem}
+use Rattle.laws.specs.Choice.{or-else-zero, unless-zero}
+use Rattle.laws.specs.Sum.{sumBelow, sum-lt}
+use Rattle.sheet.specs.Section.{nOf}
+use Rattle.day.specs.Refuse.{refusal14, refusal15, zero14, fine14}
+use Rattle.day.specs.Tell.{dayOf, vanOf}
+use Rattle.day.specs.Asked.{proper, one-end, short-tables}
+use Rattle.bits.specs.Places.{has}
+use Rattle.bits.specs.Members.{false-true, has-none, has-low, within-none}
+use Rattle.bits.specs.Number.{ones-members, members-fewer}
+use Rattle.rules.specs.Plan.{Plan}
+use Rattle.rules.specs.Rounds.{Belongs, keeps}
+use Rattle.rules.specs.Steps as step
+use Rattle.rules.specs.Settle.{settled, rounds}
+use Rattle.rules.specs.Verdict.{alive}
+use Rattle.rules.specs.Asked.{Formed}
+use Rattle.rules.proofs.StepRounds.{placed-rounds, closed-rounds, excluded-rounds, required-rounds}
+use Rattle.rules.proofs.Twice.{at-most-two}
+use Rattle.rules.proofs.NoneLost.{settling-keeps}
+use Rattle.rules.proofs.Complete.{no-gap-alive, dead-none}
+use Rattle.board.specs.Board.{boardOf, setOf, openAt, placesOf}
+use Rattle.board.specs.Form.{inForm, formWith}
+use Rattle.board.specs.FormLaws as board
+use Rattle.board.specs.Held.{Held}
+use Rattle.board.specs.declared.State.{State}
+use Rattle.trail.specs.Trail.{roomOf}
+use Rattle.trail.specs.StepBack.{Wordy, move-keeps}
+use Rattle.planner.specs.Face.{planIn, askRefusal, countOf, judgeOf}
+use Rattle.planner.specs.Promises.{Took, FormKept, PlacingKeeps, ClosingKeeps, ExcludingKeeps, RequiringKeeps, SettlingStrikes, SettlingLosesNone, NoGapAlive, DeadNone}
+use Rattle.planner.specs.declared.Counted.{Counted}
+use Rattle.planner.specs.declared.Judged.{Judged}
+use Rattle.planner.proofs.Answers.{Called, acted}
+use Rattle.planner.proofs.Plans.{state-formed, plan-formed, placed-plan, closed-plan, excluded-plan, required-plan, settled-plan}
+use Rattle.planner.proofs.Moves.{moved}
+
+-- ---- demand 1
+
+pub records-in : (n : ℕ) (s : State) (room : ℕ) → formWith n s room ≡ true → s .records ≤ room
+unfolding formWith
+records-in n s room e = leb-true (s .records) room (and-true (inForm n s) (leb (s .records) room) e .1)
+
+pub form-made : (n : ℕ) (s : State) (room : ℕ) → inForm n s ≡ true → s .records ≤ room → formWith n s room ≡ true
+unfolding formWith
+form-made n s room e l = rw (e, le-leb (s .records) room l)
+
+pub form-kept : FormKept
+form-kept sheet s s′ t t′ kind a b k held wordy e =
+    let c = acted sheet s t kind a b e .0 in
+    let small = c .fine .n-high in
+    let m = move-keeps (nOf sheet) s t s′ t′ small held (board.in-form (nOf sheet) s small (held .wide) (c .form)) (records-in (nOf sheet) s (roomOf t) (c .room)) wordy (moved sheet s t kind a b held e) in
+    (form-made (nOf sheet) s′ (roomOf t′) (board.in-form-of (nOf sheet) s′ small (m .held .wide) (m .form)) (m .room), m .held, m .long)
+
+-- ---- demand 2: the rounds that each step keeps
+
+pub placing-keeps : PlacingKeeps
+placing-keeps sheet s s′ t t′ p x k held e R =
+    let u = placed-plan sheet s t held p x e in
+    subst (λ (a : Plan). Belongs (dayOf sheet) a R ↔ (Belongs (dayOf sheet) (planIn s) R × T (step.uses p x (planIn s .route) R))) (sym (u .0))
+    (placed-rounds (dayOf sheet) (planIn s) R p x (plan-formed held (acted sheet s t 1 p x e .0)) (u .1))
+
+pub closing-keeps : ClosingKeeps
+closing-keeps sheet s s′ t t′ p x k held e R =
+    subst (λ (a : Plan). Belongs (dayOf sheet) a R ↔ (Belongs (dayOf sheet) (planIn s) R × T (not (step.uses p x (planIn s .route) R)))) (sym (closed-plan sheet s t held p x e))
+    (closed-rounds (dayOf sheet) (planIn s) R p x)
+
+pub excluding-keeps : ExcludingKeeps
+excluding-keeps sheet s s′ t t′ x b k held e R =
+    let u = excluded-plan sheet s t held x b e in
+    subst (λ (a : Plan). Belongs (dayOf sheet) a R ↔ (Belongs (dayOf sheet) (planIn s) R × T (not (mem x R)))) (sym (u .0)) (excluded-rounds (dayOf sheet) (planIn s) R x (u .1))
+
+pub requiring-keeps : RequiringKeeps
+requiring-keeps sheet s s′ t t′ x b k held e R =
+    subst (λ (a : Plan). Belongs (dayOf sheet) a R ↔ (Belongs (dayOf sheet) (planIn s) R × T (mem x R))) (sym (required-plan sheet s t held x b e .0)) (required-rounds (dayOf sheet) (planIn s) R x)
+
+pub settling-strikes : SettlingStrikes
+settling-strikes sheet s s′ t t′ a b k held e =
+    let c = acted sheet s t 5 a b e .0 in
+    let u = settled-plan sheet s t held a b e in
+    (u .0, u .1, rw (u .1) (at-most-two (vanOf sheet) (dayOf sheet) (one-end sheet (c .read)) (planIn s .route) (plan-formed held c .nodes) (planIn s .places)))
+
+pub settling-loses-none : SettlingLosesNone
+settling-loses-none sheet s s′ t t′ a b k z held e R rule in-set =
+    subst (λ (p : Plan). Belongs (dayOf sheet) p R) (sym (settled-plan sheet s t held a b e .0)) (settling-keeps (vanOf sheet) (dayOf sheet) (planIn s) R (short-tables sheet z) rule in-set)
+
+-- ---- no gap left, and dead
+
+asked : (sheet : List ℕ) (s : State) → askRefusal sheet s ≡ 0 → (refusal14 sheet ≡ 0) × (inForm (nOf sheet) s ≡ true)
+unfolding askRefusal
+asked sheet s e = let h = or-else-zero (refusal14 sheet) _ e in (h .0, unless-zero (inForm (nOf sheet) s) 18 (h .1))
+
+-- no place counted: no place open
+none-open : (s : State) → Held s → placesOf (s .sets) 64 ≡ 0 → (x p : ℕ) → T (not (openAt (boardOf s) x p))
+unfolding placesOf openAt setOf
+none-open s held z x p =
+    decided (has (getD (s .sets) x 0) p)
+    (λ e. absurd (some e))
+    (λ e. false→N (has (getD (s .sets) x 0) p) e)
+  where
+    near : has (getD (s .sets) x 0) p ≡ true → x < 64
+    near e = decided (ltb x 64) (ltb-true x 64) (λ q. absurd (false-true (sym (has-none p) ∙ ap (λ (w : ℕ). has w p) (sym (List·getD-eq-default (s .sets) 0 {n = x} (omega (arith, ltb-false x 64 q, held .wide .sets)))) ∙ e)))
+
+    some : has (getD (s .sets) x 0) p ≡ true → ⊥
+    some e =
+        let w = held .words .fits x (near e) in
+        let m = members-fewer 0 (getD (s .sets) x 0) p (within-none (getD (s .sets) x 0)) (has-low (getD (s .sets) x 0) p w e) e (has-none p) in
+        let c : 0 < ones (getD (s .sets) x 0) = omega (arith, ones-members (getD (s .sets) x 0) w, m) in
+        omega (arith, z, sum-lt 64 x (λ y. 0) (λ y. ones (getD (s .sets) y 0)) (λ i h. omega arith) (near e) c)
+
+pub gap-free : NoGapAlive
+unfolding countOf judgeOf
+gap-free sheet s held count judge =
+    let z = ap (λ (r : Counted). r .answer) count in
+    let a = asked sheet s z in
+    let none : placesOf (s .sets) 64 ≡ 0 = rw z at (ap (λ (r : Counted). r .places) count) in
+    let live : alive (vanOf sheet) (dayOf sheet) (planIn s) ≡ true = rw z at (ap (λ (r : Judged). r .alive) judge) in
+    no-gap-alive (vanOf sheet) (dayOf sheet) (planIn s) (proper sheet (a .0)) (state-formed sheet s held (a .0) (a .1)) (none-open s held none) (true→T _ live)
+
+pub dead : DeadNone
+unfolding judgeOf
+dead sheet s z judge R in-set =
+    let q = ap (λ (r : Judged). r .answer) judge in
+    let late : alive (vanOf sheet) (dayOf sheet) (planIn s) ≡ false = rw q at (ap (λ (r : Judged). r .alive) judge) in
+    dead-none (vanOf sheet) (dayOf sheet) (planIn s) R (short-tables sheet z) (false→N _ late) in-set
