@@ -1,12 +1,12 @@
 -- A step refused, and a step accepted: what it knows.
-use Prim.Native.Nat.{ℕ, _≤_}
+use Prim.Native.Nat.{ℕ}
 use mathlib.Core.Path.{_≡_, refl, sym, ap, _∙_}
 use mathlib.Core.Bool.{Bool, true, false, cond}
 use mathlib.Core.List.{List}
 use lib.Dec.{eqb}
 use borrow.Author.Tests.{eqb-true, eqb-false, eq-eqb, ne-eqb}
 use Rattle.laws.specs.Logic.{decided, and-true}
-use Rattle.laws.specs.Choice.{orElse, unless, or-else-zero, unless-zero}
+use Rattle.laws.specs.Choice.{or-else-zero, unless-zero}
 use Rattle.sheet.specs.Section.{nOf}
 use Rattle.sheet.specs.Place.{Fine}
 use Rattle.day.specs.Refuse.{refusal14, fine14}
@@ -16,8 +16,8 @@ use Rattle.board.specs.Form.{inForm, formWith}
 use Rattle.board.specs.declared.State.{State}
 use Rattle.trail.specs.Trail.{roomOf}
 use Rattle.trail.specs.Steps as trail
-use Rattle.trail.specs.StepLaws.{step-no, step-yes, step-zero}
-use Rattle.planner.specs.Face.{Ran, refused, stepped, stepOf, actOf, callRefusal, settledSets, settlingRounds, owedOf}
+use Rattle.trail.specs.StepLaws.{step-no, step-yes}
+use Rattle.planner.specs.Face.{Ran, refused, stepped, stepOf, actOf, callRefusal, settlingRounds}
 use Rattle.planner.specs.Promises.{Took, Unchanged}
 
 -- ---- a call that is not refused: the sheet is fine, the state in form, its records within the room

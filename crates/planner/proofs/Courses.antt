@@ -1,18 +1,15 @@
 -- Accepted steps one after another: stepping back, and the bound on records.
-use Prim.Native.Nat.{ℕ, zero, suc, _+_, _-_, _*_, _≤_, _<_}
-use mathlib.Core.Path.{_≡_, refl, sym, ap, subst, _∙_}
-use mathlib.Core.Bool.{Bool, true, false, cond, not, _&&_}
-use mathlib.Core.List.{List, []}
+use Prim.Native.Nat.{ℕ, _+_, _-_, _≤_, _<_}
+use mathlib.Core.Path.{_≡_, sym, ap, _∙_}
+use mathlib.Core.Bool.{true}
+use mathlib.Core.List.{List}
 use native.Mathlib.Omega.{arith}
-use lib.Dec.{eqb, leb, ltb}
-use lib.ListN.{set}
-use borrow.Author.Tests.{eqb-true, eqb-false, eq-eqb, ltb-true, ltb-false}
-use Rattle.laws.specs.Logic.{decided}
+use lib.Dec.{ltb}
 use Rattle.laws.specs.Choice.{orElse, unless}
 use Rattle.sheet.specs.Section.{nOf}
 use Rattle.day.specs.Refuse.{refusal14, fine14}
-use Rattle.board.specs.Board.{Board, boardOf, stateOf}
-use Rattle.board.specs.Form.{inForm, formWith}
+use Rattle.board.specs.Board.{Board, boardOf}
+use Rattle.board.specs.Form.{formWith}
 use Rattle.board.specs.FormLaws as board
 use Rattle.board.specs.Fresh.{freshState}
 use Rattle.board.specs.Held.{Held, Words}
@@ -23,9 +20,9 @@ use Rattle.trail.specs.Run as run
 use Rattle.trail.specs.Since.{Since, accepted, move-since}
 use Rattle.trail.specs.StepBack.{here-since, step-back, step-back-below}
 use Rattle.trail.specs.Bound.{reached, records-bound}
-use Rattle.planner.specs.Face.{Ran, stepped, stepOf, actOf, callRefusal}
+use Rattle.planner.specs.Face.{Ran, stepped, actOf, callRefusal}
 use Rattle.planner.specs.Promises.{Took, Steps, none, then, StepsBack, RecordsBounded}
-use Rattle.planner.proofs.Answers.{Called, called, acted, call-yes}
+use Rattle.planner.proofs.Answers.{Called, acted, call-yes}
 use Rattle.planner.proofs.Moves.{moved, unlift}
 use Rattle.planner.proofs.Kept.{records-in, form-made}
 
@@ -83,9 +80,10 @@ steps-back sheet s s₁ s₂ t t₁ t₂ a b k c d held e steps last =
     let end : s₂ .depth ≡ s .depth + 1 = last ∙ up in
     let back = step-back n s t (small sheet s t held u) held (form sheet s t held u) (room sheet s t held u) s₁ t₁ open-level s₂ t₂ (r .0) end in
     let h = r .1 in
-    let f = form-made n s₂ (roomOf t₂) (board.in-form-of n s₂ (h .small) (h .held .wide) (h .form)) (h .room) in
-    (took-back sheet s₂ s t₂ c d (call-made sheet s₂ t₂ (u .read) f) back,
-    step-back-below n s t (small sheet s t held u) held (form sheet s t held u) (room sheet s t held u) s₁ t₁ open-level s₂ t₂ (r .0) end)
+    let f = form-made n s₂ (roomOf t₂) (board.in-form-of n s₂ (h .small) (h .held .wide) (h .form)) (h .room) in (
+      took-back sheet s₂ s t₂ c d (call-made sheet s₂ t₂ (u .read) f) back,
+      step-back-below n s t (small sheet s t held u) held (form sheet s t held u) (room sheet s t held u) s₁ t₁ open-level s₂ t₂ (r .0) end,
+    )
 
 -- ---- from a fresh state
 

@@ -1,31 +1,29 @@
 -- The promises, kept.
-use Prim.Native.Nat.{ℕ, zero, suc, _+_, _-_, _*_, _≤_, _<_, _^_}
-use mathlib.Core.Path.{_≡_, refl, sym, ap, subst, _∙_}
-use mathlib.Core.Bool.{Bool, true, false, cond, not, _&&_}
+use Prim.Native.Nat.{ℕ, _-_, _≤_, _<_}
+use mathlib.Core.Path.{_≡_, sym, ap, subst, _∙_}
+use mathlib.Core.Bool.{true, false, not}
 use mathlib.Core.List.{List}
 use mathlib.Core.Logic.{_↔_}
 use native.Mathlib.Omega.{arith}
-use lib.Dec.{T, eqb, leb, ltb}
+use lib.Dec.{T, leb, ltb}
 use lib.Count.{ones}
-use lib.ListN.{length, getD, List·getD-eq-default}
-use borrow.Author.Tests.{eqb-true, eqb-false, eq-eqb, leb-true, le-leb, ltb-true, ltb-false}
-use Rattle.laws.specs.Logic.{decided, and-true, T→true, true→T, false→N, N→false}
+use lib.ListN.{getD, List·getD-eq-default}
+use borrow.Author.Tests.{leb-true, le-leb, ltb-true, ltb-false}
+use Rattle.laws.specs.Logic.{decided, and-true, true→T, false→N}
 use Rattle.laws.specs.Lists.{mem}
 use Rattle.laws.specs.Choice.{or-else-zero, unless-zero}
-use Rattle.laws.specs.Sum.{sumBelow, sum-lt}
+use Rattle.laws.specs.Sum.{sum-lt}
 use Rattle.sheet.specs.Section.{nOf}
-use Rattle.day.specs.Refuse.{refusal14, refusal15, zero14, fine14}
+use Rattle.day.specs.Refuse.{refusal14}
 use Rattle.day.specs.Tell.{dayOf, vanOf}
 use Rattle.day.specs.Asked.{proper, one-end, short-tables}
 use Rattle.bits.specs.Places.{has}
 use Rattle.bits.specs.Members.{false-true, has-none, has-low, within-none}
 use Rattle.bits.specs.Number.{ones-members, members-fewer}
 use Rattle.rules.specs.Plan.{Plan}
-use Rattle.rules.specs.Rounds.{Belongs, keeps}
+use Rattle.rules.specs.Rounds.{Belongs}
 use Rattle.rules.specs.Steps as step
-use Rattle.rules.specs.Settle.{settled, rounds}
 use Rattle.rules.specs.Verdict.{alive}
-use Rattle.rules.specs.Asked.{Formed}
 use Rattle.rules.proofs.StepRounds.{placed-rounds, closed-rounds, excluded-rounds, required-rounds}
 use Rattle.rules.proofs.Twice.{at-most-two}
 use Rattle.rules.proofs.NoneLost.{settling-keeps}
@@ -36,12 +34,12 @@ use Rattle.board.specs.FormLaws as board
 use Rattle.board.specs.Held.{Held}
 use Rattle.board.specs.declared.State.{State}
 use Rattle.trail.specs.Trail.{roomOf}
-use Rattle.trail.specs.StepBack.{Wordy, move-keeps}
+use Rattle.trail.specs.StepBack.{move-keeps}
 use Rattle.planner.specs.Face.{planIn, askRefusal, countOf, judgeOf}
-use Rattle.planner.specs.Promises.{Took, FormKept, PlacingKeeps, ClosingKeeps, ExcludingKeeps, RequiringKeeps, SettlingStrikes, SettlingLosesNone, NoGapAlive, DeadNone}
+use Rattle.planner.specs.Promises.{FormKept, PlacingKeeps, ClosingKeeps, ExcludingKeeps, RequiringKeeps, SettlingStrikes, SettlingLosesNone, NoGapAlive, DeadNone}
 use Rattle.planner.specs.declared.Counted.{Counted}
 use Rattle.planner.specs.declared.Judged.{Judged}
-use Rattle.planner.proofs.Answers.{Called, acted}
+use Rattle.planner.proofs.Answers.{acted}
 use Rattle.planner.proofs.Plans.{state-formed, plan-formed, placed-plan, closed-plan, excluded-plan, required-plan, settled-plan}
 use Rattle.planner.proofs.Moves.{moved}
 

@@ -1,29 +1,27 @@
 -- An accepted step of the planner is an accepted step of the trail, and so are several: what the trail's theorems speak of.
-use Prim.Native.Nat.{ℕ, zero, suc, _+_, _≤_, _<_, _^_}
-use mathlib.Core.Path.{_≡_, refl, sym, ap, subst, _∙_}
+use Prim.Native.Nat.{ℕ, zero, suc, _<_, _^_}
+use mathlib.Core.Path.{_≡_, refl, sym, ap, _∙_}
 use mathlib.Core.Bool.{Bool, true, false, cond}
 use mathlib.Core.List.{List}
 use native.Mathlib.Omega.{arith}
-use lib.Dec.{T, eqb}
-use lib.ListN.{length, getD}
-use borrow.Author.Tests.{eqb-true, eqb-false}
-use Rattle.laws.specs.Logic.{decided, T→true, true→T}
-use Rattle.laws.specs.Table.{tab, getD-tab}
+use lib.Dec.{eqb}
+use lib.ListN.{getD}
+use borrow.Author.Tests.{eqb-false}
+use Rattle.laws.specs.Logic.{T→true, true→T}
+use Rattle.laws.specs.Table.{getD-tab}
 use Rattle.sheet.specs.Section.{nOf}
 use Rattle.day.specs.Tell.{dayOf, vanOf}
-use Rattle.bits.specs.Places.{has, with, within}
+use Rattle.bits.specs.Places.{has, with}
 use Rattle.bits.specs.Members.{within-make, with-fits}
 use Rattle.rules.specs.Settle.{settle}
 use Rattle.rules.proofs.Fixpoint.{settle-less}
-use Rattle.board.specs.Board.{Board, boardOf, setOf, openAt}
-use Rattle.board.specs.Held.{Held, Words}
-use Rattle.board.specs.FormLaws as board
+use Rattle.board.specs.Board.{setOf, openAt}
+use Rattle.board.specs.Held.{Held}
 use Rattle.board.specs.declared.State.{State}
-use Rattle.trail.specs.Trail.{roomOf}
 use Rattle.trail.specs.Steps as trail
 use Rattle.trail.specs.Run as run
 use Rattle.settle.specs.Sets.{wordOf, setsOf, length-sets, places-sets}
-use Rattle.planner.specs.Face.{Ran, planIn, refused, stepped, actOf, owedOf, settledSets, settlingRounds}
+use Rattle.planner.specs.Face.{Ran, planIn, stepped, actOf, owedOf, settledSets, settlingRounds}
 use Rattle.planner.specs.Promises.{Took}
 use Rattle.planner.proofs.Answers.{Called, acted, either}
 use Rattle.planner.proofs.Plans.{places-small}

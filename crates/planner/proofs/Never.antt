@@ -1,11 +1,11 @@
 -- From a fresh state with room for n(n − 2) records, 17, 19 and 20 are never met.
-use Prim.Native.Nat.{ℕ, zero, suc, _+_, _-_, _*_, _≤_, _<_}
+use Prim.Native.Nat.{ℕ, suc, _+_, _-_, _*_, _≤_, _<_}
 use mathlib.Core.Path.{_≡_, refl, sym, ap, _∙_}
-use mathlib.Core.Bool.{Bool, true, false, cond, not, _&&_, _||_}
+use mathlib.Core.Bool.{Bool, true, false, not, _&&_, _||_}
 use mathlib.Core.List.{List}
 use native.Mathlib.Omega.{arith}
 use lib.Dec.{eqb, leb, ltb}
-use borrow.Author.Tests.{eqb-true, eqb-false, ltb-true, ltb-false}
+use borrow.Author.Tests.{eqb-true, eqb-false, ltb-true}
 use Rattle.laws.specs.Logic.{decided}
 use Rattle.laws.specs.Choice.{orElse, unless}
 use Rattle.sheet.specs.Section.{nOf}
@@ -22,7 +22,7 @@ use Rattle.trail.specs.StepLaws.{step-yes, step-no}
 use Rattle.trail.specs.Run as run
 use Rattle.trail.specs.Bound.{reached}
 use Rattle.trail.specs.Never.{records-room, place-17, exclude-17, require-17, settle-17, back-20}
-use Rattle.planner.specs.Face.{Ran, refused, stepped, stepOf, actOf, callRefusal, owedOf, settledSets, settlingRounds}
+use Rattle.planner.specs.Face.{Ran, stepped, stepOf, actOf, callRefusal, owedOf, settledSets, settlingRounds}
 use Rattle.planner.specs.Promises.{Steps, NeverShort}
 use Rattle.planner.proofs.Answers.{called, call-yes, either, zero-both}
 use Rattle.planner.proofs.Moves.{settled-smaller}

@@ -1,12 +1,12 @@
 -- What an accepted step does to the plan that the state stands for: it is the rules' step of that plan.
-use Prim.Native.Nat.{ℕ, _≤_, _<_, _^_}
-use mathlib.Core.Path.{_≡_, refl, sym, ap, subst, _∙_}
-use mathlib.Core.Bool.{Bool, true, false, cond, not, _&&_, _||_, and-true, and-false, or-true, or-false}
+use Prim.Native.Nat.{ℕ, _≤_, _<_}
+use mathlib.Core.Path.{_≡_, refl, sym, ap, _∙_}
+use mathlib.Core.Bool.{true, cond, not, _&&_, and-true, and-false, or-true, or-false}
 use mathlib.Core.List.{List}
 use native.Mathlib.Omega.{arith}
-use lib.Dec.{T, eqb, ltb}
-use lib.ListN.{length, List·getD-eq-default}
-use borrow.Author.Tests.{eqb-true, ltb-true, ltb-false}
+use lib.Dec.{T, eqb}
+use lib.ListN.{length}
+use borrow.Author.Tests.{eqb-true}
 use Rattle.laws.specs.Logic.{decided, T→true, true→T, false→N}
 use Rattle.laws.specs.Lists.{mem}
 use Rattle.sheet.specs.Section.{nOf}
@@ -14,13 +14,12 @@ use Rattle.day.specs.Refuse.{refusal14, fine14}
 use Rattle.day.specs.Tell.{dayOf, vanOf}
 use Rattle.bits.specs.Places.{has}
 use Rattle.bits.specs.Members.{has-none, has-low}
-use Rattle.rules.specs.Plan.{Plan}
 use Rattle.rules.specs.Asked.{Formed}
 use Rattle.rules.specs.Steps as step
 use Rattle.rules.specs.Settle.{settle, rounds, settled}
 use Rattle.rules.proofs.Fixpoint.{settle-less}
 use Rattle.rules.proofs.Inner.{inner-low}
-use Rattle.board.specs.Board.{Board, boardOf, routeOf, onRoute, setOf, openAt, inner}
+use Rattle.board.specs.Board.{boardOf, routeOf, onRoute, setOf, openAt, inner}
 use Rattle.board.specs.Form.{inForm}
 use Rattle.board.specs.FormLaws as board
 use Rattle.board.specs.Held.{Held}
@@ -29,27 +28,17 @@ use Rattle.trail.specs.Trail.{roomOf}
 use Rattle.trail.specs.Steps as trail
 use Rattle.trail.specs.StepLaws.{step-yes, step-zero, placeable, excludable, requirable}
 use Rattle.settle.specs.Sets.{Small, places-sets}
-use Rattle.stands.specs.Stands as words
 use Rattle.stands.proofs.Formed.{stands-formed}
 use Rattle.stands.proofs.Changed.{plan-ext, placed-stands, closed-stands, excluded-stands, required-stands}
 use Rattle.planner.specs.Face.{Ran, planIn, stepped, actOf, owedOf, settlingRounds}
 use Rattle.planner.specs.Promises.{Took}
 use Rattle.planner.proofs.Answers.{Called, acted}
 
--- a set that no node has is empty, so every set of a held state is a word
-held-words : {s : State} → Held s → words.Held (boardOf s)
-unfolding setOf
-held-words {s} h = record {
-  wide = h .wide;
-  words = λ y. decided (ltb y 64) (λ e. h .words .fits y (ltb-true y 64 e)) (λ e. rw (List·getD-eq-default (s .sets) 0 {n = y} (omega (arith, ltb-false y 64 e, h .wide .sets))) (omega arith));
-  marks = h .words .marks;
-}
-
 -- the plan of a state in form is in form
 pub state-formed : (sheet : List ℕ) (s : State) → Held s → refusal14 sheet ≡ 0 → inForm (nOf sheet) s ≡ true → Formed (dayOf sheet) (planIn s)
 state-formed sheet s held z e =
     let small = fine14 sheet z .n-high in
-    stands-formed (dayOf sheet) (boardOf s) small (held-words held) (board.in-form (nOf sheet) s small (held .wide) e .board)
+    stands-formed (dayOf sheet) (boardOf s) small (held .wide) (held .words) (board.in-form (nOf sheet) s small (held .wide) e .board)
 
 module _ {sheet : List ℕ} {s : State} {t : List ℕ} (typed : Held s) (c : Called sheet s t) where
   small : nOf sheet ≤ 64
@@ -107,10 +96,12 @@ module _ (sheet : List ℕ) (s : State) (t : List ℕ) (typed : Held s) where
   excluded-plan x c e =
       let a = acted sheet s t 3 x c e in
       let g = gave 0 _ s t _ (a .1) in
-      let h = excludable (nOf sheet) (boardOf s) (s .records) (roomOf t) (owedOf sheet s x) x (g .0) .0 in
-      (ap planIn (g .1) ∙ decided (eqb (setOf (boardOf s) x) 0)
-      (λ q. rw q (nothing-open x (eqb-true (setOf (boardOf s) x) 0 q)))
-      (λ q. rw q (excluded-stands (boardOf s) x (stored (a .0) x (h .node)))), false→N _ (h .off))
+      let h = excludable (nOf sheet) (boardOf s) (s .records) (roomOf t) (owedOf sheet s x) x (g .0) .0 in (
+        ap planIn (g .1) ∙ decided (eqb (setOf (boardOf s) x) 0)
+            (λ q. rw q (nothing-open x (eqb-true (setOf (boardOf s) x) 0 q)))
+            (λ q. rw q (excluded-stands (boardOf s) x (stored (a .0) x (h .node)))),
+        false→N _ (h .off),
+      )
 
   -- step 4; already marked nothing changes
   already : (x : ℕ) → has (s .marks) x ≡ true → planIn s ≡ step.required x (planIn s)
@@ -123,22 +114,26 @@ module _ (sheet : List ℕ) (s : State) (t : List ℕ) (typed : Held s) where
   required-plan x c e =
       let a = acted sheet s t 4 x c e in
       let g = gave 0 _ s t _ (a .1) in
-      let h = requirable (nOf sheet) (boardOf s) (s .records) (roomOf t) x (g .0) .0 in
-      (ap planIn (g .1) ∙ decided (has (s .marks) x)
-      (λ q. rw q (already x q))
-      (λ q. rw q (required-stands (boardOf s) x (omega (arith, stored (a .0) x (h .node), typed .wide .sets)))), h .node)
+      let h = requirable (nOf sheet) (boardOf s) (s .records) (roomOf t) x (g .0) .0 in (
+        ap planIn (g .1) ∙ decided (has (s .marks) x)
+            (λ q. rw q (already x q))
+            (λ q. rw q (required-stands (boardOf s) x (omega (arith, stored (a .0) x (h .node), typed .wide .sets)))),
+        h .node,
+      )
 
   -- step 5
   pub places-small : Called sheet s t → Small (settle (vanOf sheet) (dayOf sheet) (planIn s .route) (planIn s .places))
   unfolding openAt
   places-small c y q h =
       let o = settle-less (vanOf sheet) (dayOf sheet) (planIn s .route) (planIn s .places) y q h in
-      (omega (arith, inner-low (dayOf sheet) (plan-formed typed c .inside y q o), small typed c), has-low (setOf (boardOf s) y) q (held-words typed .words y) (T→true (has (setOf (boardOf s) y) q) o))
+      let low = inner-low (dayOf sheet) (plan-formed typed c .inside y q o) in
+      (omega (arith, low, small typed c), has-low (setOf (boardOf s) y) q (typed .words .fits y (omega (arith, low, small typed c))) (T→true (has (setOf (boardOf s) y) q) o))
 
   pub settled-plan : {s′ : State} {t′ : List ℕ} {k : ℕ} (a c : ℕ) → Took sheet s t 5 a c k s′ t′ → (planIn s′ ≡ settled (vanOf sheet) (dayOf sheet) (planIn s)) × (k ≡ rounds (vanOf sheet) (dayOf sheet) (planIn s .route) (planIn s .places))
   unfolding actOf trail.settleStep openAt setOf routeOf
   settled-plan a c e =
       let u = acted sheet s t 5 a c e in
-      let g = gave (settlingRounds sheet s) _ s t _ (u .1) in
-      (ap planIn (g .1) ∙ plan-ext _ _ refl (places-sets (settle (vanOf sheet) (dayOf sheet) (planIn s .route) (planIn s .places)) (places-small (u .0))) (λ y. refl),
-      sym (ap (λ (r : Ran). r .0 .rounds) (u .1)) ∙ ap (λ (n : ℕ). cond (eqb n 0) (settlingRounds sheet s) 0) (ap (λ (r : Ran). r .0 .answer) (u .1)))
+      let g = gave (settlingRounds sheet s) _ s t _ (u .1) in (
+        ap planIn (g .1) ∙ plan-ext _ _ refl (places-sets (settle (vanOf sheet) (dayOf sheet) (planIn s .route) (planIn s .places)) (places-small (u .0))) (λ y. refl),
+        sym (ap (λ (r : Ran). r .0 .rounds) (u .1)) ∙ ap (λ (n : ℕ). cond (eqb n 0) (settlingRounds sheet s) 0) (ap (λ (r : Ran). r .0 .answer) (u .1)),
+      )

@@ -1,15 +1,13 @@
 -- Demand 3 for the real steps: a run's end, settled once more, is what 01 works out from the start.
-use Prim.Native.Nat.{ℕ, _+_, _≤_}
+use Prim.Native.Nat.{ℕ}
 use mathlib.Core.Path.{_≡_, refl, sym, ap, subst, _∙_}
-use mathlib.Core.Bool.{Bool, true, false, cond, not}
+use mathlib.Core.Bool.{Bool, true, false, cond}
 use mathlib.Core.List.{List}
 use native.Mathlib.Omega.{arith}
-use lib.Dec.{T, eqb}
-use Rattle.laws.specs.Logic.{decided}
-use Rattle.laws.specs.Lists.{mem}
-use Rattle.laws.specs.Choice.{orElse, unless}
+use lib.Dec.{eqb}
+use Rattle.laws.specs.Choice.{orElse}
 use Rattle.sheet.specs.Section.{nOf}
-use Rattle.day.specs.Refuse.{refusal14, refusal15, zero14}
+use Rattle.day.specs.Refuse.{refusal14, zero14}
 use Rattle.day.specs.Tell.{dayOf, vanOf}
 use Rattle.day.specs.Asked.{one-end, short-tables}
 use Rattle.bits.specs.Places.{has}
@@ -123,15 +121,17 @@ module _ (sheet : List ℕ) (s s₁ s₂ : State) (t t₁ t₂ X : List ℕ) (a 
 pub worked-out : WorkedOut
 worked-out sheet s s₁ s₂ t t₁ t₂ X a b k z held form run e =
     let y = zero14 sheet z in
-    let same = run-alike (vanOf sheet) (dayOf sheet) (short-tables sheet z) (one-end sheet y) (planIn s) (state-formed sheet s held y form) (ruled sheet s s₁ s₂ t t₁ t₂ X a b k y held run e) in
-    (λ x p. ap (λ (q : Plan). q .places x p) (end-plan sheet s s₁ s₂ t t₁ t₂ X a b k y held run e) ∙ same .places x p,
-    end-verdict sheet s s₁ s₂ t t₁ t₂ X a b k y held run e ∙ same .verdict)
+    let same = run-alike (vanOf sheet) (dayOf sheet) (short-tables sheet z) (one-end sheet y) (planIn s) (state-formed sheet s held y form) (ruled sheet s s₁ s₂ t t₁ t₂ X a b k y held run e) in (
+      λ x p. ap (λ (q : Plan). q .places x p) (end-plan sheet s s₁ s₂ t t₁ t₂ X a b k y held run e) ∙ same .places x p,
+      end-verdict sheet s s₁ s₂ t t₁ t₂ X a b k y held run e ∙ same .verdict,
+    )
 
 pub alike : RunsAlike
 alike sheet s s₁ s₂ s₃ s₄ t t′ t₁ t₂ t₃ t₄ X Y a b k a′ b′ k′ z held form run e run′ e′ route shut marks =
     let y = zero14 sheet z in
     let same = runs-alike (vanOf sheet) (dayOf sheet) (short-tables sheet z) (one-end sheet y) (planIn s) (state-formed sheet s held y form)
-    (ruled sheet s s₁ s₂ t t₁ t₂ X a b k y held run e) (ruled sheet s s₃ s₄ t′ t₃ t₄ Y a′ b′ k′ y held run′ e′) route shut marks in
-    (λ x p. ap (λ (q : Plan). q .places x p) (end-plan sheet s s₁ s₂ t t₁ t₂ X a b k y held run e) ∙ same .places x p
-        ∙ sym (ap (λ (q : Plan). q .places x p) (end-plan sheet s s₃ s₄ t′ t₃ t₄ Y a′ b′ k′ y held run′ e′)),
-    end-verdict sheet s s₁ s₂ t t₁ t₂ X a b k y held run e ∙ same .verdict ∙ sym (end-verdict sheet s s₃ s₄ t′ t₃ t₄ Y a′ b′ k′ y held run′ e′))
+    (ruled sheet s s₁ s₂ t t₁ t₂ X a b k y held run e) (ruled sheet s s₃ s₄ t′ t₃ t₄ Y a′ b′ k′ y held run′ e′) route shut marks in (
+      λ x p. ap (λ (q : Plan). q .places x p) (end-plan sheet s s₁ s₂ t t₁ t₂ X a b k y held run e) ∙ same .places x p
+          ∙ sym (ap (λ (q : Plan). q .places x p) (end-plan sheet s s₃ s₄ t′ t₃ t₄ Y a′ b′ k′ y held run′ e′)),
+      end-verdict sheet s s₁ s₂ t t₁ t₂ X a b k y held run e ∙ same .verdict ∙ sym (end-verdict sheet s s₃ s₄ t′ t₃ t₄ Y a′ b′ k′ y held run′ e′),
+    )

@@ -1,9 +1,9 @@
 -- The promises, as statements about the answers of the real entry points (Face), each a type. They stand together in the record `Promised` at
 -- the end, and `proofs/All.antt` has its one value: a proof of each.
 -- `Held s` and `Wordy t` are what the types of a state and a trail say and lists of numbers do not: arrays of 64, words of 64 bits.
-use Prim.Native.Nat.{ℕ, _+_, _-_, _*_, _≤_, _<_}
+use Prim.Native.Nat.{ℕ, _-_, _*_, _≤_}
 use mathlib.Core.Path.{_≡_}
-use mathlib.Core.Bool.{Bool, true, false, not, _&&_}
+use mathlib.Core.Bool.{true, false, not}
 use mathlib.Core.List.{List, [], _∷_}
 use mathlib.Core.Logic.{_↔_}
 use lib.Dec.{T}
@@ -12,13 +12,11 @@ use Rattle.laws.specs.Lists.{mem}
 use Rattle.sheet.specs.Section.{nOf}
 use Rattle.day.specs.Refuse.{refusal14, refusal15}
 use Rattle.day.specs.Tell.{dayOf, vanOf}
-use Rattle.rules.specs.Plan.{Plan}
 use Rattle.rules.specs.Rounds.{Belongs, keeps}
 use Rattle.rules.specs.Steps.{uses}
 use Rattle.rules.specs.Settle.{settled, rounds}
 use Rattle.rules.specs.Verdict.{alive}
 use Rattle.rules.specs.Worked.{worked}
-use Rattle.board.specs.Board.{boardOf}
 use Rattle.board.specs.Fresh.{freshState}
 use Rattle.board.specs.Form.{inForm, formWith}
 use Rattle.board.specs.Held.{Held}

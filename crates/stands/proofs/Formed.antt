@@ -1,5 +1,5 @@
 -- A board in form stands for a plan in form.
-use Prim.Native.Nat.{ℕ, zero, suc, _+_, _-_, _≤_, _<_}
+use Prim.Native.Nat.{ℕ, zero, suc, _-_, _≤_, _<_}
 use mathlib.Core.Path.{_≡_, sym, ap, subst, _∙_}
 use mathlib.Core.Bool.{true, false, not, _&&_}
 use mathlib.Core.List.{List, [], _∷_}
@@ -15,6 +15,7 @@ use Rattle.bits.specs.Members.{has-none, has-low, within-has, false-true}
 use Rattle.board.specs.Board.{Board, routeOf, onRoute, legsOf, setOf, openAt, inner}
 use Rattle.board.specs.Form.{setOk}
 use Rattle.board.specs.RouteLaws.{mem-at, mem-none}
+use Rattle.board.specs.Held.{Words}
 use Rattle.board.specs.FormLaws as board
 use Rattle.board.specs.Keep.{mark-inner}
 use Rattle.board.specs.Places.{open-past}
@@ -25,7 +26,7 @@ use Rattle.rules.specs.Rounds.{Distinct, none, more}
 use Rattle.rules.specs.Asked.{Formed, endsWith}
 use Rattle.rules.proofs.AlongLaws.{leg-stops}
 use Rattle.rules.proofs.Given.{ends-at}
-use Rattle.stands.specs.Stands.{planOf, Held}
+use Rattle.stands.specs.Stands.{planOf}
 
 -- entries below n, each once, are distinct nodes
 distinct : (n : ℕ) (l : List ℕ) → ((i : ℕ) → i < length l → getD l i 0 < n) → ((i j : ℕ) → i < length l → j < i → getD l j 0 ≡ getD l i 0 → ⊥) → Distinct n l
@@ -50,10 +51,7 @@ take-first zero l h g = absurd (omega arith)
 take-first (suc k) [] h g = absurd (omega arith)
 take-first (suc k) (x ∷ l) h g = ap (λ (m : ℕ). x ∷ take m l) (let e : k ≡ suc k - 1 = omega arith in e)
 
-module _ (d : Day) (b : Board) (small : d .n ≤ 64) (held : Held b) (form : board.Formed (d .n) b) where
-  wide : board.Wide b
-  wide = held .wide
-
+module _ (d : Day) (b : Board) (small : d .n ≤ 64) (wide : board.Wide b) (words : Words b) (form : board.Formed (d .n) b) where
   long : length (routeOf b) ≡ b .stops
   long = board.route-long (d .n) b small wide (form .route)
 
@@ -70,7 +68,7 @@ module _ (d : Day) (b : Board) (small : d .n ≤ 64) (held : Held b) (form : boa
   unfolding openAt
   open-leg y q t =
       let yes = T→true (has (setOf b y) q) t in
-      let f = board.leg-at (d .n) b small wide (form .route) q (within-has (setOf b y) (legsOf b) (board.set-within (d .n) b small wide form y (near y q t)) q (has-low (setOf b y) q (held .words y) yes) yes) in
+      let f = board.leg-at (d .n) b small wide (form .route) q (within-has (setOf b y) (legsOf b) (board.set-within (d .n) b small wide form y (near y q t)) q (has-low (setOf b y) q (words .fits y (near y q t)) yes) yes) in
       subst (λ (l : List ℕ). T (mem q l)) (sym (leg-stops (routeOf b)))
       (true→T _ (mem-at q (f .0) (take (length (routeOf b) - 1) (routeOf b)) (omega (arith, length-take (length (routeOf b) - 1) (routeOf b), long, f .1))
       (getD-take (length (routeOf b) - 1) (routeOf b) (f .0) 0 (omega (arith, long, f .1)) ∙ at (f .0) (omega (arith, f .1)) ∙ f .2)))
@@ -104,5 +102,5 @@ module _ (d : Day) (b : Board) (small : d .n ≤ 64) (held : Held b) (form : boa
     inside = λ y q t. inner-in d y (open-node y q t .0);
     off = λ y q t. false→N _ (open-node y q t .1);
     leg = open-leg;
-    marked = λ y t. let yes = T→true (has (b .marks) y) t in inner-in d y (mark-inner (d .n) b form y (has-low (b .marks) y (held .marks) yes) yes);
+    marked = λ y t. let yes = T→true (has (b .marks) y) t in inner-in d y (mark-inner (d .n) b form y (has-low (b .marks) y (words .marks) yes) yes);
   }
