@@ -83,9 +83,10 @@ steps-back sheet s s₁ s₂ t t₁ t₂ a b k c d held e steps last =
     let end : s₂ .depth ≡ s .depth + 1 = last ∙ up in
     let back = step-back n s t (small sheet s t held u) held (form sheet s t held u) (room sheet s t held u) s₁ t₁ open-level s₂ t₂ (r .0) end in
     let h = r .1 in
-    let f = form-made n s₂ (roomOf t₂) (board.in-form-of n s₂ (h .small) (h .held .wide) (h .form)) (h .room) in
-    (took-back sheet s₂ s t₂ c d (call-made sheet s₂ t₂ (u .read) f) back,
-    step-back-below n s t (small sheet s t held u) held (form sheet s t held u) (room sheet s t held u) s₁ t₁ open-level s₂ t₂ (r .0) end)
+    let f = form-made n s₂ (roomOf t₂) (board.in-form-of n s₂ (h .small) (h .held .wide) (h .form)) (h .room) in (
+      took-back sheet s₂ s t₂ c d (call-made sheet s₂ t₂ (u .read) f) back,
+      step-back-below n s t (small sheet s t held u) held (form sheet s t held u) (room sheet s t held u) s₁ t₁ open-level s₂ t₂ (r .0) end,
+    )
 
 -- ---- from a fresh state
 

@@ -7,8 +7,7 @@ use native.Mathlib.Omega.{arith}
 use lib.Dec.{ltb}
 use lib.ListN.{List·getD-eq-default}
 use borrow.Author.Tests.{ltb-true, ltb-false}
-use Rattle.laws.specs.Logic.{decided, T→true}
-use Rattle.bits.specs.Members.{has-none, false-true}
+use Rattle.laws.specs.Logic.{decided}
 use Rattle.sheet.specs.Section.{nOf}
 use Rattle.sheet.specs.Place.{Laid}
 use Rattle.sheet.specs.declared.Layout.{Layout}
@@ -49,26 +48,6 @@ ready {sheet} {at} s z l h e =
       most = omega (arith, f .board .route .most, l .fine .n-high);
       form = plan-formed sheet s (l .fine .n-high) h e;
     }
-
--- settling reads no marks
-pub unmarked : {sheet : List ℕ} {at : Layout} {l : List ℕ} {n : ℕ} {ws : List ℕ} {marks : ℕ} → Ready sheet at l n ws marks → Ready sheet at l n ws 0
-unmarked r = record {
-  laid = r .laid;
-  clear = r .clear;
-  long = r .long;
-  sized = r .sized;
-  most = r .most;
-  form = record {
-    tail = r .form .tail;
-    starts = r .form .starts;
-    ends = r .form .ends;
-    nodes = r .form .nodes;
-    inside = r .form .inside;
-    off = r .form .off;
-    leg = r .form .leg;
-    marked = λ y t. absurd (false-true (sym (has-none y) ∙ T→true _ t));
-  };
-}
 
 -- what the steps ask: the number of nodes is small, and the state is in form for it
 pub with-trail : {sheet : List ℕ} {at : Layout} (s : State) (room : ℕ) → Laid sheet at → formWith (nOf sheet) s room ≡ true

@@ -107,10 +107,12 @@ module _ (sheet : List ℕ) (s : State) (t : List ℕ) (typed : Held s) where
   excluded-plan x c e =
       let a = acted sheet s t 3 x c e in
       let g = gave 0 _ s t _ (a .1) in
-      let h = excludable (nOf sheet) (boardOf s) (s .records) (roomOf t) (owedOf sheet s x) x (g .0) .0 in
-      (ap planIn (g .1) ∙ decided (eqb (setOf (boardOf s) x) 0)
-      (λ q. rw q (nothing-open x (eqb-true (setOf (boardOf s) x) 0 q)))
-      (λ q. rw q (excluded-stands (boardOf s) x (stored (a .0) x (h .node)))), false→N _ (h .off))
+      let h = excludable (nOf sheet) (boardOf s) (s .records) (roomOf t) (owedOf sheet s x) x (g .0) .0 in (
+        ap planIn (g .1) ∙ decided (eqb (setOf (boardOf s) x) 0)
+            (λ q. rw q (nothing-open x (eqb-true (setOf (boardOf s) x) 0 q)))
+            (λ q. rw q (excluded-stands (boardOf s) x (stored (a .0) x (h .node)))),
+        false→N _ (h .off),
+      )
 
   -- step 4; already marked nothing changes
   already : (x : ℕ) → has (s .marks) x ≡ true → planIn s ≡ step.required x (planIn s)
@@ -123,10 +125,12 @@ module _ (sheet : List ℕ) (s : State) (t : List ℕ) (typed : Held s) where
   required-plan x c e =
       let a = acted sheet s t 4 x c e in
       let g = gave 0 _ s t _ (a .1) in
-      let h = requirable (nOf sheet) (boardOf s) (s .records) (roomOf t) x (g .0) .0 in
-      (ap planIn (g .1) ∙ decided (has (s .marks) x)
-      (λ q. rw q (already x q))
-      (λ q. rw q (required-stands (boardOf s) x (omega (arith, stored (a .0) x (h .node), typed .wide .sets)))), h .node)
+      let h = requirable (nOf sheet) (boardOf s) (s .records) (roomOf t) x (g .0) .0 in (
+        ap planIn (g .1) ∙ decided (has (s .marks) x)
+            (λ q. rw q (already x q))
+            (λ q. rw q (required-stands (boardOf s) x (omega (arith, stored (a .0) x (h .node), typed .wide .sets)))),
+        h .node,
+      )
 
   -- step 5
   pub places-small : Called sheet s t → Small (settle (vanOf sheet) (dayOf sheet) (planIn s .route) (planIn s .places))
@@ -139,6 +143,7 @@ module _ (sheet : List ℕ) (s : State) (t : List ℕ) (typed : Held s) where
   unfolding actOf trail.settleStep openAt setOf routeOf
   settled-plan a c e =
       let u = acted sheet s t 5 a c e in
-      let g = gave (settlingRounds sheet s) _ s t _ (u .1) in
-      (ap planIn (g .1) ∙ plan-ext _ _ refl (places-sets (settle (vanOf sheet) (dayOf sheet) (planIn s .route) (planIn s .places)) (places-small (u .0))) (λ y. refl),
-      sym (ap (λ (r : Ran). r .0 .rounds) (u .1)) ∙ ap (λ (n : ℕ). cond (eqb n 0) (settlingRounds sheet s) 0) (ap (λ (r : Ran). r .0 .answer) (u .1)))
+      let g = gave (settlingRounds sheet s) _ s t _ (u .1) in (
+        ap planIn (g .1) ∙ plan-ext _ _ refl (places-sets (settle (vanOf sheet) (dayOf sheet) (planIn s .route) (planIn s .places)) (places-small (u .0))) (λ y. refl),
+        sym (ap (λ (r : Ran). r .0 .rounds) (u .1)) ∙ ap (λ (n : ℕ). cond (eqb n 0) (settlingRounds sheet s) 0) (ap (λ (r : Ran). r .0 .answer) (u .1)),
+      )

@@ -123,15 +123,17 @@ module _ (sheet : List ℕ) (s s₁ s₂ : State) (t t₁ t₂ X : List ℕ) (a 
 pub worked-out : WorkedOut
 worked-out sheet s s₁ s₂ t t₁ t₂ X a b k z held form run e =
     let y = zero14 sheet z in
-    let same = run-alike (vanOf sheet) (dayOf sheet) (short-tables sheet z) (one-end sheet y) (planIn s) (state-formed sheet s held y form) (ruled sheet s s₁ s₂ t t₁ t₂ X a b k y held run e) in
-    (λ x p. ap (λ (q : Plan). q .places x p) (end-plan sheet s s₁ s₂ t t₁ t₂ X a b k y held run e) ∙ same .places x p,
-    end-verdict sheet s s₁ s₂ t t₁ t₂ X a b k y held run e ∙ same .verdict)
+    let same = run-alike (vanOf sheet) (dayOf sheet) (short-tables sheet z) (one-end sheet y) (planIn s) (state-formed sheet s held y form) (ruled sheet s s₁ s₂ t t₁ t₂ X a b k y held run e) in (
+      λ x p. ap (λ (q : Plan). q .places x p) (end-plan sheet s s₁ s₂ t t₁ t₂ X a b k y held run e) ∙ same .places x p,
+      end-verdict sheet s s₁ s₂ t t₁ t₂ X a b k y held run e ∙ same .verdict,
+    )
 
 pub alike : RunsAlike
 alike sheet s s₁ s₂ s₃ s₄ t t′ t₁ t₂ t₃ t₄ X Y a b k a′ b′ k′ z held form run e run′ e′ route shut marks =
     let y = zero14 sheet z in
     let same = runs-alike (vanOf sheet) (dayOf sheet) (short-tables sheet z) (one-end sheet y) (planIn s) (state-formed sheet s held y form)
-    (ruled sheet s s₁ s₂ t t₁ t₂ X a b k y held run e) (ruled sheet s s₃ s₄ t′ t₃ t₄ Y a′ b′ k′ y held run′ e′) route shut marks in
-    (λ x p. ap (λ (q : Plan). q .places x p) (end-plan sheet s s₁ s₂ t t₁ t₂ X a b k y held run e) ∙ same .places x p
-        ∙ sym (ap (λ (q : Plan). q .places x p) (end-plan sheet s s₃ s₄ t′ t₃ t₄ Y a′ b′ k′ y held run′ e′)),
-    end-verdict sheet s s₁ s₂ t t₁ t₂ X a b k y held run e ∙ same .verdict ∙ sym (end-verdict sheet s s₃ s₄ t′ t₃ t₄ Y a′ b′ k′ y held run′ e′))
+    (ruled sheet s s₁ s₂ t t₁ t₂ X a b k y held run e) (ruled sheet s s₃ s₄ t′ t₃ t₄ Y a′ b′ k′ y held run′ e′) route shut marks in (
+      λ x p. ap (λ (q : Plan). q .places x p) (end-plan sheet s s₁ s₂ t t₁ t₂ X a b k y held run e) ∙ same .places x p
+          ∙ sym (ap (λ (q : Plan). q .places x p) (end-plan sheet s s₃ s₄ t′ t₃ t₄ Y a′ b′ k′ y held run′ e′)),
+      end-verdict sheet s s₁ s₂ t t₁ t₂ X a b k y held run e ∙ same .verdict ∙ sym (end-verdict sheet s s₃ s₄ t′ t₃ t₄ Y a′ b′ k′ y held run′ e′),
+    )

@@ -3,7 +3,8 @@ use mathlib.Core.Logic.{⊎-elim}
 use borrow.Author.Tests.{ne-eqb}
 use Rattle.board.specs.FormLaws.{form-with}
 use Rattle.board.proofs.Told.{told}
-use Rattle.planner.proofs.FaceReady.{ready, unmarked}
+use Rattle.settle.proofs.Facts.{ready-unmarked}
+use Rattle.planner.proofs.FaceReady.{ready}
 use Rattle.planner.proofs.FaceLaws.{settled-is}
 use borrow.Author.Needs.{needs}
 use Rattle.planner.proofs.known.settling.Statement.{statement}
@@ -16,7 +17,7 @@ settle-requires : tie.Need-settle-requires
 settle-requires c κs =
     let v = c .before .before .before .before in
     let d = v .before .before .before in
-    (unmarked (ready (d .args .t3) (d .pre .0) (d .pre .1) (told (d .args .t3) _ (d .good .1 .1 .0)) (form-with _ _ _ (d .pre .2) .0)), v .van-of .ensures .1)
+    (ready-unmarked (ready (d .args .t3) (d .pre .0) (d .pre .1) (told (d .args .t3) _ (d .good .1 .1 .0)) (form-with _ _ _ (d .pre .2) .0)), v .van-of .ensures .1)
 
 settle-requires-2 : tie.Need-settle-requires-2
 settle-requires-2 c κs =
