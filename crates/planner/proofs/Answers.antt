@@ -40,7 +40,7 @@ module _ (sheet : List ℕ) (s : State) (t : List ℕ) (kind a b : ℕ) where
   unfolding stepOf
   call-yes e = rw (eq-eqb (callRefusal sheet s t) 0 e)
 
-  call-no : (callRefusal sheet s t ≡ 0 → ⊥) → stepOf sheet s t kind a b ≡ refused (callRefusal sheet s t) s t
+  pub call-no : (callRefusal sheet s t ≡ 0 → ⊥) → stepOf sheet s t kind a b ≡ refused (callRefusal sheet s t) s t
   unfolding stepOf
   call-no n = rw (ne-eqb (callRefusal sheet s t) 0 n)
 

@@ -5,7 +5,7 @@ use mathlib.Core.Bool.{Bool, true, false, cond, _&&_}
 use mathlib.Core.List.{List}
 use lib.Dec.{eqb, leb}
 use lib.ListN.{take}
-use borrow.Author.Tests.{eqb-false, ne-eqb, le-leb, lt-leb}
+use borrow.Author.Tests.{eqb-false, le-leb, lt-leb}
 use Rattle.laws.specs.Choice.{orElse, unless, or-else-zero, or-else-first, or-else-next, unless-zero}
 use Rattle.sheet.specs.Section.{nOf}
 use Rattle.day.specs.Refuse.{refusal14}
@@ -20,6 +20,7 @@ use Rattle.trail.specs.Steps as trail
 use Rattle.trail.specs.declared.Outcome.{Outcome}
 use Rattle.settle.specs.Sets.{placesOf, setsOf}
 use Rattle.settle.specs.Ready.{Settles}
+use Rattle.planner.proofs.Answers.{call-yes, call-no}
 use Rattle.planner.specs.Face.{Ran, refused, stepped, settledSets, settlingRounds, askRefusal, callRefusal, actOf, stepOf}
 
 -- ---- a call that is not refused for its sheet and its state
@@ -39,8 +40,7 @@ call-last sheet s t = go (refusal14 sheet) (inForm (nOf sheet) s) (leb (s .recor
     go (suc a) b c = refl
 
 refuses : (sheet : List ℕ) (s : State) (t : List ℕ) (kind a b k : ℕ) → callRefusal sheet s t ≡ k → (k ≡ 0 → ⊥) → stepOf sheet s t kind a b ≡ refused k s t
-unfolding stepOf
-refuses sheet s t kind a b k e n = rw (e, ne-eqb k 0 n)
+refuses sheet s t kind a b k e n = call-no sheet s t kind a b (λ z. n (sym e ∙ z)) ∙ ap (λ (j : ℕ). refused j s t) e
 
 -- refused for the sheet or the state
 pub step-asked : (sheet : List ℕ) (s : State) (t : List ℕ) (kind a b : ℕ) {k : ℕ} → k ≡ askRefusal sheet s → (k ≡ 0 → ⊥) → stepOf sheet s t kind a b ≡ refused k s t
@@ -53,8 +53,8 @@ step-full sheet s t kind a b e h =
 
 -- not refused
 pub step-acts : (sheet : List ℕ) (s : State) (t : List ℕ) (kind a b : ℕ) → askRefusal sheet s ≡ 0 → s .records ≤ roomOf t → stepOf sheet s t kind a b ≡ actOf sheet s t kind a b
-unfolding stepOf
-step-acts sheet s t kind a b e h = rw (call-last sheet s t ∙ or-else-next _ _ e ∙ ap (λ (b : Bool). unless b 19) (le-leb (s .records) (roomOf t) h))
+step-acts sheet s t kind a b e h =
+    call-yes sheet s t kind a b (call-last sheet s t ∙ or-else-next _ _ e ∙ ap (λ (b : Bool). unless b 19) (le-leb (s .records) (roomOf t) h))
 
 pub asked-room : (sheet : List ℕ) (s : State) (t : List ℕ) → askRefusal sheet s ≡ 0 → s .records ≤ roomOf t → formWith (nOf sheet) s (roomOf t) ≡ true
 unfolding formWith

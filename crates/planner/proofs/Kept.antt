@@ -2,7 +2,6 @@
 use Prim.Native.Nat.{ℕ, _-_, _≤_, _<_}
 use mathlib.Core.Path.{_≡_, sym, ap, subst, _∙_}
 use mathlib.Core.Bool.{true, false, not}
-use mathlib.Core.List.{List}
 use mathlib.Core.Logic.{_↔_}
 use native.Mathlib.Omega.{arith}
 use lib.Dec.{T, leb, ltb}
@@ -11,10 +10,8 @@ use lib.ListN.{getD, List·getD-eq-default}
 use borrow.Author.Tests.{leb-true, le-leb, ltb-true, ltb-false}
 use Rattle.laws.specs.Logic.{decided, and-true, true→T, false→N}
 use Rattle.laws.specs.Lists.{mem}
-use Rattle.laws.specs.Choice.{or-else-zero, unless-zero}
 use Rattle.laws.specs.Sum.{sum-lt}
 use Rattle.sheet.specs.Section.{nOf}
-use Rattle.day.specs.Refuse.{refusal14}
 use Rattle.day.specs.Tell.{dayOf, vanOf}
 use Rattle.day.specs.Asked.{proper, one-end, short-tables}
 use Rattle.bits.specs.Places.{has}
@@ -35,11 +32,12 @@ use Rattle.board.specs.Held.{Held}
 use Rattle.board.specs.declared.State.{State}
 use Rattle.trail.specs.Trail.{roomOf}
 use Rattle.trail.specs.StepBack.{move-keeps}
-use Rattle.planner.specs.Face.{planIn, askRefusal, countOf, judgeOf}
+use Rattle.planner.specs.Face.{planIn, countOf, judgeOf}
 use Rattle.planner.specs.Promises.{FormKept, PlacingKeeps, ClosingKeeps, ExcludingKeeps, RequiringKeeps, SettlingStrikes, SettlingLosesNone, NoGapAlive, DeadNone}
 use Rattle.planner.specs.declared.Counted.{Counted}
 use Rattle.planner.specs.declared.Judged.{Judged}
 use Rattle.planner.proofs.Answers.{acted}
+use Rattle.planner.proofs.FaceLaws.{asked}
 use Rattle.planner.proofs.Plans.{state-formed, plan-formed, placed-plan, closed-plan, excluded-plan, required-plan, settled-plan}
 use Rattle.planner.proofs.Moves.{moved}
 
@@ -93,10 +91,6 @@ settling-loses-none sheet s s′ t t′ a b k z held e R rule in-set =
     subst (λ (p : Plan). Belongs (dayOf sheet) p R) (sym (settled-plan sheet s t held a b e .0)) (settling-keeps (vanOf sheet) (dayOf sheet) (planIn s) R (short-tables sheet z) rule in-set)
 
 -- ---- no gap left, and dead
-
-asked : (sheet : List ℕ) (s : State) → askRefusal sheet s ≡ 0 → (refusal14 sheet ≡ 0) × (inForm (nOf sheet) s ≡ true)
-unfolding askRefusal
-asked sheet s e = let h = or-else-zero (refusal14 sheet) _ e in (h .0, unless-zero (inForm (nOf sheet) s) 18 (h .1))
 
 -- no place counted: no place open
 none-open : (s : State) → Held s → placesOf (s .sets) 64 ≡ 0 → (x p : ℕ) → T (not (openAt (boardOf s) x p))
