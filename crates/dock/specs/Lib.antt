@@ -1,0 +1,2 @@
+-- Line: what the program writes of a step.
+pub mod Line
