@@ -1,6 +1,6 @@
 -- On a sheet that 1 to 4 do not refuse, a call is refused exactly if the state is out of form, and then by 19.
 use Prim.Native.Nat.{ℕ}
-use mathlib.Core.Bool.{Bool, true, false}
+use mathlib.Core.Bool.{Bool}
 use mathlib.Core.List.{List}
 use mathlib.Core.Path.{_≡_, sym, ap, _∙_}
 use Rattle.laws.specs.Choice.{unless, or-else-next}

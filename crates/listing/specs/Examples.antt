@@ -1,7 +1,6 @@
 -- Lines of 01's listing, computed.
 use mathlib.Core.Path.{_≡_, refl}
-use mathlib.Core.List.{List, [], _∷_}
-use Prim.Native.Nat.{ℕ}
+use mathlib.Core.List.{[], _∷_}
 use Rattle.listing.specs.Text.{digits, decimal, field, stopText, stopsText, routeLine, refusedLine}
 
 -- 60048

@@ -1,21 +1,19 @@
 -- What a caller that is ready gives the functions inside.
 use mathlib.Core.Path.{_≡_, sym, ap, _∙_, subst}
 use Prim.Native.Nat.{ℕ, _-_, _<_, _≤_}
-use mathlib.Core.Bool.{Bool, true}
+use mathlib.Core.Bool.{Bool}
 use mathlib.Core.List.{List, [], _∷_}
 use native.Mathlib.Omega.{arith}
 use lib.Dec.{T, eqb→eq}
 use lib.IntN.{ℤ}
 use lib.ListN.{getD, take, length, length-take}
 use Rattle.laws.specs.Logic.{decided, true→T}
-use Rattle.laws.specs.Lists.{mem}
 use Rattle.bits.specs.Places.{has}
 use Rattle.bits.specs.Members.{has-none}
-use Rattle.rules.specs.Day.{Day, Van}
-use Rattle.rules.specs.Plan.{Plan, Places}
+use Rattle.rules.specs.Day.{Van}
 use Rattle.rules.specs.Settle.{round, settle}
-use Rattle.rules.specs.Asked.{Formed, endsWith}
-use Rattle.rules.proofs.AlongLaws.{leg-index, mem-at}
+use Rattle.rules.specs.Asked.{endsWith}
+use Rattle.rules.proofs.AlongLaws.{leg-index}
 use Rattle.rules.proofs.Left.{_⊆_, round-less}
 use Rattle.rules.proofs.Inner.{inner-low}
 use Rattle.rules.proofs.Fixpoint.{Seen, settle-less}
@@ -29,7 +27,7 @@ use Rattle.along.specs.Times.{start-low, length-low}
 use Rattle.along.specs.Spots.{node-low}
 use Rattle.along.specs.Loads.{load-at-low}
 use Rattle.along.specs.Walks.{Legs}
-use Rattle.settle.specs.Sets.{placesOf, setsOf, planFrom, Small, word-ext, length-sets, places-sets}
+use Rattle.settle.specs.Sets.{placesOf, setsOf, Small, word-ext, length-sets, places-sets}
 use Rattle.settle.specs.Round.{Timed}
 use Rattle.settle.specs.Ready.{Ready, Read, nodes-are, nodes-most}
 
