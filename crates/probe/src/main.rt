@@ -1,0 +1,412 @@
+// The program `probe`: the planner's face for anyone who wants to try it on anything. Cases on standard input, a line of numbers each.
+ghost use mathlib.Core.Path.{_≡_};
+ghost use Prim.Native.Nat.{_≤_, _<_};
+ghost use lib.ListN.{length};
+use board::State;
+use libc::STDIN_FILENO;
+use libc::STDOUT_FILENO;
+use listing::put_number;
+
+// The most bytes of a sheet and words of a trail, and the bytes of what stands before them.
+const SHEET: usize = 61440;
+
+const TRAIL: usize = 8192;
+
+const HEAD: usize = 1616;
+
+// What stands before a case's bytes and trail words.
+struct Case {
+    bytes: usize,
+    words: usize,
+    question: usize,
+    kind: usize,
+    first: usize,
+    second: usize,
+    state: State,
+}
+
+// The numbers that begin a line, and the state that came back.
+struct Told {
+    answer: usize,
+    rounds: usize,
+    places: usize,
+    alive: usize,
+    state: State,
+}
+
+fn wide(b: u8) -> u64 {
+    b as u64
+}
+
+// The i-th word of the bytes, 0 behind their end.
+fn word(bytes: &[u8], i: usize) -> u64 {
+    if bytes.len() / 8 <= i {
+        return 0;
+    }
+    let p = 8 * i;
+    let low = wide(bytes[p])
+        | wide(bytes[p + 1]) << 8
+        | wide(bytes[p + 2]) << 16
+        | wide(bytes[p + 3]) << 24;
+    let high = wide(bytes[p + 4])
+        | wide(bytes[p + 5]) << 8
+        | wide(bytes[p + 6]) << 16
+        | wide(bytes[p + 7]) << 24;
+    low | high << 32
+}
+
+fn number(bytes: &[u8], i: usize) -> usize {
+    word(bytes, i) as usize
+}
+
+// 64 numbers from word `from` on.
+fn numbers(bytes: &[u8], from: usize) -> [usize; 64]
+    requires { ⌜ from ≤ 1000 ⌝ }
+{
+    let mut a = [0usize; 64];
+    let mut i = 0;
+    while i < 64 {
+        a[i] = number(bytes, from + i);
+        i += 1;
+    }
+    a
+}
+
+// 64 sets from word `from` on.
+fn sets(bytes: &[u8], from: usize) -> [u64; 64]
+    requires { ⌜ from ≤ 1000 ⌝ }
+{
+    let mut a = [0u64; 64];
+    let mut i = 0;
+    while i < 64 {
+        a[i] = word(bytes, from + i);
+        i += 1;
+    }
+    a
+}
+
+fn state_of(head: &[u8]) -> State {
+    let route = numbers(head, 6);
+    let stops = number(head, 70);
+    let sets = sets(head, 71);
+    let marks = word(head, 135);
+    let levels = numbers(head, 136);
+    let depth = number(head, 200);
+    let records = number(head, 201);
+    State {
+        route: route,
+        stops: stops,
+        sets: sets,
+        marks: marks,
+        levels: levels,
+        depth: depth,
+        records: records,
+    }
+}
+
+fn case_of(head: &[u8]) -> Case {
+    let bytes = number(head, 0);
+    let words = number(head, 1);
+    let question = number(head, 2);
+    let kind = number(head, 3);
+    let first = number(head, 4);
+    let second = number(head, 5);
+    let state = state_of(head);
+    Case {
+        bytes: bytes,
+        words: words,
+        question: question,
+        kind: kind,
+        first: first,
+        second: second,
+        state: state,
+    }
+}
+
+// Writes the first bytes of the buffer.
+fn write(out: &[u8], used: usize) {
+    if out.len() < used {
+        return;
+    }
+    io::write_all(STDOUT_FILENO, &out[..used]);
+}
+
+// Writes what the buffer holds if little room is left, and answers how much it then holds.
+fn room(out: &[u8], used: usize) -> usize
+    ensures { λ r. ⌜ r ≤ 64000 ⌝ }
+{
+    if used <= 64000 {
+        return used;
+    }
+    write(out, used);
+    0
+}
+
+// One byte, as long as there is room.
+fn put_byte(out: &mut [u8], at: usize, b: u8) -> usize {
+    if at < out.len() {
+        out[at] = b;
+        return at + 1;
+    }
+    at
+}
+
+// A number, and a space behind it.
+fn put(out: &mut [u8], used: usize, v: u64) -> usize {
+    let at = room(out, used);
+    if out.len() < 65536 {
+        return at;
+    }
+    let next = put_number(out, at, v);
+    put_byte(out, next, b' ')
+}
+
+// The line's last space becomes its end.
+fn end_line(out: &mut [u8], used: usize) -> usize {
+    if used == 0 {
+        return 0;
+    }
+    put_byte(out, used - 1, b'\n')
+}
+
+fn put_numbers(out: &mut [u8], used: usize, a: &[usize; 64]) -> usize
+    requires { ⌜ length (now a) ≡ 64 ⌝ }
+{
+    let mut next = used;
+    let mut i = 0;
+    while i < 64 {
+        next = put(out, next, a[i] as u64);
+        i += 1;
+    }
+    next
+}
+
+fn put_words(out: &mut [u8], used: usize, a: &[u64]) -> usize {
+    let mut next = used;
+    let mut i = 0;
+    while i < a.len() {
+        next = put(out, next, a[i]);
+        i += 1;
+    }
+    next
+}
+
+fn put_bytes(out: &mut [u8], used: usize, a: &[u8]) -> usize {
+    let mut next = put(out, used, a.len() as u64);
+    let mut i = 0;
+    while i < a.len() {
+        next = put(out, next, wide(a[i]));
+        i += 1;
+    }
+    next
+}
+
+fn put_state(out: &mut [u8], used: usize, state: State) -> usize {
+    let a = put_numbers(out, used, &state.route);
+    let b = put(out, a, state.stops as u64);
+    let c = put_words(out, b, &state.sets);
+    let d = put(out, c, state.marks);
+    let e = put_numbers(out, d, &state.levels);
+    let f = put(out, e, state.depth as u64);
+    put(out, f, state.records as u64)
+}
+
+fn put_told(out: &mut [u8], used: usize, told: Told) -> usize {
+    let a = put(out, used, told.answer as u64);
+    let b = put(out, a, told.rounds as u64);
+    let c = put(out, b, told.places as u64);
+    let d = put(out, c, told.alive as u64);
+    put_state(out, d, told.state)
+}
+
+fn one_if(b: bool) -> usize {
+    if b { 1 } else { 0 }
+}
+
+// A question about a sheet and a state.
+fn ask(sheet: &[u8], case: Case, trail: &mut [u64]) -> Told {
+    let state = case.state;
+    let question = case.question;
+    match question {
+        0 => {
+            let o = planner::open(sheet);
+            let state = o.state;
+            Told {
+                answer: o.answer,
+                rounds: 0,
+                places: 0,
+                alive: 0,
+                state: state,
+            }
+        },
+        1 => {
+            let s = planner::step(sheet, state, trail, case.kind, case.first, case.second);
+            let state = s.state;
+            Told {
+                answer: s.answer,
+                rounds: s.rounds,
+                places: 0,
+                alive: 0,
+                state: state,
+            }
+        },
+        2 => {
+            let p = planner::open_places(sheet, state);
+            Told {
+                answer: p.answer,
+                rounds: 0,
+                places: p.places,
+                alive: 0,
+                state: state,
+            }
+        },
+        _ => {
+            let v = planner::verdict(sheet, state);
+            Told {
+                answer: v.answer,
+                rounds: 0,
+                places: 0,
+                alive: one_if(v.alive),
+                state: state,
+            }
+        },
+    }
+}
+
+// The line of a case.
+fn answer(sheet: &[u8], case: Case, trail: &mut [u64], out: &mut [u8], used: usize) -> usize {
+    if case.question == 4 {
+        let a = put_bytes(out, used, planner::section(sheet, case.kind));
+        return end_line(out, a);
+    }
+    let told = ask(sheet, case, trail);
+    let a = put_told(out, used, told);
+    let b = put_words(out, a, trail);
+    end_line(out, b)
+}
+
+// The words of the trail out of their bytes.
+fn unpack(trail: &mut [u64], bytes: &[u8]) {
+    let mut i = 0;
+    while i < trail.len() {
+        trail[i] = word(bytes, i);
+        i += 1;
+    }
+}
+
+// How much text the buffer holds, and whether to go on.
+struct Next {
+    used: usize,
+    more: bool,
+}
+
+// The line of a case that cannot be read, and the end.
+fn bad(out: &mut [u8], used: usize) -> Next {
+    let text = b"bad case\n";
+    let mut next = room(out, used);
+    let mut i = 0;
+    while i < 9 {
+        next = put_byte(out, next, text[i]);
+        i += 1;
+    }
+    Next {
+        used: next,
+        more: false,
+    }
+}
+
+// Whether the input has n bytes more, which then stand in front.
+fn fill(buf: &mut [u8], n: usize) -> bool {
+    if buf.len() < n {
+        return false;
+    }
+    io::read_full(STDIN_FILENO, &mut buf[..n]) == n
+}
+
+// The line of a case whose bytes and trail words were read.
+fn line(
+    bytes: &[u8],
+    packed: &[u8],
+    case: Case,
+    trail: &mut [u64],
+    out: &mut [u8],
+    used: usize,
+) -> Next {
+    let b = case.bytes;
+    let t = case.words;
+    if bytes.len() < b {
+        return bad(out, used);
+    }
+    if trail.len() < t {
+        return bad(out, used);
+    }
+    let part: &mut [u64] = &mut trail[..t];
+    unpack(part, packed);
+    let next = answer(&bytes[..b], case, part, out, used);
+    Next {
+        used: next,
+        more: true,
+    }
+}
+
+// The rest of a case: its bytes, its trail words, its line.
+fn rest(case: Case, out: &mut [u8], used: usize) -> Next {
+    let mut bytes = [0u8; SHEET];
+    let mut packed = [0u8; 65536];
+    let mut trail = [0u64; TRAIL];
+    if TRAIL < case.words {
+        return bad(out, used);
+    }
+    if 4 < case.question {
+        return bad(out, used);
+    }
+    if !fill(&mut bytes, case.bytes) {
+        return bad(out, used);
+    }
+    if !fill(&mut packed, 8 * case.words) {
+        return bad(out, used);
+    }
+    line(&bytes, &packed, case, &mut trail, out, used)
+}
+
+// One case.
+fn turn(out: &mut [u8], used: usize) -> Next {
+    let mut head = [0u8; HEAD];
+    let n = io::read_full(STDIN_FILENO, &mut head);
+    if n == 0 {
+        return Next {
+            used: used,
+            more: false,
+        };
+    }
+    if n < HEAD {
+        return bad(out, used);
+    }
+    let case = case_of(&head);
+    rest(case, out, used)
+}
+
+// The turns that are left.
+fn fewer(turns: u64, more: bool) -> u64
+    requires { ⌜ 0 < turns ⌝ }
+    ensures { λ r. ⌜ r < turns ⌝ }
+{
+    if more { turns - 1 } else { 0 }
+}
+
+// Nothing says that an input ends, so the turns are counted down from a number that no run uses up.
+fn run(out: &mut [u8]) {
+    let mut used = 0;
+    let mut turns = u64::MAX;
+    while turns > 0 {
+        let next = turn(out, used);
+        used = next.used;
+        turns = fewer(turns, next.more);
+    }
+    write(out, used);
+}
+
+fn main() {
+    let mut out = [0u8; 65536];
+    run(&mut out);
+}
