@@ -1,0 +1,58 @@
+use Prim.Native.Nat.{ℕ}
+use mathlib.Core.List.{List}
+use mathlib.Core.Path.{_≡_, sym, ap, _∙_}
+use Rattle.day.specs.Refuse.{refusal15, zero14, zero13}
+use Rattle.planner.specs.Face.{openOf}
+use Rattle.planner.specs.declared.Opened.{Opened}
+use borrow.Author.Needs.{needs}
+use Rattle.measure.proofs.list.Statement.{statement}
+use Rattle.measure.proofs.list.Tie as tie
+
+opened : (sheet : List ℕ) {o : Opened} → o ≡ openOf sheet → o .answer ≡ 0 → refusal15 sheet ≡ 0
+unfolding openOf
+opened sheet e z = sym (ap (λ (o : Opened). o .answer) e) ∙ z
+
+open-requires : tie.Need-open-requires
+open-requires c κs = search needs
+
+put-refused-requires : tie.Need-put-refused-requires
+put-refused-requires c κs = search needs
+
+same-length : tie.Need-same-length
+same-length c = search needs
+
+returns : tie.Need-returns
+returns c = search needs
+
+layout-of-requires : tie.Need-layout-of-requires
+layout-of-requires c κs = zero13 _ (zero14 _ (opened _ (c .before .before .«open» .ensures) (c .if1 .left)))
+
+run-requires : tie.Need-run-requires
+run-requires c κs =
+    let l = c .before .before in
+    let e = l .before in
+    let d = e .before .before .before .before .before .before in
+    (zero14 _ (opened _ (e .before .before .«open» .ensures) (e .if1 .left)), l .layout-of .ensures, d .pre)
+
+same-length-2 : tie.Need-same-length-2
+same-length-2 c = search needs
+
+same-length-3 : tie.Need-same-length-3
+same-length-3 c = search needs
+
+returns-2 : tie.Need-returns-2
+returns-2 c = search needs
+
+pub list-spec : {M : Type 1} → statement M
+list-spec =
+    tie.close
+    (tie.spec
+    open-requires
+    put-refused-requires
+    same-length
+    returns
+    layout-of-requires
+    run-requires
+    same-length-2
+    same-length-3
+    returns-2)

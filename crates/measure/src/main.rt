@@ -1,0 +1,293 @@
+// The program `measure`: one of the planner's calls, many times over. What to send it stands at the head of bench/plain.c.
+ghost use mathlib.Core.Path.{_≡_};
+ghost use Prim.Native.Nat.{_≤_, _<_};
+ghost use lib.ListN.{length};
+ghost use Rattle.sheet.specs.Place.{Laid};
+ghost use Rattle.day.specs.Refuse.{refusal14};
+use board::State;
+use dock::put_line;
+use dock::step_at;
+use libc::STDIN_FILENO;
+use libc::STDOUT_FILENO;
+use listing::put_number;
+use listing::put_refused;
+use listing::put_route;
+use planner::Stepped;
+use planner::known::places_of;
+use sheet::Layout;
+use std::num::wrapping_add_u64;
+
+fn wide(b: u8) -> u64 {
+    b as u64
+}
+
+// The number of a text's bytes and their sum.
+fn weigh(text: &[u8]) -> u64 {
+    let mut sum = text.len() as u64;
+    let mut i = 0;
+    while i < text.len() {
+        sum = wrapping_add_u64(sum, wide(text[i]));
+        i += 1;
+    }
+    sum
+}
+
+// A line's text must find room: a text that long does not come.
+fn room(used: usize) -> usize
+    ensures { λ r. ⌜ r ≤ 230000 ⌝ }
+{
+    if used <= 230000 { used } else { 0 }
+}
+
+// The lines of the steps and the route, into memory.
+fn run(sheet: &[u8], at: Layout, fresh: State, trail: &mut [u64], out: &mut [u8]) -> usize
+    requires { ⌜ (refusal14 (now sheet) ≡ 0) × Laid (now sheet) at × (length (now out) ≡ 240000) ⌝ }
+{
+    let mut state = fresh;
+    let mut used = 0;
+    let mut i = 0;
+    while i < at.steps {
+        let s = step_at(sheet, at, i, state, trail);
+        used = put_line(sheet, at, i, s, out, used);
+        used = room(used);
+        state = s.state;
+        i += 1;
+    }
+    end(state, out, used)
+}
+
+fn end(state: State, out: &mut [u8], used: usize) -> usize
+    requires { ⌜ (used ≤ 230000) × (length (now out) ≡ 240000) ⌝ }
+{
+    if State::NODES < state.stops {
+        return used;
+    }
+    put_route(out, used, &state.route, state.stops)
+}
+
+fn list(sheet: &[u8], trail: &mut [u64], out: &mut [u8]) -> usize
+    requires { ⌜ length (now out) ≡ 240000 ⌝ }
+{
+    let opened = planner::open(sheet);
+    if opened.answer != 0 {
+        return put_refused(out, 0, opened.answer as u64);
+    }
+    let at = sheet::layout_of(sheet);
+    run(sheet, at, opened.state, trail, out)
+}
+
+fn weigh_first(out: &[u8], used: usize) -> u64 {
+    if out.len() < used {
+        return 0;
+    }
+    weigh(&out[..used])
+}
+
+// Operation 7: the listing, weighed.
+fn listing_of(sheet: &[u8], trail: &mut [u64], out: &mut [u8]) -> u64
+    requires { ⌜ length (now out) ≡ 240000 ⌝ }
+{
+    let used = list(sheet, trail, out);
+    weigh_first(out, used)
+}
+
+fn sum_of(s: Stepped) -> u64 {
+    let state = s.state;
+    let records = state.records as u64;
+    let a = wrapping_add_u64(s.answer as u64, s.rounds as u64);
+    let b = wrapping_add_u64(a, records);
+    let places = places_of(state);
+    wrapping_add_u64(b, places as u64)
+}
+
+fn one_if(b: bool) -> u64 {
+    if b { 1 } else { 0 }
+}
+
+// Operations 1 to 6 and 8, once.
+fn ask(operation: usize, sheet: &[u8], state: State, trail: &mut [u64], half: usize) -> u64
+    requires { ⌜ 2 ≤ half ⌝ }
+{
+    match operation {
+        1 => {
+            let o = planner::open(sheet);
+            let opened = o.state;
+            wrapping_add_u64(o.answer as u64, opened.stops as u64)
+        },
+        2 => sum_of(planner::step(sheet, state, trail, 1, half - 2, half - 1)),
+        6 => {
+            let v = planner::verdict(sheet, state);
+            wrapping_add_u64(v.answer as u64, one_if(v.alive))
+        },
+        8 => {
+            let p = planner::open_places(sheet, state);
+            wrapping_add_u64(p.answer as u64, p.places as u64)
+        },
+        _ => sum_of(planner::step(sheet, state, trail, 5, 0, 0)),
+    }
+}
+
+// The state with the stops 0, 1, 2, .. in order, `stops` in all with the end.
+fn build(sheet: &[u8], fresh: State, trail: &mut [u64], stops: usize) -> State {
+    let mut state = fresh;
+    let mut x = 1;
+    while x < stops {
+        let s = planner::step(sheet, state, trail, 1, x - 1, x);
+        state = s.state;
+        x += 1;
+    }
+    state
+}
+
+fn set_byte(sheet: &mut [u8], at: usize, b: u8) {
+    if at < sheet.len() {
+        sheet[at] = b;
+    }
+}
+
+// A number below 1,000 into the low half of the word at a place of the sheet.
+fn mark(sheet: &mut [u8], spot: usize, v: usize)
+    requires { ⌜ (spot ≤ 300000) × (v < 1000) ⌝ }
+{
+    set_byte(sheet, spot, (v % 256) as u8);
+    set_byte(sheet, spot + 1, (v / 256) as u8);
+}
+
+// Where seconds(0, 0) stands: the word after the count of section 4.
+fn diagonal(sheet: &[u8]) -> usize
+    ensures { λ r. ⌜ r ≤ 300000 ⌝ }
+{
+    let a = planner::section(sheet, 2);
+    let b = planner::section(sheet, 3);
+    if 100000 < a.len() {
+        return 0;
+    }
+    if 100000 < b.len() {
+        return 0;
+    }
+    24 + a.len() + b.len()
+}
+
+// The sum over all times.
+fn repeat(
+    operation: usize,
+    count: usize,
+    sheet: &mut [u8],
+    state: State,
+    half: usize,
+    trail: &mut [u64],
+    out: &mut [u8],
+) -> u64
+    requires { ⌜ (2 ≤ half) × (length (now out) ≡ 240000) ⌝ }
+{
+    let spot = diagonal(sheet);
+    let mut sum: u64 = 0;
+    let mut i = 0;
+    while i < count {
+        mark(sheet, spot, i % 1000);
+        sum = wrapping_add_u64(sum, once(operation, sheet, state, half, trail, out));
+        i += 1;
+    }
+    sum
+}
+
+fn once(
+    operation: usize,
+    sheet: &[u8],
+    state: State,
+    half: usize,
+    trail: &mut [u64],
+    out: &mut [u8],
+) -> u64
+    requires { ⌜ (2 ≤ half) × (length (now out) ≡ 240000) ⌝ }
+{
+    if operation == 7 {
+        return listing_of(sheet, trail, out);
+    }
+    ask(operation, sheet, state, trail, half)
+}
+
+// Where the word of eight bytes at a place is a number below 2^32, that number.
+fn number(bytes: &[u8], at: usize) -> usize
+    requires { ⌜ at ≤ 8 ⌝ }
+{
+    if bytes.len() < 16 {
+        return 0;
+    }
+    sheet::word(bytes, at / 4) as usize
+}
+
+// How many stops the state of an operation has, the end counted.
+fn stops_of(operation: usize, n: usize) -> usize {
+    match operation {
+        5 => n,
+        2 | 4 | 6 | 8 => n / 2,
+        _ => 0,
+    }
+}
+
+// The state that an operation starts from, made with one stop fewer to place than it has.
+fn start(operation: usize, sheet: &[u8], trail: &mut [u64], n: usize) -> State {
+    let opened = planner::open(sheet);
+    let fresh = opened.state;
+    let stops = stops_of(operation, n);
+    if stops < 2 {
+        return fresh;
+    }
+    build(sheet, fresh, trail, stops - 1)
+}
+
+fn write(out: &[u8], used: usize) {
+    if out.len() < used {
+        return;
+    }
+    io::write_all(STDOUT_FILENO, &out[..used]);
+}
+
+// The one line: `result` and the sum.
+fn tell(sum: u64) {
+    let mut line = [0u8; 32];
+    let used = put_number(&mut line, 0, sum);
+    io::write_all(STDOUT_FILENO, b"result ");
+    write(&line, used);
+    io::write_all(STDOUT_FILENO, b"\n");
+}
+
+// Half of the nodes, and at least the two ends.
+fn half_of(n: usize) -> usize
+    ensures { λ r. ⌜ 2 ≤ r ⌝ }
+{
+    if n < 4 { 2 } else { n / 2 }
+}
+
+// One operation on a sheet; the listing alone for operation 0.
+fn measure(operation: usize, count: usize, sheet: &mut [u8]) {
+    let mut trail = [0u64; 7936];
+    let mut out = [0u8; 240000];
+    if operation == 0 {
+        let used = list(sheet, &mut trail, &mut out);
+        write(&out, used);
+        return;
+    }
+    let n = planner::section(sheet, 2).len() / 12;
+    if 8 < operation {
+        io::write_all(STDOUT_FILENO, b"cannot\n");
+        return;
+    }
+    let state = start(operation, sheet, &mut trail, n);
+    let half = half_of(n);
+    let sum = repeat(operation, count, sheet, state, half, &mut trail, &mut out);
+    tell(sum);
+}
+
+fn main() {
+    let mut input = [0u8; 61460];
+    let n = io::read_full(STDIN_FILENO, &mut input);
+    if n < 16 {
+        io::write_all(STDOUT_FILENO, b"cannot\n");
+        return;
+    }
+    let operation = number(&input, 0);
+    let count = number(&input, 8);
+    measure(operation, count, &mut input[16..n]);
+}
