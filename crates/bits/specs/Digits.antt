@@ -3,7 +3,7 @@ use mathlib.Core.Path.{_≡_, refl, ap, sym, _∙_, subst}
 use Prim.Native.Nat.{ℕ, zero, suc, _+_, _-_, _*_, _/_, _%_, _^_, _≤_, _<_}
 use native.Mathlib.Nat.{pow-succ', div-div-eq-div-mul, div-one, div-eq-of-lt, zero-div}
 use native.Mathlib.Omega.{arith}
-use lib.Pow.{pow-mono}
+use lib.Pow.{pow-mono, shr-shr}
 use Rattle.bits.specs.Places.{digit}
 
 -- ---- from the lowest
@@ -15,6 +15,11 @@ digit-zero w = ap (λ (x : ℕ). x % 2) (div-one w)
 pub digit-suc : (w p : ℕ) → digit w (suc p) ≡ digit (w / 2) p
 unfolding digit
 digit-suc w p = ap (λ (x : ℕ). w / x % 2) (pow-succ' 2 p) ∙ ap (λ (x : ℕ). x % 2) (sym (div-div-eq-div-mul w 2 (2 ^ p)))
+
+-- a shift moves each digit down
+pub digit-shr : (w p i : ℕ) → digit (w / 2 ^ p) i ≡ digit w (p + i)
+unfolding digit
+digit-shr w p i = ap (λ (x : ℕ). x % 2) (shr-shr w p i)
 
 pub digit-lt : (w p : ℕ) → digit w p < 2
 unfolding digit

@@ -6,14 +6,14 @@ use native.Mathlib.Nat.{pow-succ', mod-eq-of-lt, zero-add}
 use native.Mathlib.Numerals.{one-add}
 use native.Mathlib.Omega.{arith}
 use lib.Pow.{pow-lt}
-use lib.Bits.{bitAnd, bitOr, and-step, and-shr, and-high, and-lt, and-self, or-add-and}
+use lib.Bits.{bitAnd, bitOr, and-step, and-shr, and-high, and-lt, and-self, and-mask, and-le-r, or-zero-l, or-add-and}
 use lib.Count.{trailingZeros}
 use lib.Dec.{eqb}
 use borrow.Author.Tests.{eqb-true, eqb-false, eq-eqb, ne-eqb}
 use Rattle.laws.specs.Logic.{decided}
 use Rattle.bits.specs.Places.{digit, has, with, without, minus, within, lowest}
 use Rattle.bits.specs.Digits.{digit-zero, digit-suc, digit-none, add-same, add-other}
-use Rattle.bits.specs.Members.{digit-has, digit-not, has-digit, not-digit, has-same, has-ext, false-true, with-yes, with-no, without-yes, without-same, without-other, without-fits, within-has, within-make}
+use Rattle.bits.specs.Members.{digit-has, digit-not, has-digit, not-digit, has-same, has-none, has-ext, false-true, with-yes, with-no, without-yes, without-same, without-other, without-fits, within-has, within-make, within-misses}
 
 -- 1 << p is 2 ^ p
 pub shl-one : (p : ℕ) → p < 64 → (1 * 2 ^ p) % 2 ^ 64 ≡ 2 ^ p
@@ -40,6 +40,13 @@ with-mask w p l =
     (λ h. let s' : bitOr w (2 ^ p) + 0 * 2 ^ p ≡ w + 2 ^ p = rw (digit-not w p h) at s in
     let g : bitOr w (2 ^ p) ≡ w + 2 ^ p = omega (arith, s') in
     g ∙ sym (with-no w p l h))
+
+-- two words or-ed are 0 exactly if both are
+pub or-none : (a b : ℕ) → eqb (bitOr a b) 0 ≡ eqb a 0 && eqb b 0
+or-none a b =
+    decided (eqb a 0)
+    (λ h. rw h (ap (λ (x : ℕ). eqb (bitOr x b) 0) (eqb-true a 0 h) ∙ ap (λ (x : ℕ). eqb x 0) (or-zero-l b)))
+    (λ h. let n : a ≡ 0 → ⊥ = eqb-false a 0 h in rw h (ne-eqb (bitOr a b) 0 (λ e. n (omega (arith, e, or-add-and a b, and-le-r a b)))))
 
 -- ---- and, digit by digit
 
@@ -100,6 +107,25 @@ has-minus a b p f l =
 pub minus-fits : (a b : ℕ) → a < 2 ^ 64 → minus a b < 2 ^ 64
 unfolding minus
 minus-fits a b f = and-lt 64 a (2 ^ 64 - 1 - b) f (omega arith)
+
+-- nothing taken away
+pub minus-zero : (a : ℕ) → a < 2 ^ 64 → minus a 0 ≡ a
+unfolding minus
+minus-zero a f = and-mask a 64 ∙ mod-eq-of-lt f
+
+-- nothing is left exactly if all of a is within b
+pub minus-none : (a b : ℕ) → a < 2 ^ 64 → b < 2 ^ 64 → eqb (minus a b) 0 ≡ within a b
+minus-none a b f g =
+    decided (within a b)
+    (λ w. eq-eqb (minus a b) 0 (has-ext (minus a b) 0 (minus-fits a b f) (omega arith) (λ p l.
+    has-minus a b p g l ∙ gone (has a p) (has b p) (within-has a b w p l) ∙ sym (has-none p))) ∙ sym w)
+    (λ w. let r = within-misses a b w in
+    let h : has (minus a b) (r .0) ≡ true = has-minus a b (r .0) g (r .1) ∙ rw (r .2, r .3) refl in
+    ne-eqb (minus a b) 0 (λ e. false-true (sym (has-none (r .0)) ∙ rw e at h)) ∙ sym w)
+  where
+    gone : (x y : Bool) → (x ≡ true → y ≡ true) → x && not y ≡ false
+    gone true y h = rw (h refl) refl
+    gone false y h = refl
 
 one-same : (p : ℕ) → has (2 ^ p) p ≡ true
 one-same p = has-digit (2 ^ p) p (ap (λ (x : ℕ). digit x p) (sym (zero-add (2 ^ p))) ∙ add-same p 0 (digit-none p))

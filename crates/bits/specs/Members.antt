@@ -1,14 +1,15 @@
 -- The laws of sets by their members.
 use mathlib.Core.Path.{_≡_, refl, ap, sym, _∙_}
 use mathlib.Core.Bool.{Bool, true, false, not, _||_}
-use Prim.Native.Nat.{ℕ, zero, suc, _+_, _-_, _^_, _≤_, _<_}
+use Prim.Native.Nat.{ℕ, zero, suc, _+_, _-_, _/_, _^_, _≤_, _<_}
 use native.Mathlib.Omega.{arith}
+use lib.Pow.{shr-le}
 use lib.Dec.{eqb, ltb, eqb·suc-zero}
 use borrow.Author.Tests.{eqb-true, eqb-false, eq-eqb, ne-eqb, ltb-true, ltb-false, lt-ltb, le-ltb}
 use Rattle.laws.specs.Logic.{decided, true→T, T→true, imp-i, imp-e}
 use Rattle.laws.specs.Below.{below-at, below-make, below-find}
 use Rattle.bits.specs.Places.{digit, has, with, without, within}
-use Rattle.bits.specs.Digits.{digit-zero, digit-suc, digit-lt, digit-high, digit-none, digits-ext, add-same, add-other, sub-same, sub-other, add-fits}
+use Rattle.bits.specs.Digits.{digit-zero, digit-suc, digit-shr, digit-lt, digit-high, digit-none, digits-ext, add-same, add-other, sub-same, sub-other, add-fits}
 
 -- ---- a member by its digit
 
@@ -56,6 +57,20 @@ has-high w p h l = not-digit w p (digit-high 64 w p h l)
 
 pub has-low : (w p : ℕ) → w < 2 ^ 64 → has w p ≡ true → p < 64
 has-low w p f h = decided (ltb p 64) (λ l. ltb-true p 64 l) (λ l. absurd (false-true (sym (has-high w p f (ltb-false p 64 l)) ∙ h)))
+
+-- a word has no member from p on exactly if it is 0 shifted by p
+pub shr-none : (w p i : ℕ) → w / 2 ^ p ≡ 0 → p ≤ i → has w i ≡ false
+shr-none w p i e l =
+    let d : p + (i - p) ≡ i = omega arith in
+    not-digit w i (ap (digit w) (sym d) ∙ sym (digit-shr w p (i - p)) ∙ ap (λ (x : ℕ). digit x (i - p)) e ∙ digit-none (i - p))
+
+pub none-shr : (w p : ℕ) → w < 2 ^ 64 → ((i : ℕ) → p ≤ i → i < 64 → has w i ≡ false) → w / 2 ^ p ≡ 0
+none-shr w p f h =
+    digits-ext 64 (w / 2 ^ p) 0 (omega (arith, shr-le w p)) (omega arith) (λ i l.
+    digit-shr w p i
+    ∙ decided (ltb (p + i) 64) (λ e. digit-not w (p + i) (h (p + i) (omega arith) (ltb-true (p + i) 64 e)))
+    (λ e. digit-high 64 w (p + i) f (ltb-false (p + i) 64 e))
+    ∙ sym (digit-none i))
 
 -- two words with the same members are one
 pub has-ext : (w v : ℕ) → w < 2 ^ 64 → v < 2 ^ 64 → ((p : ℕ) → p < 64 → has w p ≡ has v p) → w ≡ v

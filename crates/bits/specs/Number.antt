@@ -6,9 +6,9 @@ use native.Mathlib.Nat.{mod-lt, mod-eq-of-lt}
 use native.Mathlib.Numerals.{one-add}
 use native.Mathlib.Omega.{arith}
 use lib.Pow.{pow-pos, mod-pow-add}
-use lib.Count.{ones, ones-cat}
+use lib.Count.{ones, onesIn, ones-cat}
 use lib.Dec.{eqb}
-use borrow.Author.Tests.{eqb-true, eqb-false}
+use borrow.Author.Tests.{eqb-true, eqb-false, ne-eqb}
 use Rattle.laws.specs.Logic.{decided}
 use Rattle.laws.specs.Sum.{sumBelow, sum-same, sum-lt}
 use Rattle.bits.specs.Places.{digit, has, with, within}
@@ -36,6 +36,18 @@ ones-mod (suc k) w =
 -- the count of ones is the number of members
 pub ones-members : (w : ℕ) → w < 2 ^ 64 → ones w ≡ members 64 w
 ones-members w h = ap ones (sym (mod-eq-of-lt h)) ∙ ones-mod 64 w
+
+-- there are no ones in 0 alone
+few-in : (d n : ℕ) → n ≤ d → onesIn d n ≡ 0 → n ≡ 0
+unfolding onesIn
+few-in zero n h e = omega arith
+few-in (suc d) n h e = omega (arith, few-in d (n / 2) (omega arith) (omega (arith, e)))
+
+pub ones-none : (n : ℕ) → eqb (ones n) 0 ≡ eqb n 0
+unfolding ones
+ones-none n = decided (eqb n 0)
+    (λ e. let z = eqb-true n 0 e in rw z)
+    (λ e. ne-eqb (onesIn n n) 0 (λ z. eqb-false n 0 e (few-in n n (omega arith) z)) ∙ sym e)
 
 pub members-none : (k : ℕ) → members k 0 ≡ 0
 unfolding members sumBelow

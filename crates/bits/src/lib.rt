@@ -8,21 +8,45 @@ ghost use Rattle.bits.specs.Places.{has, with, without, minus, within, l
 pub fn has(w: u64, p: usize) -> bool
     ensures { λ r. ⌜ r ≡ has w p ⌝ }
 {
-    if p < 64 { (w >> p) % 2 == 1 } else { false }
+    if p < 64 { holds(w, p) } else { false }
+}
+
+// The same, of a place that is known to be one: no test.
+pub fn holds(w: u64, p: usize) -> bool
+    requires { ⌜ p < 64 ⌝ }
+    ensures { λ r. ⌜ r ≡ has w p ⌝ }
+{
+    (w >> p) % 2 == 1
 }
 
 // w with p as a member too.
 pub fn with(w: u64, p: usize) -> u64
     ensures { λ r. ⌜ r ≡ with w p ⌝ }
 {
-    if p < 64 { w | (1u64 << p) } else { w }
+    if p < 64 { put(w, p) } else { w }
+}
+
+// The same, of a place that is known to be one.
+pub fn put(w: u64, p: usize) -> u64
+    requires { ⌜ p < 64 ⌝ }
+    ensures { λ r. ⌜ r ≡ with w p ⌝ }
+{
+    w | (1u64 << p)
 }
 
 // w without p.
 pub fn without(w: u64, p: usize) -> u64
     ensures { λ r. ⌜ r ≡ without w p ⌝ }
 {
-    if p < 64 { w & !(1u64 << p) } else { w }
+    if p < 64 { take(w, p) } else { w }
+}
+
+// The same, of a place that is known to be one.
+pub fn take(w: u64, p: usize) -> u64
+    requires { ⌜ p < 64 ⌝ }
+    ensures { λ r. ⌜ r ≡ without w p ⌝ }
+{
+    w & !(1u64 << p)
 }
 
 // The members of a that are none of b.

@@ -1,19 +1,17 @@
 use mathlib.Core.Path.{sym}
-use Rattle.bits.specs.Places.{has, digit}
 use Rattle.bits.specs.Members.{has-high}
 use borrow.Author.Needs.{needs}
 use Rattle.bits.proofs.has.Statement.{statement}
 use Rattle.bits.proofs.has.Tie as tie
 
-shr-result : tie.Need-shr-result
-shr-result c = search needs
+holds-requires : tie.Need-holds-requires
+holds-requires c κs = search needs
 
 returns : tie.Need-returns
-unfolding has digit
 returns c = search needs
 
 returns-2 : tie.Need-returns-2
 returns-2 c = sym (has-high _ _ (c .before .fits .w .fits) (c .if1 .left))
 
 pub has-spec : {M : Type 1} → statement M
-has-spec = tie.close (tie.spec shr-result returns returns-2)
+has-spec = tie.close (tie.spec holds-requires returns returns-2)
