@@ -1,4 +1,4 @@
--- One row of a table held as numbers, with 0 at the diagonal. That makes the triangle rule hold by itself wherever two of i, j, k are one, so
+-- One row of a table held as signed numbers, with 0 at the diagonal. That makes the triangle rule hold by itself wherever two of i, j, k are one, so
 -- the code tests every j and k alike.
 use Prim.Native.Nat.{ℕ, _+_, _*_, _<_, _≤_}
 use mathlib.Core.Path.{_≡_, refl, sym, ap, _∙_}
@@ -9,6 +9,8 @@ use native.Mathlib.Nat.{suc-mul, mul-le-mul-right, add-assoc}
 use lib.ListN.{getD, set, length-set}
 use lib.Seq.{getD-set-same, getD-set-other}
 use lib.Dec.{leb, eqb}
+use lib.IntN.{ℤ, pos, _+ℤ_}
+use lib.Signed.{mag, leZ}
 use borrow.Author.Tests.{eqb-true, eqb-false, eq-eqb, ne-eqb, le-leb, leb-true}
 use Rattle.laws.specs.Logic.{decided}
 use Rattle.laws.specs.Below.{allBelow, below-at, below-make, below-same}
@@ -18,21 +20,22 @@ use Rattle.sheet.specs.Rule.{entryOk}
 use Rattle.day.specs.Tables.{cell, shortest, shortestLine}
 
 -- entry k of row i, whose entries begin at word `at`
-abbrev pub rowAt : List ℕ → ℕ → ℕ → ℕ → ℕ
-rowAt s at i k = cond (eqb k i) 0 (wordAt s (at + k))
+abbrev pub rowAt : List ℕ → ℕ → ℕ → ℕ → ℤ
+rowAt s at i k = pos (cond (eqb k i) 0 (wordAt s (at + k)))
 
 -- the numbers of a row, then 0 at the diagonal
-pub row-clear : (s : List ℕ) (at i : ℕ) {n k : ℕ} {l : List ℕ} → i < 64 → n ≤ k → Filled 64 (λ q. wordAt s (at + q)) 0 k l → Filled 64 (rowAt s at i) 0 n (set l i 0)
+pub row-clear : (s : List ℕ) (at i : ℕ) {n k : ℕ} {l : List ℤ} → i < 64 → n ≤ k → Filled 64 (λ q. pos (wordAt s (at + q))) (pos 0) k l
+    → Filled 64 (rowAt s at i) (pos 0) n (set l i (pos 0))
 row-clear s at i {n} {k} {l} h m p = record {
-  long = length-set l i 0 ∙ p .long;
+  long = length-set l i (pos 0) ∙ p .long;
   at = λ q b. decided (eqb q i)
-      (λ e. let z = eqb-true q i e in rw (e, z) (getD-set-same l i 0 0 (rw (p .long) h)))
-      (λ e. let z = eqb-false q i e in rw e (getD-set-other l i q 0 0 z ∙ p .at q (omega arith)));
+      (λ e. let z = eqb-true q i e in rw (e, z) (getD-set-same l i (pos 0) (pos 0) (rw (p .long) h)))
+      (λ e. let z = eqb-false q i e in rw e (getD-set-other l i q (pos 0) (pos 0) z ∙ p .at q (omega arith)));
 }
 
 -- what the code asks of a line: row k against its j-th entry and the j-th row's entry k
-abbrev pub lineOk : List ℕ → List ℕ → ℕ → ℕ → ℕ → Bool
-lineOk s row first at k = leb (getD row k 0) (first + wordAt s (at + k))
+abbrev pub lineOk : List ℕ → List ℤ → ℤ → ℕ → ℕ → Bool
+lineOk s row first at k = leZ (getD row k (pos 0)) (first +ℤ pos (wordAt s (at + k)))
 
 -- a table of n rows whose entries begin at word `from` lies in the sheet, and each entry is in range
 pub record Table (s : List ℕ) (from n : ℕ) : Type 0 where
@@ -53,10 +56,12 @@ row-low s from n i e h =
 pub entry-low : (s : List ℕ) (at n k : ℕ) → allBelow n (entryOk s at) ≡ true → k < n → wordAt s (at + k) ≤ 1000000
 entry-low s at n k e h = leb-true _ _ (below-at n k (entryOk s at) e h)
 
-pub first-low : (s : List ℕ) (at n i j : ℕ) (row : List ℕ) → allBelow n (entryOk s at) ≡ true → Filled 64 (rowAt s at i) 0 n row → j < n → getD row j 0 ≤ 1000000
-first-low s at n i j row e p h =
-    rw (p .at j h)
-    (decided {P = rowAt s at i j ≤ 1000000} (eqb j i) (λ z. rw z (omega arith)) (λ z. rw z (entry-low s at n j e h)))
+-- and so is each of a row that was read
+pub first-low : (s : List ℕ) (at n i j : ℕ) (row : List ℤ) {first : ℤ} → allBelow n (entryOk s at) ≡ true → Filled 64 (rowAt s at i) (pos 0) n row → j < n
+    → first ≡ getD row j (pos 0) → mag first ≤ 1000000
+first-low s at n i j row e p h q =
+    rw (q, p .at j h)
+    (decided {P = mag (rowAt s at i j) ≤ 1000000} (eqb j i) (λ z. rw z (omega arith)) (λ z. rw z (entry-low s at n j e h)))
 
 -- with 0 at the diagonal, the bare test is the rule
 spared : (t : ℕ → ℕ → ℕ) (i j k : ℕ) → leb (cond (eqb k i) 0 (t i k)) (cond (eqb j i) 0 (t i j) + t j k) ≡ shortest t i j k
@@ -76,9 +81,9 @@ spared t i j k =
     third false false c = refl
 
 -- the code's line against row j is the rule's
-pub line-is : (s : List ℕ) (from n i j : ℕ) (row : List ℕ) → Filled 64 (rowAt s (from + i * n) i) 0 n row → j < n
-    → allBelow n (lineOk s row (getD row j 0) (from + j * n)) ≡ shortestLine n (cell s from n) i j
+pub line-is : (s : List ℕ) (from n i j : ℕ) (row : List ℤ) {first : ℤ} → Filled 64 (rowAt s (from + i * n) i) (pos 0) n row → j < n
+    → first ≡ getD row j (pos 0) → allBelow n (lineOk s row first (from + j * n)) ≡ shortestLine n (cell s from n) i j
 unfolding shortestLine cell
-line-is s from n i j row p h =
-    below-same n (lineOk s row (getD row j 0) (from + j * n)) (shortest (cell s from n) i j)
-    (λ k l. rw (p .at k l, p .at j h) (spared (cell s from n) i j k))
+line-is s from n i j row {first} p h q =
+    below-same n (lineOk s row first (from + j * n)) (shortest (cell s from n) i j)
+    (λ k l. rw (q, p .at k l, p .at j h) (spared (cell s from n) i j k))

@@ -3,6 +3,8 @@ ghost use mathlib.Core.Path.{_≡_};
 ghost use mathlib.Core.Bool.{true};
 ghost use Prim.Native.Nat.{_+_, _*_, _<_, _≤_};
 ghost use lib.ListN.{length};
+ghost use lib.IntN.{pos};
+ghost use lib.Signed.{mag};
 ghost use Rattle.laws.specs.Below.{allBelow};
 ghost use Rattle.laws.specs.Table.{Filled};
 ghost use Rattle.sheet.specs.Word.{words};
@@ -12,24 +14,23 @@ ghost use Rattle.day.specs.Row.{rowAt, lineOk, Table};
 use sheet::word;
 
 // Row i of a table as numbers, with 0 at the diagonal: n entries from word `at` on.
-fn row_of(s: &[u8], at: usize, n: usize, i: usize) -> [u32; 64]
-    requires { ⌜ (n ≤ 64) × (i < n) × (at + n ≤ words (now s)) ⌝ }
-    ensures { λ r. ⌜ Filled 64 (rowAt (now (s .entry)) at i) 0 n r ⌝ }
+fn read_row(s: &[u8], at: usize, n: usize, i: usize, row: &mut [i32; 64])
+    requires { ⌜ (n ≤ 64) × (i < n) × (at + n ≤ words (now s)) × (length (now row) ≡ 64) ⌝ }
+    requires { ⌜ allBelow n (entryOk (now s) at) ≡ true ⌝ }
+    ensures { λ _. ⌜ Filled 64 (rowAt (now (s .entry)) at i) (pos 0) n (now (row .exit)) ⌝ }
 {
-    let mut row = [0u32; 64];
     let mut k = 0;
     while k < n {
-        row[k] = word(s, at + k);
+        row[k] = word(s, at + k) as i32;
         k += 1;
     }
     row[i] = 0;
-    row
 }
 
 // Every entry of the row against `first` and the entry of another row, whose entries begin at word `at`: a flag and no exit inside. The
-// test tells the compiler that the row lies in the sheet, so the loop becomes vector code.
-fn line_ok(s: &[u8], at: usize, n: usize, row: &[u32; 64], first: u32) -> bool
-    requires { ⌜ (n ≤ 64) × (length (now row) ≡ 64) × (first ≤ 1000000) × (at + n ≤ words (now s)) ⌝ }
+// test tells the compiler that the row lies in the sheet, so the loop becomes vector code, and signed numbers are compared in one step there.
+fn line_ok(s: &[u8], at: usize, n: usize, row: &[i32; 64], first: i32) -> bool
+    requires { ⌜ (n ≤ 64) × (length (now row) ≡ 64) × (mag first ≤ 1000000) × (at + n ≤ words (now s)) ⌝ }
     requires { ⌜ allBelow n (entryOk (now s) at) ≡ true ⌝ }
     ensures { λ r. ⌜ r ≡ allBelow n (lineOk (now (s .entry)) (now (row .entry)) first at) ⌝ }
 {
@@ -39,7 +40,7 @@ fn line_ok(s: &[u8], at: usize, n: usize, row: &[u32; 64], first: u32) -> bool
     let mut ok = true;
     let mut k = 0;
     while k < n {
-        let far = word(s, at + k);
+        let far = word(s, at + k) as i32;
         ok = ok & (row[k] <= first + far);
         k += 1;
     }
@@ -50,16 +51,17 @@ fn row_ok(s: &[u8], from: usize, n: usize, i: usize) -> bool
     requires { ⌜ Table (now s) from n × (i < n) ⌝ }
     ensures { λ r. ⌜ r ≡ shortestRow n (cell (now (s .entry)) from n) i ⌝ }
 {
-    let row = row_of(s, from + i * n, n, i);
+    let mut row = [0i32; 64];
+    read_row(s, from + i * n, n, i, &mut row);
+    let mut ok = true;
     let mut j = 0;
     while j < n {
         let first = row[j];
-        if !line_ok(s, from + j * n, n, &row, first) {
-            return false;
-        }
+        let line = line_ok(s, from + j * n, n, &row, first);
+        ok = ok & line;
         j += 1;
     }
-    true
+    ok
 }
 
 // Refusal 5's test of a table of n rows whose entries begin at word `from`.

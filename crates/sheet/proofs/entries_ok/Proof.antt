@@ -1,17 +1,21 @@
 use borrow.Author.Needs.{needs}
-use Rattle.laws.specs.Below.{allBelow, below-none, flag-goes, flag-done}
-use Rattle.sheet.specs.Rule.{entryOk}
-use mathlib.Core.Path.{_≡_}
+use borrow.Author.Tests.{le-leb}
+use mathlib.Core.Path.{sym}
+use native.Mathlib.Nat.{not-suc-le-zero}
 use native.Mathlib.Omega.{arith}
-use Prim.Native.Nat.{_≤_, _-_}
+use Prim.Native.Nat.{ℕ, _+_, _-_, _<_, _≤_}
+use Rattle.laws.specs.Below.{below-make}
+use Rattle.laws.specs.Or.{or-goes}
+use Rattle.sheet.specs.Word.{wordAt}
+use Rattle.sheet.specs.Rule.{entryOk}
 use Rattle.sheet.proofs.entries_ok.Statement.{statement}
 use Rattle.sheet.proofs.entries_ok.Tie as tie
 
 abbrev Inv-loop : tie.InvT-loop
-Inv-loop s from m i₀ ok₀ i ok = (i ≤ m) × (allBelow i (entryOk s from) ≡ ok)
+Inv-loop s from m all₀ i₀ all i = (i ≤ m) × ((k : ℕ) → k < i → wordAt s (from + k) ≤ all)
 
 abbrev μ-loop : tie.MeasureT-loop
-μ-loop s from m i₀ ok₀ i ok = m - i
+μ-loop s from m all₀ i₀ all i = m - i
 
 add-if1 : tie.Need-add-if1 Inv-loop μ-loop
 add-if1 c = search needs
@@ -20,10 +24,13 @@ returns : tie.Need-returns Inv-loop μ-loop
 returns c = absurd (omega arith)
 
 loop-holds : tie.Need-loop-holds Inv-loop μ-loop
-loop-holds c = (search needs, below-none _)
+loop-holds c = (search needs, λ k h. absurd (not-suc-le-zero h))
 
-entry-ok-requires : tie.Need-entry-ok-requires Inv-loop μ-loop
-entry-ok-requires c κs = search needs
+add-word : tie.Need-add-word Inv-loop μ-loop
+add-word c = search needs
+
+word-requires : tie.Need-word-requires Inv-loop μ-loop
+word-requires c κs = search needs
 
 add-i : tie.Need-add-i Inv-loop μ-loop
 add-i c = search needs
@@ -32,10 +39,19 @@ loop-less : tie.Need-loop-less Inv-loop μ-loop
 loop-less c = search needs
 
 loop-again : tie.Need-loop-again Inv-loop μ-loop
-loop-again c = (omega arith, flag-goes _ _ (c .before .before .loop .inv .1) (c .entry-ok .ensures))
+loop-again c = (omega arith, or-goes _ _ _ (c .before .before .loop .inv .1) (c .word .ensures .is))
 
 returns-2 : tie.Need-returns-2 Inv-loop μ-loop
-returns-2 c = flag-done _ _ _ (c .before .loop .inv .0) (c .loop-test .left) (c .before .loop .inv .1)
+returns-2 c =
+    let a = c .before .before .before .before .before .args in
+    sym (below-make (a .m) (entryOk (a .s .now) (a .from))
+    (λ k h. le-leb (wordAt (a .s .now) (a .from + k)) 1000000 (omega (arith, c .before .before .loop .inv .1 k (omega arith)))))
+
+each-ok-requires : tie.Need-each-ok-requires Inv-loop μ-loop
+each-ok-requires c κs = search needs
+
+returns-3 : tie.Need-returns-3 Inv-loop μ-loop
+returns-3 c = c .each-ok .ensures
 
 pub entries-ok-spec : {M : Type 1} → statement M
 entries-ok-spec =
@@ -46,8 +62,11 @@ entries-ok-spec =
     add-if1
     returns
     loop-holds
-    entry-ok-requires
+    add-word
+    word-requires
     add-i
     loop-less
     loop-again
-    returns-2)
+    returns-2
+    each-ok-requires
+    returns-3)

@@ -2,13 +2,17 @@ use borrow.Author.Needs.{needs}
 use native.Mathlib.Omega.{arith}
 use mathlib.Core.Path.{_≡_}
 use Prim.Native.Nat.{_-_, _≤_}
+use mir.Syntax.{w32}
+use mir.Val.{toZ}
+use mir.Facts.{toZ-ofZ}
 use Rattle.laws.specs.Below.{allBelow, below-none, flag-goes, flag-done}
 use Rattle.day.specs.Row.{lineOk, entry-low}
+use Rattle.day.proofs.Signed.{back, entry-fits, sum-fits, sum-back}
 use Rattle.day.proofs.tables.line_ok.Statement.{statement}
 use Rattle.day.proofs.tables.line_ok.Tie as tie
 
 abbrev Inv-loop : tie.InvT-loop
-Inv-loop s at n row first ok₀ k₀ ok k = (k ≤ n) × (allBelow k (lineOk s row first at) ≡ ok)
+Inv-loop s at n row first ok₀ k₀ ok k = (k ≤ n) × (allBelow k (lineOk s row (toZ w32 first) at) ≡ ok)
 
 abbrev μ-loop : tie.MeasureT-loop
 μ-loop s at n row first ok₀ k₀ ok k = n - k
@@ -28,6 +32,9 @@ add-word c = search needs
 word-requires : tie.Need-word-requires Inv-loop μ-loop
 word-requires c κs = search needs
 
+cast-far : tie.Need-cast-far Inv-loop μ-loop
+cast-far c = entry-fits (entry-low _ _ _ _ (c .before .before .before .before .before .pre .1) (c .before .loop-test .taken)) (c .word .ensures .is)
+
 mul-ok : tie.Need-mul-ok Inv-loop μ-loop
 mul-ok c = search needs
 
@@ -35,7 +42,9 @@ element-copy-out-ok : tie.Need-element-copy-out-ok Inv-loop μ-loop
 element-copy-out-ok c = search needs
 
 add-ok : tie.Need-add-ok Inv-loop μ-loop
-add-ok c = let b = c .before .before .before .before .before .before in omega (arith, entry-low (b .args .s .now) (b .args .at) (b .args .n) (c .before .before .before .loop .k) (b .pre .1) (c .before .before .loop-test .taken))
+add-ok c =
+    let b = c .before .before .before .before .before .before in
+    sum-fits (entry-low _ _ _ _ (b .pre .1) (c .before .before .loop-test .taken)) (c .before .word .ensures .is) (b .fits .first) (b .pre .0 .2)
 
 add-k : tie.Need-add-k Inv-loop μ-loop
 add-k c = search needs
@@ -44,10 +53,16 @@ loop-less : tie.Need-loop-less Inv-loop μ-loop
 loop-less c = search needs
 
 loop-again : tie.Need-loop-again Inv-loop μ-loop
-loop-again c = (omega arith, flag-goes _ _ (c .before .before .before .loop .inv .1) (rw (c .before .word .ensures .is)))
+loop-again c =
+    let b = c .before .before .before .before .before .before in
+    let l = entry-low _ _ _ _ (b .pre .1) (c .before .before .loop-test .taken) in
+    let e = sum-back l (c .before .word .ensures .is) (b .fits .first) (b .pre .0 .2) in
+    (omega arith, flag-goes _ _ (c .before .before .before .loop .inv .1) (rw (e, toZ-ofZ (b .fits .first), back _ (c .ok .given))))
 
 returns-2 : tie.Need-returns-2 Inv-loop μ-loop
-returns-2 c = flag-done _ _ _ (c .before .loop .inv .0) (c .loop-test .left) (c .before .loop .inv .1)
+returns-2 c =
+    let b = c .before .before .before .before in
+    flag-done _ _ _ (c .before .loop .inv .0) (c .loop-test .left) (rw (toZ-ofZ (b .fits .first)) at (c .before .loop .inv .1))
 
 pub line-ok-spec : {M : Type 1} → statement M
 line-ok-spec =
@@ -60,6 +75,7 @@ line-ok-spec =
     loop-holds
     add-word
     word-requires
+    cast-far
     mul-ok
     element-copy-out-ok
     add-ok

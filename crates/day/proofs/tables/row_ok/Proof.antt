@@ -1,28 +1,31 @@
 use borrow.Author.Needs.{needs}
 use native.Mathlib.Omega.{arith}
-use mathlib.Core.Path.{_≡_, _∙_}
-use mathlib.Core.Bool.{true}
+use mathlib.Core.Path.{_≡_, refl, _∙_}
 use Prim.Native.Nat.{_-_, _≤_}
-use Rattle.laws.specs.Below.{allBelow, below-none, below-stops, below-goes, below-done}
+use Rattle.laws.specs.Below.{allBelow, below-none, flag-goes, flag-done}
 use Rattle.day.specs.Tables.{cell, shortestLine, shortestRow}
 use Rattle.day.specs.Row.{row-end, row-low, first-low, line-is}
+use Rattle.day.proofs.Signed.{back}
 use Rattle.day.proofs.tables.row_ok.Statement.{statement}
 use Rattle.day.proofs.tables.row_ok.Tie as tie
 
 abbrev Inv-loop : tie.InvT-loop
-Inv-loop s from n i row j₀ j = (j ≤ n) × (allBelow j (shortestLine n (cell s from n) i) ≡ true)
+Inv-loop s from n i row ok₀ j₀ ok j = (j ≤ n) × (allBelow j (shortestLine n (cell s from n) i) ≡ ok)
 
 abbrev μ-loop : tie.MeasureT-loop
-μ-loop s from n i row j₀ j = n - j
+μ-loop s from n i row ok₀ j₀ ok j = n - j
 
-mul-row-of : tie.Need-mul-row-of Inv-loop μ-loop
-mul-row-of c = omega (arith, row-end _ _ (c .before .pre .1))
+mul-read-row : tie.Need-mul-read-row Inv-loop μ-loop
+mul-read-row c = omega (arith, row-end _ _ (c .before .pre .1))
 
-add-row-of : tie.Need-add-row-of Inv-loop μ-loop
-add-row-of c = omega (arith, row-end _ _ (c .before .pre .1))
+add-read-row : tie.Need-add-read-row Inv-loop μ-loop
+add-read-row c = omega (arith, row-end _ _ (c .before .pre .1))
 
-row-of-requires : tie.Need-row-of-requires Inv-loop μ-loop
-row-of-requires c κs = omega (arith, row-end _ _ (c .before .pre .1))
+read-row-requires : tie.Need-read-row-requires Inv-loop μ-loop
+read-row-requires c κs =
+    let b = c .before .before in
+    let e = row-end _ _ (b .pre .1) in
+    ((omega arith, b .pre .1, omega arith, refl), row-low _ _ _ _ (b .pre .0 .low) (b .pre .1))
 
 loop-holds : tie.Need-loop-holds Inv-loop μ-loop
 loop-holds c = (search needs, below-none _)
@@ -30,21 +33,24 @@ loop-holds c = (search needs, below-none _)
 mul-first : tie.Need-mul-first Inv-loop μ-loop
 mul-first c = search needs
 
-array-read-first : tie.Need-array-read-first Inv-loop μ-loop
-array-read-first c = let l = c .before .before .row-of .ensures .long in omega arith
+array-copy-out-first : tie.Need-array-copy-out-first Inv-loop μ-loop
+array-copy-out-first c = omega arith
 
 mul-line-ok : tie.Need-mul-line-ok Inv-loop μ-loop
-mul-line-ok c = omega (arith, row-end _ _ (c .loop-test .taken))
+mul-line-ok c = omega (arith, row-end _ _ (c .before .loop-test .taken))
 
 add-line-ok : tie.Need-add-line-ok Inv-loop μ-loop
-add-line-ok c = omega (arith, row-end _ _ (c .loop-test .taken))
+add-line-ok c = omega (arith, row-end _ _ (c .before .loop-test .taken))
 
 line-ok-requires : tie.Need-line-ok-requires Inv-loop μ-loop
-line-ok-requires c κs = let b = c .before .before .before .before .before in let t = b .pre .0 in let r = c .before .before .before .row-of .ensures in let l = r .long in let e = row-end _ _ (c .before .loop-test .taken) in let f = first-low _ _ _ _ _ _ (row-low _ _ _ _ (t .low) (b .pre .1)) r (c .before .loop-test .taken) in ((omega arith, omega arith, omega arith, omega arith), row-low _ _ _ _ (t .low) (c .before .loop-test .taken))
-
-returns : tie.Need-returns Inv-loop μ-loop
-unfolding shortestRow
-returns c = below-stops _ _ _ (c .before .before .before .loop-test .taken) (c .before .line-ok .ensures ∙ line-is _ _ _ _ _ _ (c .before .before .before .before .before .row-of .ensures) (c .before .before .before .loop-test .taken)) (c .if1 .taken)
+line-ok-requires c κs =
+    let b = c .before .before .before .before .before .before .before in
+    let t = b .pre .0 in
+    let r = c .before .before .before .before .read-row .ensures in
+    let h = c .before .before .loop-test .taken in
+    let e = row-end _ _ h in
+    let f = first-low _ _ _ _ _ _ (row-low _ _ _ _ (t .low) (b .pre .1)) r h (back _ (c .before .first .given)) in
+    ((omega arith, r .long, f, omega arith), row-low _ _ _ _ (t .low) h)
 
 add-j : tie.Need-add-j Inv-loop μ-loop
 add-j c = omega arith
@@ -53,11 +59,14 @@ loop-less : tie.Need-loop-less Inv-loop μ-loop
 loop-less c = omega arith
 
 loop-again : tie.Need-loop-again Inv-loop μ-loop
-loop-again c = (omega arith, below-goes _ _ (c .before .before .before .before .loop .inv .1) (c .before .line-ok .ensures ∙ line-is _ _ _ _ _ _ (c .before .before .before .before .before .row-of .ensures) (c .before .before .before .loop-test .taken)) (c .if1 .left))
+loop-again c =
+    let r = c .before .before .before .before .before .read-row .ensures in
+    let l = line-is _ _ _ _ _ _ r (c .before .before .before .loop-test .taken) (back _ (c .before .before .first .given)) in
+    (omega arith, flag-goes _ _ (c .before .before .before .before .loop .inv .1) (c .line-ok .ensures ∙ l))
 
-returns-2 : tie.Need-returns-2 Inv-loop μ-loop
+returns : tie.Need-returns Inv-loop μ-loop
 unfolding shortestRow
-returns-2 c = below-done _ _ _ (c .before .loop .inv .0) (c .loop-test .left) (c .before .loop .inv .1)
+returns c = flag-done _ _ _ (c .before .loop .inv .0) (c .loop-test .left) (c .before .loop .inv .1)
 
 pub row-ok-spec : {M : Type 1} → statement M
 row-ok-spec =
@@ -65,17 +74,16 @@ row-ok-spec =
     (tie.spec
     Inv-loop
     μ-loop
-    mul-row-of
-    add-row-of
-    row-of-requires
+    mul-read-row
+    add-read-row
+    read-row-requires
     loop-holds
     mul-first
-    array-read-first
+    array-copy-out-first
     mul-line-ok
     add-line-ok
     line-ok-requires
-    returns
     add-j
     loop-less
     loop-again
-    returns-2)
+    returns)
