@@ -10,6 +10,7 @@ use Rattle.laws.specs.Sum.{sumBelow}
 use Rattle.bits.specs.Places.{has}
 use Rattle.board.specs.Route.{wordOf}
 use Rattle.board.specs.declared.State.{State}
+use Rattle.board.specs.declared.Figures.{Figures}
 
 pub record Board : Type 0 where
   pub route : List ℕ
@@ -23,6 +24,10 @@ board route stops sets marks = record { route = route; stops = stops; sets = set
 abbrev pub stateOf : List ℕ → ℕ → List ℕ → ℕ → List ℕ → ℕ → ℕ → State
 stateOf route stops sets marks levels depth records =
     record { route = route; stops = stops; sets = sets; marks = marks; levels = levels; depth = depth; records = records }
+
+-- the same from its arrays and its other numbers
+abbrev pub stateWith : List ℕ → List ℕ → List ℕ → Figures → State
+stateWith route sets levels f = stateOf route (f .stops) sets (f .marks) levels (f .depth) (f .records)
 
 abbrev pub boardOf : State → Board
 boardOf s = board (s .route) (s .stops) (s .sets) (s .marks)

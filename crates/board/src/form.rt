@@ -1,12 +1,14 @@
 // When a state is in form.
-use crate::route::word;
 ghost use mathlib.Core.Path.{_≡_};
-ghost use Prim.Native.Nat.{_≤_};
+ghost use mathlib.Core.Bool.{cond};
+ghost use Prim.Native.Nat.{_≤_, _<_};
 ghost use lib.ListN.{length};
+ghost use lib.Dec.{eqb};
 ghost use Rattle.laws.specs.Below.{allBelow};
+ghost use Rattle.bits.specs.Places.{has, within};
 ghost use Rattle.board.specs.Board.{inner, legNode, board, stateOf};
-ghost use Rattle.board.specs.Form.{stopOk, nodeOk, boardOk, levelsOk, inForm};
-ghost use Rattle.board.specs.Tests.{stopTest, nodeTest, levelTest};
+ghost use Rattle.board.specs.Form.{boardOk, levelsOk, inForm};
+ghost use Rattle.board.specs.Tests.{zeroFrom, seenOf, setTest, markTest};
 
 // Whether x is between 1 and n - 2.
 pub fn inner(n: usize, x: usize) -> bool
@@ -31,79 +33,76 @@ pub fn leg_node(n: usize, p: usize) -> bool
     p + 1 < n
 }
 
-// Entry i of the route is e, and the entries before it are the set `seen`.
-fn stop_ok(n: usize, stops: usize, i: usize, e: usize, seen: u64) -> bool
-    ensures { λ r. ⌜ r ≡ stopTest n stops i e seen ⌝ }
+// Whether every entry from `from` on is 0.
+fn none_from(a: &[usize; 64], from: usize) -> bool
+    requires { ⌜ from ≤ 64 ⌝ }
+    ensures { λ r. ⌜ r ≡ allBelow 64 (zeroFrom from (now (a .entry))) ⌝ }
 {
-    if stops <= i {
-        return e == 0;
-    }
-    if n <= e {
-        return false;
-    }
-    !bits::has(seen, e)
-}
-
-fn stops_ok(route: &[usize; 64], stops: usize, n: usize) -> bool
-    requires { ⌜ (n ≤ 64) × (length (now route) ≡ 64) ⌝ }
-    ensures { λ r. ⌜ r ≡ allBelow 64 (stopOk n stops (now (route .entry))) ⌝ }
-{
-    let mut seen: u64 = 0;
-    let mut ok = true;
-    let mut i = 0;
+    let mut rest = 0;
+    let mut i = from;
     while i < 64 {
-        let e = route[i];
-        let one = stop_ok(n, stops, i, e, seen);
-        ok = ok & one;
-        seen = bits::with(seen, e);
+        rest = rest | a[i];
         i += 1;
     }
-    ok
+    rest == 0
 }
 
-// Node y has the set w; `on` are the nodes of the route, `legs` its legs.
-fn node_ok(n: usize, y: usize, w: u64, marks: u64, on: u64, legs: u64) -> bool
-    ensures { λ r. ⌜ r ≡ nodeTest n y w marks on legs ⌝ }
+// The first `stops` entries as a set, or 0 where one of them is no node below n or stands there twice.
+fn seen_of(route: &[usize; 64], stops: usize, n: usize) -> u64
+    requires { ⌜ (n ≤ 64) × (stops ≤ 64) × (length (now route) ≡ 64) ⌝ }
+    ensures { λ r. ⌜ r ≡ seenOf n stops (now (route .entry)) ⌝ }
 {
-    if !inner(n, y) {
-        return (w == 0) & !bits::has(marks, y);
+    let mut seen: u64 = 0;
+    let mut i = 0;
+    while i < stops {
+        let e = route[i];
+        if n <= e {
+            return 0;
+        }
+        if bits::holds(seen, e) {
+            return 0;
+        }
+        seen = bits::put(seen, e);
+        i += 1;
     }
-    if bits::has(on, y) {
-        return w == 0;
-    }
-    bits::within(w, legs)
+    seen
 }
 
-fn nodes_ok<'a>(
-    route: &'a [usize; 64],
-    stops: usize,
-    sets: &'a [u64; 64],
-    marks: u64,
-    n: usize,
-) -> bool
-    requires { ⌜ (n ≤ 64) × (1 ≤ stops) × (stops ≤ 64) × (length (now route) ≡ 64) ⌝ }
-    ensures { λ r. ⌜ r ≡ allBelow 64 (nodeOk n (board (now (route .entry)) stops (now (sets .entry)) marks)) ⌝ }
+// What node y has open and may not: all of it on the route, off the route what is no leg.
+fn stray(w: u64, y: usize, on: u64, legs: u64) -> u64
+    requires { ⌜ y < 64 ⌝ }
+    ensures { λ r. ⌜ eqb r 0 ≡ cond (has on y) (eqb w 0) (within w legs) ⌝ }
 {
-    let on = word(route, stops);
-    let legs = word(route, stops - 1);
-    let mut ok = true;
-    let mut y = 0;
-    while y < 64 {
-        let one = node_ok(n, y, sets[y], marks, on, legs);
-        ok = ok & one;
+    let may = if bits::holds(on, y) { 0 } else { legs };
+    bits::minus(w, may)
+}
+
+// The sets, gathered in one word that is 0 if none has a member too many; `on` are the nodes of the route.
+fn sets_ok(sets: &[u64; 64], n: usize, on: u64) -> bool
+    requires { ⌜ (2 ≤ n) × (n ≤ 64) ⌝ }
+    ensures { λ r. ⌜ r ≡ allBelow 64 (setTest n (now (sets .entry)) on) ⌝ }
+{
+    let end = n - 1;
+    let legs = bits::take(on, end);
+    let mut over = sets[0];
+    let mut y = 1;
+    while y < end {
+        over = over | stray(sets[y], y, on, legs);
         y += 1;
     }
-    ok
+    while y < 64 {
+        over = over | sets[y];
+        y += 1;
+    }
+    over == 0
 }
 
-// Level i is v, and the one before it u.
-fn level_ok(depth: usize, records: usize, i: usize, u: usize, v: usize) -> bool
-    ensures { λ r. ⌜ r ≡ levelTest depth records i u v ⌝ }
+// No mark at node 0 or from the last node on.
+fn marks_ok(marks: u64, n: usize) -> bool
+    requires { ⌜ (2 ≤ n) × (n ≤ 64) ⌝ }
+    ensures { λ r. ⌜ r ≡ allBelow 64 (markTest n marks) ⌝ }
 {
-    if depth <= i {
-        return v == 0;
-    }
-    (v <= records) & (u <= v)
+    (marks >> (n - 1) == 0) & (marks % 2 == 0)
 }
 
 fn levels_ok(levels: &[usize; 64], depth: usize, records: usize) -> bool
@@ -112,17 +111,20 @@ fn levels_ok(levels: &[usize; 64], depth: usize, records: usize) -> bool
     if 64 < depth {
         return false;
     }
-    let mut ok = true;
+    let mut u = 0;
     let mut i = 0;
-    let mut u = levels[0];
-    while i < 64 {
+    while i < depth {
         let v = levels[i];
-        let one = level_ok(depth, records, i, u, v);
-        ok = ok & one;
+        if v < u {
+            return false;
+        }
         u = v;
         i += 1;
     }
-    ok
+    if records < u {
+        return false;
+    }
+    none_from(levels, depth)
 }
 
 fn board_ok<'a>(
@@ -147,10 +149,14 @@ fn board_ok<'a>(
     if route[stops - 1] != n - 1 {
         return false;
     }
-    if !stops_ok(route, stops, n) {
+    let on = seen_of(route, stops, n);
+    if on == 0 {
         return false;
     }
-    nodes_ok(route, stops, sets, marks, n)
+    if !none_from(route, stops) {
+        return false;
+    }
+    sets_ok(sets, n, on) & marks_ok(marks, n)
 }
 
 // Whether the state of these numbers is in form, the record count's room apart.

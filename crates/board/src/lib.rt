@@ -18,6 +18,14 @@ pub struct State {
     pub records: usize,
 }
 
+// The numbers of a state beside its three arrays.
+pub struct Figures {
+    pub stops: usize,
+    pub marks: u64,
+    pub depth: usize,
+    pub records: usize,
+}
+
 impl State {
     pub const NODES: usize = 64;
 

@@ -1,7 +1,7 @@
 // A route is the first `stops` entries of an array of nodes.
 ghost use mathlib.Core.Path.{_≡_};
-ghost use Prim.Native.Nat.{_≤_, _<_};
-ghost use lib.ListN.{length, take};
+ghost use Prim.Native.Nat.{ℕ, _≤_, _<_};
+ghost use lib.ListN.{getD, length, take};
 ghost use Rattle.board.specs.Route.{indexOf, insertIn, removeIn, wordOf};
 
 // Where p stands on the route; the number of stops where it does not.
@@ -21,14 +21,14 @@ pub fn position(route: &[usize; 64], stops: usize, p: usize) -> usize
 
 // The first k stops as a set.
 pub fn word(route: &[usize; 64], k: usize) -> u64
-    requires { ⌜ k ≤ 64 ⌝ }
+    requires { ⌜ (k ≤ 64) × ((i : ℕ) → i < k → getD (now route) i 0 < 64) ⌝ }
     ensures { λ r. ⌜ r ≡ wordOf k (now (route .entry)) ⌝ }
 {
     let mut w: u64 = 0;
     let mut i = 0;
     while i < k {
         let p = route[i];
-        w = bits::with(w, p);
+        w = bits::put(w, p);
         i += 1;
     }
     w

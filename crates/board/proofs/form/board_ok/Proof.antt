@@ -1,6 +1,12 @@
-use mathlib.Core.Path.{sym, _∙_}
+use mathlib.Core.Path.{_≡_, sym, _∙_}
+use mathlib.Core.Bool.{true, _&&_}
+use native.Mathlib.Omega.{arith}
 use borrow.Author.Tests.{not-true, not-false, le-leb, lt-leb, eq-eqb, ne-eqb}
-use Rattle.board.specs.Form.{boardOk}
+use Rattle.laws.specs.Below.{allBelow}
+use Rattle.board.specs.Route.{wordOf}
+use Rattle.board.specs.Board.{Board, board}
+use Rattle.board.specs.Form.{stopOk, nodeOk, boardOk}
+use Rattle.board.specs.Tests.{zeroFrom, board-test, seen-none, seen-some, nodes-test}
 use borrow.Author.Needs.{needs}
 use Rattle.board.proofs.form.board_ok.Statement.{statement}
 use Rattle.board.proofs.form.board_ok.Tie as tie
@@ -40,23 +46,64 @@ returns-4 c =
     let d = c .before .before in
     rw (le-leb 2 _ (d .before .before .before .if1 .left), le-leb _ _ (d .before .before .if2 .left), eq-eqb _ 0 (d .if3 .left), ne-eqb _ _ (c .if4 .taken))
 
-stops-ok-requires : tie.Need-stops-ok-requires
-stops-ok-requires c κs = search needs
+abbrev start : tie.Else4 → tie.Start
+start c = c .before .before .before .before .before .before
+
+-- the board that the numbers make
+abbrev here : tie.Start → Board
+here c = board (c .args .route .now) (c .args .stops) (c .args .sets .now) (c .args .marks)
+
+-- what is left to ask past the tests of the route's ends
+asked : (c : tie.Else4) → let b = here (start c) in let n = start c .args .n in
+    boardOk n b ≡ ((allBelow (b .stops) (stopOk n (b .stops) (b .route)) && allBelow 64 (zeroFrom (b .stops) (b .route))) && allBelow 64 (nodeOk n b))
+asked c =
+    let s = start c in
+    let d = c .before .before .before .before in
+    board-test (s .args .n) (here s) (s .pre .0) (d .before .if1 .left) (d .if2 .left) (c .before .before .if3 .left) (c .if4 .left)
+
+-- a set that is not 0: the stops are as they must be, and it is theirs
+seen : (c : tie.Else5) → let b = here (start (c .before .before)) in let n = start (c .before .before) .args .n in
+    (allBelow (b .stops) (stopOk n (b .stops) (b .route)) ≡ true) × (c .before .seen-of .result ≡ wordOf (b .stops) (b .route))
+seen c =
+    let a = start (c .before .before) .args in
+    let e = c .before .seen-of .ensures in
+    let r = seen-some (a .n) (a .stops) (a .route .now) (start (c .before .before) .pre .0) (omega arith) (λ z. c .if5 .left (e ∙ z)) in
+    (r .0, e ∙ r .1)
+
+seen-of-requires : tie.Need-seen-of-requires
+seen-of-requires c κs = search needs
 
 returns-5 : tie.Need-returns-5
-unfolding boardOk
 returns-5 c =
     let d = c .before .before in
-    rw (le-leb 2 _ (d .before .before .before .before .before .if1 .left), le-leb _ _ (d .before .before .before .before .if2 .left), eq-eqb _ 0 (d .before .before .if3 .left), eq-eqb _ _ (d .if4 .left), sym (c .before .stops-ok .ensures) ∙ not-true _ (c .if5 .taken))
+    let a = start d .args in
+    rw (asked d, seen-none (a .n) (a .stops) (a .route .now) (start d .pre .0) (omega arith) (sym (c .before .seen-of .ensures) ∙ c .if5 .taken))
 
-nodes-ok-requires : tie.Need-nodes-ok-requires
-nodes-ok-requires c κs = search needs
+none-from-requires : tie.Need-none-from-requires
+none-from-requires c κs = search needs
 
 returns-6 : tie.Need-returns-6
-unfolding boardOk
-returns-6 c =
-    let d = c .before .before .before in
-    rw (le-leb 2 _ (d .before .before .before .before .before .if1 .left), le-leb _ _ (d .before .before .before .before .if2 .left), eq-eqb _ 0 (d .before .before .if3 .left), eq-eqb _ _ (d .if4 .left), sym (c .before .before .stops-ok .ensures) ∙ not-false _ (c .before .if5 .left)) (c .nodes-ok .ensures)
+returns-6 c = rw (asked (c .before .before .before .before), seen (c .before .before) .0, sym (c .before .none-from .ensures) ∙ not-true _ (c .if6 .taken))
+
+sets-ok-requires : tie.Need-sets-ok-requires
+sets-ok-requires c κs = search needs
+
+marks-ok-requires : tie.Need-marks-ok-requires
+marks-ok-requires c κs = search needs
+
+returns-7 : tie.Need-returns-7
+returns-7 c =
+    let e = c .before .before in
+    let d = e .before .before in
+    let s = start (d .before .before) in
+    rw (
+      asked (d .before .before),
+      seen d .0,
+      sym (e .before .none-from .ensures) ∙ not-false _ (e .if6 .left),
+      c .before .sets-ok .ensures,
+      c .marks-ok .ensures,
+      seen d .1,
+    ) (nodes-test (s .args .n) (here s) (s .pre .0) (omega arith) (omega arith) (d .before .before .if4 .left) (seen d .0))
 
 pub board-ok-spec : {M : Type 1} → statement M
 board-ok-spec =
@@ -71,7 +118,10 @@ board-ok-spec =
     element-copy-out-if4
     sub-if4-2
     returns-4
-    stops-ok-requires
+    seen-of-requires
     returns-5
-    nodes-ok-requires
-    returns-6)
+    none-from-requires
+    returns-6
+    sets-ok-requires
+    marks-ok-requires
+    returns-7)

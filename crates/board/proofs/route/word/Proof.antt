@@ -1,4 +1,3 @@
-use borrow.Author.Needs.{needs}
 use native.Mathlib.Omega.{arith}
 use mathlib.Core.Path.{_≡_, sym, ap, _∙_}
 use Prim.Native.Nat.{ℕ, _≤_, _-_}
@@ -22,8 +21,8 @@ mul-p c = omega arith
 element-copy-out-p : tie.Need-element-copy-out-p Inv-loop μ-loop
 element-copy-out-p c = omega arith
 
-with-requires : tie.Need-with-requires Inv-loop μ-loop
-with-requires c κs = search needs
+put-requires : tie.Need-put-requires Inv-loop μ-loop
+put-requires c κs = c .before .before .before .pre .1 (c .before .before .loop .i) (c .before .loop-test .taken)
 
 add-i : tie.Need-add-i Inv-loop μ-loop
 add-i c = omega arith
@@ -32,7 +31,7 @@ loop-less : tie.Need-loop-less Inv-loop μ-loop
 loop-less c = omega arith
 
 loop-again : tie.Need-loop-again Inv-loop μ-loop
-loop-again c = let v = c .before .before .before .loop .inv in (omega arith, c .with .ensures ∙ rw (v .1) (sym (word-more _ _)))
+loop-again c = let v = c .before .before .before .loop .inv in (omega arith, c .put .ensures ∙ rw (v .1) (sym (word-more _ _)))
 
 returns : tie.Need-returns Inv-loop μ-loop
 returns c =
@@ -49,7 +48,7 @@ word-spec =
     loop-holds
     mul-p
     element-copy-out-p
-    with-requires
+    put-requires
     add-i
     loop-less
     loop-again
