@@ -31,13 +31,6 @@ step-zero k s t ran e =
     decided (eqb k 0) (λ q. eqb-true k 0 q)
     (λ q. sym (ap (λ (r : Ran). r .0 .answer) (step-no k s t ran (eqb-false k 0 q))) ∙ e)
 
--- the answer of a step is the number of its refusal
-pub step-answer : (k : ℕ) (s : State) (t : List ℕ) (ran : Ran) → ran .0 .answer ≡ 0 → stepOf k s t ran .0 .answer ≡ k
-step-answer k s t ran h =
-    decided (eqb k 0)
-    (λ q. let z = eqb-true k 0 q in ap (λ (r : Ran). r .0 .answer) (step-yes k s t ran z) ∙ h ∙ sym z)
-    (λ q. ap (λ (r : Ran). r .0 .answer) (step-no k s t ran (eqb-false k 0 q)))
-
 -- ---- what an accepted step knows
 
 pub record Placeable (n : ℕ) (b : Board) (records room p x : ℕ) : Type 0 where

@@ -6,7 +6,7 @@ use lib.ListN.{getD, set}
 use lib.Dec.{eqb, leb, ltb}
 use Rattle.laws.specs.Choice.{orElse, unless}
 use Rattle.bits.specs.Places.{has, without}
-use Rattle.board.specs.Board.{Board, board, stateOf, boardOf, onBoard, setOf}
+use Rattle.board.specs.Board.{Board, board, stateOf, stateWith, boardOf, onBoard, setOf}
 use Rattle.board.specs.Change.{putSet, placed, marked}
 use Rattle.board.specs.declared.State.{State}
 use Rattle.trail.specs.Trail.{roomOf, pushed, shrunk, noteBelow}
@@ -14,18 +14,28 @@ use Rattle.trail.specs.Refusals.{placeRefusal, excludeRefusal, requireRe
 use Rattle.trail.specs.Undo.{Undone, undoMany}
 use Rattle.trail.specs.declared.Outcome.{Outcome}
 
-abbrev pub Ran : Type 0
-Ran = Outcome × List ℕ
+-- the answer, 0 or the number of a refusal, and the state after
+pub record Done : Type 0 where
+  pub answer : ℕ
+  pub state : State
 
-abbrev pub outcome : ℕ → State → Outcome
+-- and the trail
+abbrev pub Ran : Type 0
+Ran = Done × List ℕ
+
+abbrev pub outcome : ℕ → State → Done
 outcome k s = record { answer = k; state = s }
+
+-- what a step has left in arrays and a trail, with its outcome
+abbrev pub ran : Outcome → List ℕ → List ℕ → List ℕ → List ℕ → Ran
+ran o route sets levels t = (outcome (o .answer) (stateWith route sets levels (o .after)), t)
 
 abbrev pub answered : ℕ → State → List ℕ → Ran
 answered k s t = (outcome k s, t)
 
 -- refused with a number, the state and the trail as before; accepted where it is 0
 unfoldable pub stepOf : ℕ → State → List ℕ → Ran → Ran
-stepOf refusal s t ran = cond (eqb refusal 0) ran (answered refusal s t)
+stepOf refusal s t after = cond (eqb refusal 0) after (answered refusal s t)
 
 -- accepted with one record: the board changes, and the record is written
 unfoldable pub recorded : State → List ℕ → Board → ℕ → ℕ → Ran

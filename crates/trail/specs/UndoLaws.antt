@@ -4,6 +4,7 @@ use mathlib.Core.Bool.{Bool, true, false, cond, not, _&&_, and-false}
 use mathlib.Core.List.{List}
 use Prim.Native.Nat.{ℕ, zero, suc, _-_, _/_, _%_, _≤_, _<_}
 use native.Mathlib.Omega.{arith}
+use lib.ListN.{length, getD}
 use lib.Dec.{eqb, leb, ltb}
 use borrow.Author.Tests.{eqb-true, eqb-false, ne-eqb, not-true, ltb-true, ltb-false, lt-ltb, le-ltb, lt-leb, le-leb}
 use Rattle.laws.specs.Logic.{decided, and-true}
@@ -16,6 +17,10 @@ use Rattle.board.specs.RouteLaws.{index-mem}
 use Rattle.board.specs.Keep.{put-wide, put-formed, unplaced-wide, unplaced-formed, unmarked-formed}
 use Rattle.trail.specs.Trail.{firstOf, secondOf}
 use Rattle.trail.specs.Undo.{strictly, stopBefore, fitsShrunk, fitsPlaced, fitsMarked, Undone, undone, undoOne, undoMany}
+
+-- what reading the route of a sound board asks: few stops, each a place of a word
+pub readable : (n : ℕ) (b : Board) → Sound n b → (n ≤ 64) × (b .stops ≤ 64) × (length (b .route) ≡ 64) × ((i : ℕ) → i < b .stops → getD (b .route) i 0 < 64)
+readable n b s = (s .small, omega (arith, s .small, s .form .route .most), s .wide .route, λ i h. omega (arith, s .small, s .form .route .below i h))
 
 -- ---- each kind
 

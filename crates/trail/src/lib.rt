@@ -4,7 +4,7 @@ pub mod refusals;
 pub mod steps;
 pub mod undo;
 
-use board::State;
+use board::Figures;
 
 // The numbers by which a step is refused.
 // x is not between 1 and n - 2, or p not between 0 and n - 2.
@@ -31,8 +31,8 @@ pub const LEVEL: usize = 18;
 // A record to be undone does not fit.
 pub const MISFIT: usize = 20;
 
-// The answer of a step, 0 or the number of a refusal, and the state.
+// The answer of a step, 0 or the number of a refusal, and the numbers of the state after it. A step changes the arrays in place.
 pub struct Outcome {
     pub answer: usize,
-    pub state: State,
+    pub after: Figures,
 }

@@ -10,8 +10,8 @@ use board::form::leg_node;
 use board::route::word;
 ghost use mathlib.Core.Path.{_≡_};
 ghost use mathlib.Core.List.{List};
-ghost use Prim.Native.Nat.{ℕ, _≤_};
-ghost use lib.ListN.{length};
+ghost use Prim.Native.Nat.{ℕ, _<_, _≤_};
+ghost use lib.ListN.{getD, length};
 ghost use Rattle.board.specs.Board.{board};
 ghost use Rattle.trail.specs.Refusals.{placeRefusal, excludeRefusal, requireRefusal};
 
@@ -26,7 +26,7 @@ pub fn place_refusal<'a>(
     p: usize,
     x: usize,
 ) -> usize
-    requires { ⌜ (n ≤ 64) × (stops ≤ 64) × (length (now route) ≡ 64) ⌝ }
+    requires { ⌜ (n ≤ 64) × (stops ≤ 64) × (length (now route) ≡ 64) × ((i : ℕ) → i < stops → getD (now route) i 0 < 64) ⌝ }
     ensures { λ r. ⌜ ((m : ℕ) → r ≡ placeRefusal n (board (now (route .entry)) stops (now (sets .entry)) m) records room p x) ⌝ }
 {
     if !inner(n, x) {
@@ -59,7 +59,7 @@ pub fn exclude_refusal<'a>(
     owed: bool,
     x: usize,
 ) -> usize
-    requires { ⌜ (n ≤ 64) × (stops ≤ 64) × (length (now route) ≡ 64) ⌝ }
+    requires { ⌜ (n ≤ 64) × (stops ≤ 64) × (length (now route) ≡ 64) × ((i : ℕ) → i < stops → getD (now route) i 0 < 64) ⌝ }
     ensures { λ r. ⌜ ((m : ℕ) → r ≡ excludeRefusal n (board (now (route .entry)) stops (now (sets .entry)) m) records room owed x) ⌝ }
 {
     if !inner(n, x) {
@@ -88,7 +88,7 @@ pub fn require_refusal(
     n: usize,
     x: usize,
 ) -> usize
-    requires { ⌜ (n ≤ 64) × (stops ≤ 64) × (length (now route) ≡ 64) ⌝ }
+    requires { ⌜ (n ≤ 64) × (stops ≤ 64) × (length (now route) ≡ 64) × ((i : ℕ) → i < stops → getD (now route) i 0 < 64) ⌝ }
     ensures { λ r. ⌜ ((l : List ℕ) → r ≡ requireRefusal n (board (now (route .entry)) stops l marks) records room x) ⌝ }
 {
     if !inner(n, x) {

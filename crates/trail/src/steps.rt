@@ -1,4 +1,4 @@
-// The steps on a state in form, asked so by the caller: the answer with the state, and the trail. Refused: state and trail as before.
+// The steps on a state in form, asked so by the caller: the answer, and state and trail changed in place. Refused: state and trail as before.
 use crate::LEVEL;
 use crate::MISFIT;
 use crate::Outcome;
@@ -10,6 +10,7 @@ use crate::refusals::exclude_refusal;
 use crate::refusals::place_refusal;
 use crate::refusals::require_refusal;
 use crate::undo::undo_many;
+use board::Figures;
 use board::State;
 use board::places::inherit;
 use board::route::insert;
@@ -18,229 +19,239 @@ ghost use mathlib.Core.Path.{_≡_};
 ghost use mathlib.Core.Bool.{true};
 ghost use mathlib.Core.List.{List};
 ghost use Prim.Native.Nat.{ℕ, _+_, _≤_, _<_};
-ghost use Rattle.board.specs.Board.{boardOf, setOf};
-ghost use Rattle.board.specs.Form.{inForm, formWith};
+ghost use lib.ListN.{getD, length};
+ghost use Rattle.board.specs.Board.{board, boardOf, stateWith, setOf};
+ghost use Rattle.board.specs.Form.{formWith};
+ghost use Rattle.board.specs.FormLaws.{Sound};
 ghost use Rattle.board.specs.Change.{putSet};
 ghost use Rattle.trail.specs.Trail.{roomOf};
-ghost use Rattle.trail.specs.Steps.{outcome, recorded, placeStep, closeStep, excludeStep, requireStep, settleStep, levelStep, backStep};
+ghost use Rattle.trail.specs.Steps.{ran, recorded, placeStep, closeStep, excludeStep, requireStep, settleStep, levelStep, backStep};
+
+// Nothing changed: refused with a number, or 0 where nothing was to be done.
+fn same(answer: usize, f: Figures) -> Outcome
+    ensures { λ r. ⌜ (r .answer ≡ answer) × (r .after ≡ f) ⌝ }
+{
+    Outcome {
+        answer: answer,
+        after: f,
+    }
+}
 
 // Step 1: place x after p.
-pub fn place(s: State, n: usize, p: usize, x: usize, trail: &mut [u64]) -> Outcome
-    requires { ⌜ (n ≤ 64) × (inForm n s ≡ true) ⌝ }
-    ensures { λ r. ⌜ placeStep n s (now (trail .entry)) p x ≡ (r, now (trail .exit)) ⌝ }
+pub fn place(
+    route: &mut [usize; 64],
+    sets: &mut [u64; 64],
+    f: Figures,
+    n: usize,
+    p: usize,
+    x: usize,
+    trail: &mut [u64],
+) -> Outcome
+    requires { ⌜ Sound n (board (now route) (f .stops) (now sets) (f .marks)) ⌝ }
+    ensures { λ r. ⌜ ((levels : List ℕ) → placeStep n (stateWith (now (route .entry)) (now (sets .entry)) levels f) (now (trail .entry)) p x ≡ ran r (now (route .exit)) (now (sets .exit)) levels (now (trail .exit))) ⌝ }
 {
     let room = trail.len() / 2;
-    let stops = s.stops;
-    let i = s.records;
-    let code = place_refusal(&s.route, stops, &s.sets, i, room, n, p, x);
+    let stops = f.stops;
+    let i = f.records;
+    let code = place_refusal(route, stops, sets, i, room, n, p, x);
     if code != 0 {
-        return Outcome {
-            answer: code,
-            state: s,
-        };
+        return same(code, f);
     }
-    let mut route = s.route;
-    let mut sets = s.sets;
     push(trail, i, 512 + x as u64, sets[x]);
-    let at = position(&route, stops, p);
-    insert(&mut route, at + 1, x);
-    inherit(&mut sets, p, x);
+    let at = position(route, stops, p);
+    insert(route, at + 1, x);
+    inherit(sets, p, x);
     sets[x] = 0;
-    let levels = s.levels;
     Outcome {
         answer: 0,
-        state: State {
-            route: route,
+        after: Figures {
             stops: stops + 1,
-            sets: sets,
-            marks: s.marks,
-            levels: levels,
-            depth: s.depth,
+            marks: f.marks,
+            depth: f.depth,
             records: i + 1,
         },
     }
 }
 
 // The set of x becomes w, with its record.
-fn shrink(s: State, x: usize, w: u64, trail: &mut [u64]) -> Outcome
-    requires { ⌜ (x < 64) × (s .records < roomOf (now trail)) ⌝ }
-    ensures { λ r. ⌜ recorded s (now (trail .entry)) (putSet (boardOf s) x w) (256 + x) (setOf (boardOf s) x) ≡ (r, now (trail .exit)) ⌝ }
+fn shrink(sets: &mut [u64; 64], f: Figures, x: usize, w: u64, trail: &mut [u64]) -> Outcome
+    requires { ⌜ (x < 64) × (f .records < roomOf (now trail)) ⌝ }
+    ensures { λ r. ⌜ ((route levels : List ℕ) → recorded (stateWith route (now (sets .entry)) levels f) (now (trail .entry)) (putSet (boardOf (stateWith route (now (sets .entry)) levels f)) x w) (256 + x) (setOf (boardOf (stateWith route (now (sets .entry)) levels f)) x) ≡ ran r route (now (sets .exit)) levels (now (trail .exit))) ⌝ }
 {
-    let i = s.records;
-    let mut t = s;
-    push(trail, i, 256 + x as u64, t.sets[x]);
-    t.sets[x] = w;
-    t.records = i + 1;
+    let i = f.records;
+    push(trail, i, 256 + x as u64, sets[x]);
+    sets[x] = w;
     Outcome {
         answer: 0,
-        state: t,
+        after: Figures {
+            stops: f.stops,
+            marks: f.marks,
+            depth: f.depth,
+            records: i + 1,
+        },
     }
 }
 
 // Step 2: close the place p of x.
-pub fn close(s: State, n: usize, p: usize, x: usize, trail: &mut [u64]) -> Outcome
-    requires { ⌜ (n ≤ 64) × (inForm n s ≡ true) ⌝ }
-    ensures { λ r. ⌜ closeStep n s (now (trail .entry)) p x ≡ (r, now (trail .exit)) ⌝ }
+pub fn close(
+    route: &[usize; 64],
+    sets: &mut [u64; 64],
+    f: Figures,
+    n: usize,
+    p: usize,
+    x: usize,
+    trail: &mut [u64],
+) -> Outcome
+    requires { ⌜ Sound n (board (now route) (f .stops) (now sets) (f .marks)) ⌝ }
+    ensures { λ r. ⌜ ((levels : List ℕ) → closeStep n (stateWith (now (route .entry)) (now (sets .entry)) levels f) (now (trail .entry)) p x ≡ ran r (now (route .entry)) (now (sets .exit)) levels (now (trail .exit))) ⌝ }
 {
     let room = trail.len() / 2;
-    let code = place_refusal(&s.route, s.stops, &s.sets, s.records, room, n, p, x);
+    let code = place_refusal(route, f.stops, sets, f.records, room, n, p, x);
     if code != 0 {
-        return Outcome {
-            answer: code,
-            state: s,
-        };
+        return same(code, f);
     }
-    let w = s.sets[x];
-    shrink(s, x, bits::without(w, p), trail)
+    let w = sets[x];
+    shrink(sets, f, x, bits::without(w, p), trail)
 }
 
 // Step 3: exclude x, which is owed or not.
-pub fn exclude(s: State, n: usize, owed: bool, x: usize, trail: &mut [u64]) -> Outcome
-    requires { ⌜ (n ≤ 64) × (inForm n s ≡ true) ⌝ }
-    ensures { λ r. ⌜ excludeStep n s (now (trail .entry)) owed x ≡ (r, now (trail .exit)) ⌝ }
+pub fn exclude(
+    route: &[usize; 64],
+    sets: &mut [u64; 64],
+    f: Figures,
+    n: usize,
+    owed: bool,
+    x: usize,
+    trail: &mut [u64],
+) -> Outcome
+    requires { ⌜ Sound n (board (now route) (f .stops) (now sets) (f .marks)) ⌝ }
+    ensures { λ r. ⌜ ((levels : List ℕ) → excludeStep n (stateWith (now (route .entry)) (now (sets .entry)) levels f) (now (trail .entry)) owed x ≡ ran r (now (route .entry)) (now (sets .exit)) levels (now (trail .exit))) ⌝ }
 {
     let room = trail.len() / 2;
-    let code = exclude_refusal(&s.route, s.stops, &s.sets, s.records, room, n, owed, x);
+    let code = exclude_refusal(route, f.stops, sets, f.records, room, n, owed, x);
     if code != 0 {
-        return Outcome {
-            answer: code,
-            state: s,
-        };
+        return same(code, f);
     }
-    let w = s.sets[x];
-    if w == 0 {
-        return Outcome {
-            answer: 0,
-            state: s,
-        };
+    if sets[x] == 0 {
+        return same(0, f);
     }
-    shrink(s, x, 0, trail)
+    shrink(sets, f, x, 0, trail)
 }
 
 // Step 4: require x.
-pub fn require(s: State, n: usize, x: usize, trail: &mut [u64]) -> Outcome
-    requires { ⌜ (n ≤ 64) × (inForm n s ≡ true) ⌝ }
-    ensures { λ r. ⌜ requireStep n s (now (trail .entry)) x ≡ (r, now (trail .exit)) ⌝ }
+pub fn require(route: &[usize; 64], f: Figures, n: usize, x: usize, trail: &mut [u64]) -> Outcome
+    requires { ⌜ (n ≤ 64) × (length (now route) ≡ 64) × (f .stops ≤ 64) × ((i : ℕ) → i < f .stops → getD (now route) i 0 < 64) ⌝ }
+    ensures { λ r. ⌜ ((sets levels : List ℕ) → requireStep n (stateWith (now (route .entry)) sets levels f) (now (trail .entry)) x ≡ ran r (now (route .entry)) sets levels (now (trail .exit))) ⌝ }
 {
     let room = trail.len() / 2;
-    let i = s.records;
-    let marks = s.marks;
-    let code = require_refusal(&s.route, s.stops, marks, i, room, n, x);
+    let i = f.records;
+    let marks = f.marks;
+    let code = require_refusal(route, f.stops, marks, i, room, n, x);
     if code != 0 {
-        return Outcome {
-            answer: code,
-            state: s,
-        };
+        return same(code, f);
     }
     if bits::has(marks, x) {
-        return Outcome {
-            answer: 0,
-            state: s,
-        };
+        return same(0, f);
     }
     push(trail, i, 768 + x as u64, 0);
-    let mut t = s;
-    t.marks = bits::with(marks, x);
-    t.records = i + 1;
     Outcome {
         answer: 0,
-        state: t,
+        after: Figures {
+            stops: f.stops,
+            marks: bits::with(marks, x),
+            depth: f.depth,
+            records: i + 1,
+        },
     }
 }
 
-// Step 5, its sets known: the records of a settling, and the state with the new sets.
-pub fn settle(s: State, new: &[u64; 64], trail: &mut [u64]) -> Outcome
-    requires { ⌜ s .records ≤ roomOf (now trail) ⌝ }
-    ensures { λ r. ⌜ settleStep s (now (trail .entry)) (now (new .entry)) ≡ (r, now (trail .exit)) ⌝ }
+// Step 5, its sets known: the records of a settling, and the sets become the new ones.
+pub fn settle(sets: &mut [u64; 64], f: Figures, new: &[u64; 64], trail: &mut [u64]) -> Outcome
+    requires { ⌜ (length (now sets) ≡ 64) × (length (now new) ≡ 64) × (f .records ≤ roomOf (now trail)) ⌝ }
+    ensures { λ r. ⌜ ((route levels : List ℕ) → settleStep (stateWith route (now (sets .entry)) levels f) (now (trail .entry)) (now (new .entry)) ≡ ran r route (now (sets .exit)) levels (now (trail .exit))) ⌝ }
 {
     let room = trail.len() / 2;
-    let i = s.records;
-    let old = s.sets;
-    let more = needed(&old, new);
+    let i = f.records;
+    let more = needed(sets, new);
     if room < i + more {
-        return Outcome {
-            answer: ROOM,
-            state: s,
-        };
+        return same(ROOM, f);
     }
-    let mut t = s;
-    t.records = note(trail, i, &old, new);
-    let sets = *new;
-    t.sets = sets;
+    let records = note(trail, i, sets, new);
+    *sets = *new;
     Outcome {
         answer: 0,
-        state: t,
+        after: Figures {
+            stops: f.stops,
+            marks: f.marks,
+            depth: f.depth,
+            records: records,
+        },
     }
 }
 
 // Step 6: open a level.
-pub fn level(s: State) -> Outcome
-    ensures { λ r. ⌜ ((t : List ℕ) → levelStep s t ≡ (r, t)) ⌝ }
+pub fn level(levels: &mut [usize; 64], f: Figures) -> Outcome
+    requires { ⌜ length (now levels) ≡ 64 ⌝ }
+    ensures { λ r. ⌜ ((route sets t : List ℕ) → levelStep (stateWith route sets (now (levels .entry)) f) t ≡ ran r route sets (now (levels .exit)) t) ⌝ }
 {
-    let d = s.depth;
+    let d = f.depth;
     if State::LEVELS <= d {
-        return Outcome {
-            answer: LEVEL,
-            state: s,
-        };
+        return same(LEVEL, f);
     }
-    let mut t = s;
-    t.levels[d] = s.records;
-    t.depth = d + 1;
+    levels[d] = f.records;
     Outcome {
         answer: 0,
-        state: t,
+        after: Figures {
+            stops: f.stops,
+            marks: f.marks,
+            depth: d + 1,
+            records: f.records,
+        },
     }
 }
 
-// Refused: the state as it was.
-fn refused(number: usize, s: State) -> Outcome
-    ensures { λ r. ⌜ r ≡ outcome number s ⌝ }
+// Step 7: undo to the last level and drop it. The undoing is tried on copies, since a record that does not fit refuses all.
+pub fn back(
+    route: &mut [usize; 64],
+    sets: &mut [u64; 64],
+    levels: &mut [usize; 64],
+    f: Figures,
+    n: usize,
+    trail: &[u64],
+) -> Outcome
+    requires { ⌜ Sound n (board (now route) (f .stops) (now sets) (f .marks)) × (length (now levels) ≡ 64) × (formWith n (stateWith (now route) (now sets) (now levels) f) (roomOf (now trail)) ≡ true) ⌝ }
+    ensures { λ r. ⌜ backStep n (stateWith (now (route .entry)) (now (sets .entry)) (now (levels .entry)) f) (now (trail .entry)) ≡ ran r (now (route .exit)) (now (sets .exit)) (now (levels .exit)) (now (trail .entry)) ⌝ }
 {
-    Outcome {
-        answer: number,
-        state: s,
-    }
-}
-
-// Step 7: undo to the last level and drop it.
-pub fn back(s: State, n: usize, trail: &[u64]) -> Outcome
-    requires { ⌜ (n ≤ 64) × (formWith n s (roomOf (now trail)) ≡ true) ⌝ }
-    ensures { λ r. ⌜ backStep n s (now (trail .entry)) ≡ (r, now (trail .entry)) ⌝ }
-{
-    let depth = s.depth;
+    let depth = f.depth;
     if depth < 1 {
-        return refused(LEVEL, s);
+        return same(LEVEL, f);
     }
-    let mut levels = s.levels;
     let base = levels[depth - 1];
-    levels[depth - 1] = 0;
-    let mut route = s.route;
-    let mut sets = s.sets;
+    let mut stops = *route;
+    let mut places = *sets;
     let u = undo_many(
-        &mut route,
-        &mut sets,
-        s.stops,
-        s.marks,
+        &mut stops,
+        &mut places,
+        f.stops,
+        f.marks,
         n,
-        s.records,
+        f.records,
         base,
         trail,
     );
-    let t = State {
-        route: route,
-        stops: u.stops,
-        sets: sets,
-        marks: u.marks,
-        levels: levels,
-        depth: depth - 1,
-        records: base,
-    };
     if !u.fits {
-        return refused(MISFIT, s);
+        return same(MISFIT, f);
     }
+    levels[depth - 1] = 0;
+    *route = stops;
+    *sets = places;
     Outcome {
         answer: 0,
-        state: t,
+        after: Figures {
+            stops: u.stops,
+            marks: u.marks,
+            depth: depth - 1,
+            records: base,
+        },
     }
 }

@@ -1,36 +1,41 @@
 use mathlib.Core.Path.{_≡_, sym, _∙_}
 use Prim.Native.Nat.{_<_}
 use native.Mathlib.Omega.{arith}
-use Rattle.board.specs.Board.{boardOf, setOf}
-use Rattle.board.specs.FormLaws.{in-form, inner-in}
-use Rattle.board.proofs.Told.{told}
+use Rattle.board.specs.Board.{board, setOf}
+use Rattle.board.specs.FormLaws.{inner-in}
 use Rattle.trail.specs.Trail.{roomOf}
 use Rattle.trail.specs.Refusals.{placeRefusal}
 use Rattle.trail.specs.Steps.{closeStep}
+use Rattle.trail.specs.UndoLaws.{readable}
 use Rattle.trail.specs.StepLaws.{Placeable, placeable, step-no, step-yes}
 use borrow.Author.Needs.{needs}
 use Rattle.trail.proofs.steps.close.Statement.{statement}
 use Rattle.trail.proofs.steps.close.Tie as tie
 
-code : (c : tie.Else1) → let a = c .before .before .before .before .before .before .args in placeRefusal (a .n) (boardOf (a .t1)) (a .t1 .records) (roomOf (a .trail .now)) (a .p) (a .x) ≡ 0
+code : (c : tie.Else1) → let a = c .before .before .before .before .args in
+    placeRefusal (a .n) (board (a .route .now) (a .f .stops) (a .sets .now) (a .f .marks)) (a .f .records) (roomOf (a .trail .now)) (a .p) (a .x) ≡ 0
 unfolding roomOf
 code c = sym (c .before .place-refusal .ensures _) ∙ c .if1 .left
 
-ok : (c : tie.Else1) → let a = c .before .before .before .before .before .before .args in Placeable (a .n) (boardOf (a .t1)) (a .t1 .records) (roomOf (a .trail .now)) (a .p) (a .x)
+ok : (c : tie.Else1) → let a = c .before .before .before .before .args in
+    Placeable (a .n) (board (a .route .now) (a .f .stops) (a .sets .now) (a .f .marks)) (a .f .records) (roomOf (a .trail .now)) (a .p) (a .x)
 ok c = placeable _ _ _ _ _ _ (code c)
 
-low : (c : tie.Else1) → c .before .before .before .before .before .before .args .x < 64
-low c = omega (arith, inner-in _ _ (ok c .split .node) .1, c .before .before .before .before .before .before .pre .0)
+low : (c : tie.Else1) → c .before .before .before .before .args .x < 64
+low c = omega (arith, inner-in _ _ (ok c .split .node) .1, c .before .before .before .before .pre .small)
 
 place-refusal-requires : tie.Need-place-refusal-requires
-place-refusal-requires c κs =
-    let d = c .before .before .before .before in
-    let h = told (d .args .t1) _ (d .good .0) .wide in
-    (d .pre .0, omega (arith, in-form _ _ (d .pre .0) h (d .pre .1) .board .route .most), h .route)
+place-refusal-requires c κs = readable _ _ (c .before .before .pre)
+
+same-requires : tie.Need-same-requires
+same-requires c κs = search needs
 
 returns : tie.Need-returns
 unfolding closeStep roomOf
-returns c = rw (c .before .place-refusal .ensures (c .before .before .before .before .before .before .args .t1 .marks)) (step-no _ _ _ _ (λ e. c .if1 .taken (c .before .place-refusal .ensures _ ∙ e)))
+returns c =
+    let d = c .before .before in
+    λ levels. rw (c .same .ensures .0, c .same .ensures .1, d .place-refusal .ensures (d .before .before .before .args .f .marks))
+    (step-no _ _ _ _ (λ e. c .before .if1 .taken (d .place-refusal .ensures _ ∙ e)))
 
 mul-w : tie.Need-mul-w
 mul-w c = omega (arith, low c)
@@ -42,7 +47,7 @@ without-requires : tie.Need-without-requires
 without-requires c κs = search needs
 
 shrink-requires : tie.Need-shrink-requires
-shrink-requires c κs = let e = c .before .before .before in (low e, ok e .left)
+shrink-requires c κs = let e = c .before .before .before .before in (low e, ok e .left)
 
 same-length : tie.Need-same-length
 same-length c = search needs
@@ -52,13 +57,15 @@ unfolding closeStep setOf
 returns-2 c =
     let k = c .before .before in
     let w = k .before .before in
-    step-yes _ _ _ _ (code (w .before .before)) ∙ rw (w .without .ensures) at (k .shrink .ensures)
+    let e = w .before .before .before in
+    λ levels. step-yes _ _ _ _ (code e) ∙ rw (w .without .ensures) at (k .shrink .ensures (e .before .before .before .before .args .route .now) levels)
 
 pub close-spec : {M : Type 1} → statement M
 close-spec =
     tie.close
     (tie.spec
     place-refusal-requires
+    same-requires
     returns
     mul-w
     element-copy-out-w

@@ -6,22 +6,27 @@ use borrow.Author.Needs.{needs}
 use Rattle.trail.proofs.steps.level.Statement.{statement}
 use Rattle.trail.proofs.steps.level.Tie as tie
 
+same-requires : tie.Need-same-requires
+same-requires c κs = search needs
+
 returns : tie.Need-returns
 unfolding levelStep
-returns c = λ t. rw (le-ltb _ 64 (c .if1 .taken)) (step-no 18 _ t _ (eqb-false 18 0 refl))
+returns c = λ route sets t.
+    rw (c .same .ensures .0, c .same .ensures .1, le-ltb _ 64 (c .before .if1 .taken)) (step-no 18 _ t _ (eqb-false 18 0 refl))
 
-mul-t : tie.Need-mul-t
-mul-t c = search needs
+mul-levels : tie.Need-mul-levels
+mul-levels c = search needs
 
-element-write-t : tie.Need-element-write-t
-element-write-t c = search needs
+element-write-levels : tie.Need-element-write-levels
+element-write-levels c = search needs
 
-add-t : tie.Need-add-t
-add-t c = search needs
+add-t5 : tie.Need-add-t5
+add-t5 c = search needs
 
 returns-2 : tie.Need-returns-2
 unfolding levelStep
-returns-2 c = λ t. rw (lt-ltb _ 64 (c .if1 .left)) (step-yes 0 _ t _ refl)
+returns-2 c = λ route sets t. rw (lt-ltb _ 64 (c .if1 .left)) (step-yes 0 _ t _ refl)
 
 pub level-spec : {M : Type 1} → statement M
-level-spec = tie.close (tie.spec returns mul-t element-write-t add-t returns-2)
+level-spec =
+    tie.close (tie.spec same-requires returns mul-levels element-write-levels add-t5 returns-2)

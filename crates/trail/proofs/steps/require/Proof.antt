@@ -1,10 +1,10 @@
 use mathlib.Core.Path.{_≡_, sym, _∙_}
-use Prim.Native.Nat.{_<_}
+use mathlib.Core.List.{List, []}
+use Prim.Native.Nat.{ℕ, _<_}
 use native.Mathlib.Omega.{arith}
-use Rattle.board.specs.Board.{boardOf}
+use Rattle.board.specs.Board.{board}
 use Rattle.board.specs.Change.{marked}
-use Rattle.board.specs.FormLaws.{in-form, inner-in}
-use Rattle.board.proofs.Told.{told}
+use Rattle.board.specs.FormLaws.{inner-in}
 use Rattle.trail.specs.Trail.{roomOf}
 use Rattle.trail.specs.Refusals.{requireRefusal}
 use Rattle.trail.specs.Steps.{requireStep, recorded}
@@ -13,32 +13,42 @@ use borrow.Author.Needs.{needs}
 use Rattle.trail.proofs.steps.require.Statement.{statement}
 use Rattle.trail.proofs.steps.require.Tie as tie
 
-code : (c : tie.Else1) → let a = c .before .before .before .before .before .args in requireRefusal (a .n) (boardOf (a .t1)) (a .t1 .records) (roomOf (a .trail .now)) (a .x) ≡ 0
+code : (c : tie.Else1) (l : List ℕ) → let a = c .before .before .before .args in
+    requireRefusal (a .n) (board (a .route .now) (a .f .stops) l (a .f .marks)) (a .f .records) (roomOf (a .trail .now)) (a .x) ≡ 0
 unfolding roomOf
-code c = sym (c .before .require-refusal .ensures _) ∙ c .if1 .left
+code c l = sym (c .before .require-refusal .ensures l) ∙ c .if1 .left
 
-low : (c : tie.Else1) → c .before .before .before .before .before .args .x < 64
-low c = omega (arith, inner-in _ _ (requirable _ _ _ _ _ (code c) .0 .node) .1, c .before .before .before .before .before .pre .0)
+low : (c : tie.Else1) → c .before .before .before .args .x < 64
+low c = omega (arith, inner-in _ _ (requirable _ _ _ _ _ (code c []) .0 .node) .1, c .before .before .before .pre .0)
 
-room : (c : tie.Else2) → let a = c .before .before .before .before .before .before .before .args in a .t1 .records < roomOf (a .trail .now)
-room c = requirable _ _ _ _ _ (code (c .before .before)) .1 (sym (c .before .has .ensures) ∙ c .if2 .left)
+room : (c : tie.Else2) → let a = c .before .before .before .before .before .args in a .f .records < roomOf (a .trail .now)
+room c = requirable _ _ _ _ _ (code (c .before .before) []) .1 (sym (c .before .has .ensures) ∙ c .if2 .left)
 
 require-refusal-requires : tie.Need-require-refusal-requires
-require-refusal-requires c κs =
-    let d = c .before .before .before in
-    let h = told (d .args .t1) _ (d .good .0) .wide in
-    (d .pre .0, omega (arith, in-form _ _ (d .pre .0) h (d .pre .1) .board .route .most), h .route)
+require-refusal-requires c κs = search needs
+
+same-requires : tie.Need-same-requires
+same-requires c κs = search needs
 
 returns : tie.Need-returns
 unfolding requireStep roomOf
-returns c = rw (c .before .require-refusal .ensures (c .before .before .before .before .before .args .t1 .sets)) (step-no _ _ _ _ (λ e. c .if1 .taken (c .before .require-refusal .ensures _ ∙ e)))
+returns c =
+    let d = c .before .before in
+    λ sets levels. rw (c .same .ensures .0, c .same .ensures .1, d .require-refusal .ensures sets)
+    (step-no _ _ _ _ (λ e. c .before .if1 .taken (d .require-refusal .ensures sets ∙ e)))
 
 has-requires : tie.Need-has-requires
 has-requires c κs = search needs
 
+same-requires-2 : tie.Need-same-requires-2
+same-requires-2 c κs = search needs
+
 returns-2 : tie.Need-returns-2
 unfolding requireStep
-returns-2 c = rw (sym (c .before .has .ensures) ∙ c .if2 .taken) (step-yes _ _ _ _ (code (c .before .before)))
+returns-2 c =
+    let t = c .before in
+    λ sets levels. rw (c .same2 .ensures .0, c .same2 .ensures .1, sym (t .before .has .ensures) ∙ t .if2 .taken)
+    (step-yes _ _ _ _ (code (t .before .before) sets))
 
 add-push : tie.Need-add-push
 add-push c = omega (arith, low (c .before .before .before))
@@ -49,11 +59,11 @@ push-requires c κs = room (c .before)
 with-requires : tie.Need-with-requires
 with-requires c κs = search needs
 
-add-t : tie.Need-add-t
+add-t10 : tie.Need-add-t10
 unfolding roomOf
-add-t c =
+add-t10 c =
     let e = c .before .before .before .before .before in
-    omega (arith, room e, e .before .before .before .before .before .before .before .good)
+    omega (arith, room e, e .before .before .before .before .before .good)
 
 same-length : tie.Need-same-length
 same-length c = search needs
@@ -63,19 +73,21 @@ unfolding requireStep recorded marked
 returns-3 c =
     let p = c .before .before .before in
     let e = p .before .before in
-    rw (c .with .ensures, p .push .ensures, sym (e .before .has .ensures) ∙ e .if2 .left) (step-yes _ _ _ _ (code (e .before .before)))
+    λ sets levels. rw (c .with .ensures, p .push .ensures, sym (e .before .has .ensures) ∙ e .if2 .left) (step-yes _ _ _ _ (code (e .before .before) sets))
 
 pub require-spec : {M : Type 1} → statement M
 require-spec =
     tie.close
     (tie.spec
     require-refusal-requires
+    same-requires
     returns
     has-requires
+    same-requires-2
     returns-2
     add-push
     push-requires
     with-requires
-    add-t
+    add-t10
     same-length
     returns-3)

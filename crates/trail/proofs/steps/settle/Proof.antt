@@ -4,7 +4,7 @@ use Prim.Native.Nat.{ℕ, _+_, _/_}
 use lib.ListN.{length}
 use native.Mathlib.Omega.{arith}
 use borrow.Author.Tests.{lt-leb, le-leb, eqb-false}
-use Rattle.board.specs.Board.{board, onBoard}
+use Rattle.board.specs.Board.{stateOf}
 use Rattle.trail.specs.Trail.{roomOf, shrunk, Noted}
 use Rattle.trail.specs.TrailLaws.{note-all}
 use Rattle.trail.specs.Steps.{settleStep, answered}
@@ -18,13 +18,19 @@ needed-requires c κs = search needs
 
 add-if1 : tie.Need-add-if1
 unfolding roomOf
-add-if1 c = omega (arith, c .before .before .before .before .pre, c .needed .ensures .1, c .before .before .before .before .good)
+add-if1 c = let d = c .before .before .before in omega (arith, d .pre .2, c .needed .ensures .1, d .good)
+
+same-requires : tie.Need-same-requires
+same-requires c κs = search needs
 
 returns : tie.Need-returns
 unfolding settleStep roomOf
 returns c =
-    let a = c .before .before .before .before .before .args in
-    rw (lt-leb (a .s .records + shrunk (a .s .sets) (a .new .now) 64) (length (a .trail .now) / 2) (omega (arith, c .before .needed .ensures .0, c .if1 .taken))) (step-no 17 _ _ _ (eqb-false 17 0 refl))
+    let k = c .before .before in
+    let a = k .before .before .before .args in
+    let e = lt-leb (a .f .records + shrunk (a .sets .now) (a .new .now) 64) (length (a .trail .now) / 2)
+    (omega (arith, k .needed .ensures .0, c .before .if1 .taken)) in
+    λ route levels. rw (c .same .ensures .0, c .same .ensures .1, e) (step-no 17 _ _ _ (eqb-false 17 0 refl))
 
 note-requires : tie.Need-note-requires
 unfolding roomOf
@@ -38,14 +44,16 @@ unfolding settleStep roomOf
 returns-2 c =
     let k = c .before .before .before in
     let e = k .before .before .before in
-    let d = e .before .before .before .before .before in
-    let a = d .args in
+    let a = e .before .before .before .before .args in
     let n = k .note .ensures in
-    rw (le-leb (a .s .records + shrunk (a .s .sets) (a .new .now) 64) (length (a .trail .now) / 2) (omega (arith, e .before .needed .ensures .0, e .if1 .left)))
+    let h = le-leb (a .f .records + shrunk (a .sets .now) (a .new .now) 64) (length (a .trail .now) / 2)
+    (omega (arith, e .before .needed .ensures .0, e .if1 .left)) in
+    λ route levels. rw h
     (step-yes 0 _ _ _ refl
-    ∙ ap₂ (λ (i : ℕ) (t : List ℕ). answered 0 (onBoard (a .s) (board (a .s .route) (a .s .stops) (a .new .now) (a .s .marks)) i) t)
-    (sym (note-all (a .s .sets) (a .new .now) 64 (a .s .records) (a .trail .now) .0) ∙ ap (λ (b : Noted). b .0) n) (ap (λ (b : Noted). b .1) n))
+    ∙ ap₂ (λ (i : ℕ) (t : List ℕ). answered 0 (stateOf route (a .f .stops) (a .new .now) (a .f .marks) levels (a .f .depth) i) t)
+    (sym (note-all (a .sets .now) (a .new .now) 64 (a .f .records) (a .trail .now) .0) ∙ ap (λ (b : Noted). b .0) n) (ap (λ (b : Noted). b .1) n))
 
 pub settle-spec : {M : Type 1} → statement M
 settle-spec =
-    tie.close (tie.spec needed-requires add-if1 returns note-requires same-length returns-2)
+    tie.close
+    (tie.spec needed-requires add-if1 same-requires returns note-requires same-length returns-2)

@@ -20,22 +20,22 @@ element-copy-out-push c = search needs
 push-requires : tie.Need-push-requires
 push-requires c κs = search needs
 
-mul-t : tie.Need-mul-t
-mul-t c = search needs
+mul-sets : tie.Need-mul-sets
+mul-sets c = search needs
 
-element-write-t : tie.Need-element-write-t
-element-write-t c = search needs
+element-write-sets : tie.Need-element-write-sets
+element-write-sets c = search needs
 
-add-t : tie.Need-add-t
+add-t12 : tie.Need-add-t12
 unfolding roomOf
-add-t c = let d = c .before .before .before .before .before .before in omega (arith, d .pre .1, d .good)
+add-t12 c = let d = c .before .before .before .before .before .before in omega (arith, d .pre .1, d .good)
 
 same-length : tie.Need-same-length
 same-length c = search needs
 
 returns : tie.Need-returns
 unfolding recorded putSet setOf
-returns c = rw (c .before .before .push .ensures) refl
+returns c = λ route levels. rw (c .before .before .push .ensures) refl
 
 pub shrink-spec : {M : Type 1} → statement M
 shrink-spec =
@@ -45,8 +45,8 @@ shrink-spec =
     mul-push
     element-copy-out-push
     push-requires
-    mul-t
-    element-write-t
-    add-t
+    mul-sets
+    element-write-sets
+    add-t12
     same-length
     returns)

@@ -5,9 +5,8 @@ use borrow.Author.Tests.{not-true, not-false}
 use Rattle.board.specs.Board.{board, routeOf}
 use Rattle.board.specs.Change.{unmarked}
 use Rattle.trail.specs.Undo.{fitsMarked}
-use Rattle.trail.specs.UndoLaws.{undone-no, undone-yes, marked-test}
+use Rattle.trail.specs.UndoLaws.{readable, undone-no, undone-yes, marked-test}
 use borrow.Author.Needs.{needs}
-use native.Mathlib.Omega.{arith}
 use Rattle.trail.proofs.undo.undo_marked.Statement.{statement}
 use Rattle.trail.proofs.undo.undo_marked.Tie as tie
 
@@ -17,7 +16,7 @@ unfolding routeOf
 fits-is c = marked-test _ _ _ _ (c .before .before .pre) ∙ rw (c .has .ensures, c .before .position .ensures) refl
 
 position-requires : tie.Need-position-requires
-position-requires c κs = (omega (arith, c .pre .small, c .pre .form .route .most), c .pre .wide .route)
+position-requires c κs = let r = readable _ _ (c .pre) in (r .1, r .2)
 
 has-requires : tie.Need-has-requires
 has-requires c κs = search needs

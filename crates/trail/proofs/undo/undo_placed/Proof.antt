@@ -8,7 +8,7 @@ use Rattle.board.specs.Board.{board, routeOf, onRoute, legsOf, inner}
 use Rattle.board.specs.Change.{unplaced}
 use Rattle.board.specs.FormLaws.{inner-in, inner-inside}
 use Rattle.trail.specs.Undo.{fitsPlaced, stopBefore}
-use Rattle.trail.specs.UndoLaws.{undone-no, undone-yes, placed-out, placed-off, placed-on, placed-test}
+use Rattle.trail.specs.UndoLaws.{readable, undone-no, undone-yes, placed-out, placed-off, placed-on, placed-test}
 use Rattle.trail.proofs.undo.undo_placed.Statement.{statement}
 use Rattle.trail.proofs.undo.undo_placed.Tie as tie
 
@@ -37,7 +37,7 @@ returns : tie.Need-returns
 returns c = undone-no _ _ (placed-out _ _ _ _ (sym (c .before .inner .ensures) ∙ not-true _ (c .if1 .taken)))
 
 position-requires : tie.Need-position-requires
-position-requires c κs = let s = c .before .before .before .pre in (omega (arith, s .small, s .form .route .most), s .wide .route)
+position-requires c κs = let r = readable _ _ (c .before .before .before .pre) in (r .1, r .2)
 
 returns-2 : tie.Need-returns-2
 unfolding routeOf
@@ -47,7 +47,9 @@ sub-word : tie.Need-sub-word
 sub-word c = search needs
 
 word-requires : tie.Need-word-requires
-word-requires c κs = search needs
+word-requires c κs =
+    let r = readable _ _ (c .before .before .before .before .before .before .pre) in
+    (omega (arith, r .1), λ i h. r .3 i (omega arith))
 
 sub-before : tie.Need-sub-before
 unfolding routeOf

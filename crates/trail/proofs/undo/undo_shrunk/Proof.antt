@@ -6,7 +6,7 @@ use Rattle.board.specs.Board.{board, legsOf, setOf, inner}
 use Rattle.board.specs.Change.{putSet}
 use Rattle.board.specs.FormLaws.{inner-in}
 use Rattle.trail.specs.Undo.{fitsShrunk}
-use Rattle.trail.specs.UndoLaws.{undone-no, undone-yes, shrunk-out, shrunk-test}
+use Rattle.trail.specs.UndoLaws.{readable, undone-no, undone-yes, shrunk-out, shrunk-test}
 use borrow.Author.Needs.{needs}
 use native.Mathlib.Omega.{arith}
 use Rattle.trail.proofs.undo.undo_shrunk.Statement.{statement}
@@ -36,7 +36,9 @@ sub-word : tie.Need-sub-word
 sub-word c = omega (arith, c .before .before .pre .form .route .two)
 
 word-requires : tie.Need-word-requires
-word-requires c κs = omega (arith, c .before .before .pre .small, c .before .before .pre .form .route .most)
+word-requires c κs =
+    let r = readable _ _ (c .before .before .pre) in
+    (omega (arith, r .1), λ i h. r .3 i (omega arith))
 
 mul-v : tie.Need-mul-v
 mul-v c = omega (arith, low (c .before))
