@@ -1,16 +1,16 @@
 -- Where each node stands on a route of n stops in an array, and how that tells which jobs are aboard on a leg.
 use mathlib.Core.Path.{_≡_, refl, sym, ap, _∙_, subst}
 use Prim.Native.Nat.{ℕ, zero, suc, _+_, _-_, _<_, _≤_}
-use mathlib.Core.Bool.{true, false, cond, _&&_, and-true}
+use mathlib.Core.Bool.{Bool, true, false, cond, _&&_}
 use mathlib.Core.List.{List, [], _∷_}
 use mathlib.Core.Logic.{⊎-elim, _⊎_, inl, inr}
 use native.Mathlib.Numerals.{add-one}
 use native.Mathlib.Omega.{arith}
 use lib.Dec.{T, leb, ltb, eqb, eqb→eq, leb→le, le→leb, ltb→lt, lt→ltb}
-use borrow.Author.Tests.{eqb-true, eqb-false, eq-eqb, ne-eqb, ltb-true, ltb-false, lt-ltb, le-leb}
+use borrow.Author.Tests.{eqb-true, eqb-false, eq-eqb, ltb-true, ltb-false}
 use lib.ListN.{getD, set, replicate, take, drop, length, length-take, length-set, List·getD-eq-default}
 use lib.Seq.{getD-set-same, getD-set-other, getD-take}
-use Rattle.laws.specs.Logic.{decided, T-ext, or-l, or-r, or-e, true→T}
+use Rattle.laws.specs.Logic.{decided, T-ext, and-i, and-l, and-r, or-l, or-r, or-e, true→T}
 use Rattle.laws.specs.Lists.{mem}
 use Rattle.rules.specs.Rounds.{Distinct, none, more}
 use Rattle.rules.specs.Along.{behind}
@@ -135,38 +135,23 @@ found-drop x l zero f = subst (λ (v : ℕ). T (mem v l)) (f .is) (mem-at l (f .
 found-drop x [] (suc k) f = absurd (omega (arith, f .high))
 found-drop x (y ∷ l) (suc k) f = found-drop x l k (found-tail y l k x f)
 
--- ---- the legs that a job is aboard on, as a stretch
+-- ---- the legs that a job is aboard on
 
+-- how much a job's load is
 abbrev pub loadOf : Job → ℕ
 loadOf (Clean a w) = w
 loadOf (Soiled a w) = w
 loadOf (Transfer a b w) = w
 
--- the first leg that does not lead to x any more: none does where x is not on the route
-abbrev pub till : ℕ → ℕ
-till k = cond (eqb k 64) 0 k
+-- the i-th leg leads on to the stop k of a route
+abbrev leadsTo : ℕ → ℕ → Bool
+leadsTo i k = ltb i k && ltb k 64
 
--- the first leg that a job is aboard on, and the first behind those, where the nodes' spots on a route of n stops are in the array a
-abbrev pub comes : Job → List ℕ → ℕ
-comes (Clean x w) a = 0
-comes (Soiled x w) a = getD a x 64
-comes (Transfer x y w) a = getD a x 64
-
-abbrev pub goes : Job → List ℕ → ℕ → ℕ
-goes (Clean x w) a n = till (getD a x 64)
-goes (Soiled x w) a n = n - 1
-goes (Transfer x y w) a n = till (getD a y 64)
-
-till-low : (l : List ℕ) (n x : ℕ) → till (spot l n x) ≤ n - 1
-till-low l n x =
-    decided (eqb (spot l n x) 64) (λ e. rw e (omega arith))
-    (λ e. rw e (⊎-elim (λ p. absurd (eqb-false (spot l n x) 64 e (p .0))) (λ p. omega (arith, p .0)) (spot-cases l n x)))
-
--- no stretch goes past the last leg
-pub goes-low : (l : List ℕ) (n : ℕ) (a : List ℕ) → Spots l n a → (j : Job) → goes j a n ≤ n - 1
-goes-low l n a p (Clean x w) = rw (p .at x) (till-low l n x)
-goes-low l n a p (Soiled x w) = omega arith
-goes-low l n a p (Transfer x y w) = rw (p .at y) (till-low l n y)
+-- what a job has aboard on the i-th leg, where the nodes' stops are in the array a
+abbrev pub rides : List ℕ → Job → ℕ → ℕ
+rides a (Clean x w) i = cond (leadsTo i (getD a x 64)) w 0
+rides a (Soiled x w) i = cond (leb (getD a x 64) i) w 0
+rides a (Transfer x y w) i = cond (leb (getD a x 64) i && leadsTo i (getD a y 64)) w 0
 
 module _ (l : List ℕ) (n : ℕ) (most : n ≤ 64) (fits : n ≤ length l) {k : ℕ} (nodes : Distinct k (take n l)) where
   abbrev m : List ℕ
@@ -183,33 +168,29 @@ module _ (l : List ℕ) (n : ℕ) (most : n ≤ 64) (fits : n ≤ length l) {k :
       ⊎-elim (λ p. absurd (p .1 k h (sym (entry k h) ∙ e)))
       (λ p. same-stop nodes (spot l n x) k (omega (arith, p .0, size)) (omega (arith, size)) (entry (spot l n x) (p .0) ∙ p .1 ∙ sym e)) (spot-cases l n x)
 
+  -- x is behind on a leg whose stop is not before its own
   pub spot-behind : (x i : ℕ) → i < n → leb (spot l n x) i ≡ mem x (behind m (suc i))
   spot-behind x i h =
-      T-ext (leb (spot l n x) i) (mem x (behind m (suc i)))
-      (λ t. ⊎-elim (λ p. absurd (omega (arith, p .0, leb→le (spot l n x) i t)))
-      (λ p. found-behind x m (suc i) (record { i = spot l n x; low = omega arith; high = omega (arith, leb→le (spot l n x) i t); is = entry (spot l n x) (p .0) ∙ p .1 })) (spot-cases l n x))
-      (λ t. let f = behind-found x m (suc i) t in le→leb (spot l n x) i (omega (arith, f .high, spot-found x (f .i) (omega (arith, f .high)) (f .is))))
+      let k = spot l n x in
+      T-ext (leb k i) (mem x (behind m (suc i)))
+      (λ t. ⊎-elim (λ p. absurd (omega (arith, p .0, leb→le k i t)))
+      (λ p. let high = leb→le k i t in
+      found-behind x m (suc i) (record { i = k; low = omega arith; high = omega arith; is = entry k (p .0) ∙ p .1 })) (spot-cases l n x))
+      (λ t. let f = behind-found x m (suc i) t in le→leb k i (omega (arith, f .high, spot-found x (f .i) (omega (arith, f .high)) (f .is))))
 
-  pub spot-ahead : (x i : ℕ) → ltb i (till (spot l n x)) ≡ mem x (drop (suc i) m)
+  -- and ahead on one that leads to it
+  pub spot-ahead : (x i : ℕ) → leadsTo i (spot l n x) ≡ mem x (drop (suc i) m)
   spot-ahead x i =
-      T-ext (ltb i (till (spot l n x))) (mem x (drop (suc i) m))
-      (λ t. ⊎-elim (λ p. absurd (none-lt (p .0) t)) (λ p. found-drop x m (suc i) (record { i = spot l n x; low = some-lt (p .0) t; high = omega (arith, p .0, size); is = entry (spot l n x) (p .0) ∙ p .1 })) (spot-cases l n x))
-      (λ t. let f = drop-found x m (suc i) t in let g : f .i < n = omega (arith, f .high, size) in
-      let e = spot-found x (f .i) g (f .is) in lt→ltb i (till (spot l n x)) (subst (λ (k : ℕ). i < till k) (sym e) (near (f .i) g (f .low))))
-    where
-      none-lt : spot l n x ≡ 64 → T (ltb i (till (spot l n x))) → ⊥
-      none-lt e t = let q = ltb→lt i (till (spot l n x)) t in let z : till (spot l n x) ≡ 0 = ap till e in omega (arith, q, z)
+      let k = spot l n x in
+      T-ext (leadsTo i k) (mem x (drop (suc i) m))
+      (λ t. let low = ltb→lt i k (and-l (ltb i k) (ltb k 64) t) in
+      ⊎-elim (λ p. absurd (omega (arith, p .0, ltb→lt k 64 (and-r (ltb i k) (ltb k 64) t))))
+      (λ p. found-drop x m (suc i) (record { i = k; low = low; high = omega (arith, p .0, size); is = entry k (p .0) ∙ p .1 })) (spot-cases l n x))
+      (λ t. let f = drop-found x m (suc i) t in let e = spot-found x (f .i) (omega (arith, f .high, size)) (f .is) in
+      and-i (ltb i k) (ltb k 64) (lt→ltb i k (omega (arith, e, f .low))) (lt→ltb k 64 (omega (arith, e, f .high, size))))
 
-      near : (k : ℕ) → k < n → suc i ≤ k → i < till k
-      near k a b = let z : till k ≡ k = rw (ne-eqb k 64 (λ e. omega arith)) in omega (arith, z)
-
-      some-lt : spot l n x < n → T (ltb i (till (spot l n x))) → suc i ≤ spot l n x
-      some-lt a t =
-          let z : till (spot l n x) ≡ spot l n x = rw (ne-eqb (spot l n x) 64 (λ e. omega arith)) in omega (arith, z, ltb→lt i (till (spot l n x)) t)
-
-  -- a job is aboard on its stretch
-  pub aboard-is : (a : List ℕ) → Spots l n a → (j : Job) (i : ℕ) → i < n - 1
-      → aboard (behind m (suc i)) (drop (suc i) m) j ≡ cond (leb (comes j a) i && ltb i (goes j a n)) (loadOf j) 0
-  aboard-is a p (Clean x w) i h = rw (p .at x, spot-ahead x i, le-leb 0 i (omega arith))
-  aboard-is a p (Soiled x w) i h = rw (p .at x, spot-behind x i (omega arith), lt-ltb i (n - 1) h, and-true (mem x (behind m (suc i))))
+  -- what is aboard of a job, by the spots
+  pub aboard-is : (a : List ℕ) → Spots l n a → (j : Job) (i : ℕ) → i < n - 1 → aboard (behind m (suc i)) (drop (suc i) m) j ≡ rides a j i
+  aboard-is a p (Clean x w) i h = rw (p .at x, spot-ahead x i)
+  aboard-is a p (Soiled x w) i h = rw (p .at x, spot-behind x i (omega arith))
   aboard-is a p (Transfer x y w) i h = rw (p .at x, p .at y, spot-behind x i (omega arith), spot-ahead y i)

@@ -1,105 +1,89 @@
-// H: the load aboard on each leg.
+// H: the load aboard on each leg, by what comes aboard and what goes off at each stop.
 ghost use mathlib.Core.Path.{_≡_};
-ghost use Prim.Native.Nat.{ℕ, _+_, _-_, _*_, _<_, _≤_};
-ghost use lib.ListN.{take, getD, length};
+ghost use Prim.Native.Nat.{ℕ, _+_, _-_, _<_, _≤_};
+ghost use lib.ListN.{take, getD, length, replicate};
+ghost use Rattle.laws.specs.Sum.{sumBelow};
 ghost use Rattle.laws.specs.Table.{Filled};
 ghost use Rattle.rules.specs.Along.{loadAt};
 ghost use Rattle.sheet.specs.Place.{Laid};
 ghost use Rattle.day.specs.Tell.{dayOf};
 ghost use Rattle.along.specs.Route.{Route};
-ghost use Rattle.along.specs.Spots.{Spots, till, comes, goes, loadOf};
-ghost use Rattle.along.specs.Loads.{Added};
+ghost use Rattle.along.specs.Spots.{Spots, loadOf};
+ghost use Rattle.along.specs.Loads.{stowFirst, stowOn, stowOff, running};
 use crate::spots::spot;
 use rules::Job;
 use sheet::Layout;
 
-// The first leg that does not lead to the stop k any more.
-fn until(k: usize) -> usize
-    ensures { λ r. ⌜ r ≡ till k ⌝ }
-{
-    if k == 64 { 0 } else { k }
-}
-
-// The first leg that a job is aboard on.
-fn come(job: Job, at: &[usize; 64]) -> usize
-    requires { ⌜ length (now at) ≡ 64 ⌝ }
-    ensures { λ r. ⌜ r ≡ comes job (now (at .entry)) ⌝ }
+// One job's load: `on` and `off` have what comes aboard and goes off at each stop; the answer is what is aboard from the start. Nothing where
+// a node of the job is off the route, or a transfer in wrong order.
+pub fn stow(job: Job, at: &[usize; 64], on: &mut [usize; 64], off: &mut [usize; 64]) -> usize
+    requires { ⌜ (length (now at) ≡ 64) × (length (now on) ≡ 64) × (length (now off) ≡ 64) × (loadOf job < 4294967296) ⌝ }
+    requires { ⌜ ((i : ℕ) → getD (now on) i 0 < 1099511627776) × ((i : ℕ) → getD (now off) i 0 < 1099511627776) ⌝ }
+    ensures { λ r. ⌜ (r ≡ stowFirst job (now (at .entry))) × (now (on .exit) ≡ stowOn job (now (at .entry)) (now (on .entry))) × (now (off .exit) ≡ stowOff job (now (at .entry)) (now (off .entry))) ⌝ }
 {
     match job {
-        Job::Clean { node: _, load: _ } => 0,
-        Job::Soiled { node, load: _ } => spot(at, node),
-        Job::Transfer {
-            from,
-            to: _,
-            load: _,
-        } => spot(at, from),
+        Job::Clean { node, load } => {
+            let k = spot(at, node);
+            if 64 <= k {
+                return 0;
+            }
+            off[k] += load;
+            load
+        },
+        Job::Soiled { node, load } => {
+            let k = spot(at, node);
+            if k < 64 {
+                on[k] += load;
+            }
+            0
+        },
+        Job::Transfer { from, to, load } => {
+            let a = spot(at, from);
+            let b = spot(at, to);
+            if (a < b) & (b < 64) {
+                on[a] += load;
+                off[b] += load;
+            }
+            0
+        },
     }
 }
 
-// The first leg behind those that a job is aboard on.
-fn go(job: Job, at: &[usize; 64], stops: usize) -> usize
-    requires { ⌜ (length (now at) ≡ 64) × (1 ≤ stops) ⌝ }
-    ensures { λ r. ⌜ r ≡ goes job (now (at .entry)) stops ⌝ }
+// What is aboard on each leg: `first`, and what has come and gone up to its stop. It takes the place of what comes.
+pub fn run(on: &mut [usize; 64], off: &[usize; 64], first: usize, stops: usize)
+    requires { ⌜ (length (now on) ≡ 64) × (length (now off) ≡ 64) × (stops ≤ 64) ⌝ }
+    requires { ⌜ ((i : ℕ) → i + 1 < stops → first + sumBelow (i + 1) (λ k. getD (now on) k 0) < 4611686018427387904) × ((i : ℕ) → i + 1 < stops → sumBelow (i + 1) (λ k. getD (now off) k 0) ≤ first + sumBelow (i + 1) (λ k. getD (now on) k 0)) ⌝ }
+    ensures { λ _. ⌜ Filled 64 (running first (now (on .entry)) (now (off .entry))) 0 (stops - 1) (now (on .exit)) ⌝ }
 {
-    match job {
-        Job::Clean { node, load: _ } => until(spot(at, node)),
-        Job::Soiled { node: _, load: _ } => stops - 1,
-        Job::Transfer {
-            from: _,
-            to,
-            load: _,
-        } => until(spot(at, to)),
-    }
-}
-
-pub fn load_of(job: Job) -> usize
-    ensures { λ r. ⌜ r ≡ loadOf job ⌝ }
-{
-    match job {
-        Job::Clean { node: _, load } => load,
-        Job::Soiled { node: _, load } => load,
-        Job::Transfer {
-            from: _,
-            to: _,
-            load,
-        } => load,
-    }
-}
-
-// `load` more on the legs from `from` up to `to`.
-fn add(h: &mut [usize; 64], from: usize, to: usize, load: usize)
-    requires { ⌜ (length (now h) ≡ 64) × (to ≤ 64) × (load < 4294967296) × ((i : ℕ) → i < to → getD (now h) i 0 < 1099511627776) ⌝ }
-    ensures { λ _. ⌜ Added (now (h .entry)) from to load (now (h .exit)) ⌝ }
-{
-    let mut i = from;
-    while i < to {
-        let v = h[i];
-        h[i] = v + load;
+    let mut aboard = first;
+    let mut i = 0;
+    while i + 1 < stops {
+        aboard = aboard + on[i] - off[i];
+        on[i] = aboard;
         i += 1;
     }
 }
 
-// H: the load aboard on each leg of the route, where `spots` has each node's stop.
+// H: the load aboard on each leg of the route, where `spots` has each node's stop, into an array of zeros.
 pub fn loads(
     s: &[u8],
     at: Layout,
     route: &[usize; 64],
     stops: usize,
     spots: &[usize; 64],
-) -> [usize; 64]
-    requires { ⌜ Laid (now s) at × Route (at .nodes) (now route) stops × Spots (now route) stops (now spots) ⌝ }
-    ensures { λ r. ⌜ Filled 64 (loadAt (dayOf (now (s .entry))) (take stops (now (route .entry)))) 0 (stops - 1) r ⌝ }
+    h: &mut [usize; 64],
+)
+    requires { ⌜ Laid (now s) at × Route (at .nodes) (now route) stops × Spots (now route) stops (now spots) × (now h ≡ replicate 64 0) ⌝ }
+    ensures { λ _. ⌜ Filled 64 (loadAt (dayOf (now (s .entry))) (take stops (now (route .entry)))) 0 (stops - 1) (now (h .exit)) ⌝ }
 {
-    let mut h = [0usize; 64];
+    let mut off = [0usize; 64];
+    let mut first = 0;
     let m = at.jobs;
     let mut j = 0;
     while j < m {
         let job = day::jobs::job(s, at, j);
-        let from = come(job, spots);
-        let to = go(job, spots, stops);
-        let load = load_of(job);
-        add(&mut h, from, to, load);
+        first += stow(job, spots, h, &mut off);
         j += 1;
     }
-    h
+    run(h, &off, first, stops);
 }

@@ -1,22 +1,20 @@
 // Where each node stands on the route.
 ghost use Prim.Native.Nat.{ℕ, _<_, _≤_};
 ghost use mathlib.Core.Path.{_≡_};
-ghost use lib.ListN.{getD, length};
+ghost use lib.ListN.{getD, length, replicate};
 ghost use Rattle.along.specs.Spots.{Spots};
 
-// The stop of each node, 64 for a node off the route.
-pub fn spots(route: &[usize; 64], stops: usize) -> [usize; 64]
-    requires { ⌜ (length (now route) ≡ 64) × (stops ≤ 64) × ((i : ℕ) → i < stops → getD (now route) i 0 < 64) ⌝ }
-    ensures { λ r. ⌜ Spots (now (route .entry)) stops r ⌝ }
+// The stop of each node into an array that has 64, which stands for no stop, at every node.
+pub fn spots(route: &[usize; 64], stops: usize, at: &mut [usize; 64])
+    requires { ⌜ (length (now route) ≡ 64) × (stops ≤ 64) × ((i : ℕ) → i < stops → getD (now route) i 0 < 64) × (now at ≡ replicate 64 64) ⌝ }
+    ensures { λ _. ⌜ Spots (now (route .entry)) stops (now (at .exit)) ⌝ }
 {
-    let mut at = [64usize; 64];
     let mut i = 0;
     while i < stops {
         let x = route[i];
         at[x] = i;
         i += 1;
     }
-    at
 }
 
 // The stop of x; 64 for a number that is no node of the route.

@@ -1,7 +1,7 @@
 // E, L and the length of the route.
 ghost use mathlib.Core.Path.{_≡_};
-ghost use Prim.Native.Nat.{_+_, _*_, _<_, _≤_};
-ghost use lib.ListN.{take};
+ghost use Prim.Native.Nat.{_+_, _<_, _≤_};
+ghost use lib.ListN.{length, take};
 ghost use lib.IntN.{pos, _-ℤ_};
 ghost use lib.Signed.{mag, leZ};
 ghost use Rattle.laws.specs.Table.{Filled};
@@ -37,12 +37,11 @@ pub fn arrive(s: &[u8], at: Layout, t: usize, p: usize, x: usize) -> usize
     if e <= a { a } else { e }
 }
 
-// E: the start at each stop.
-pub fn starts(s: &[u8], at: Layout, route: &[usize; 64], stops: usize) -> [usize; 64]
-    requires { ⌜ Laid (now s) at × Route (at .nodes) (now route) stops ⌝ }
-    ensures { λ r. ⌜ Filled 64 (startAt (dayOf (now (s .entry))) (take stops (now (route .entry)))) 0 stops r ⌝ }
+// E: the start at each stop, into an array.
+pub fn starts(s: &[u8], at: Layout, route: &[usize; 64], stops: usize, e: &mut [usize; 64])
+    requires { ⌜ Laid (now s) at × Route (at .nodes) (now route) stops × (length (now e) ≡ 64) ⌝ }
+    ensures { λ _. ⌜ Filled 64 (startAt (dayOf (now (s .entry))) (take stops (now (route .entry)))) 0 stops (now (e .exit)) ⌝ }
 {
-    let mut e = [0usize; 64];
     let z = route[0];
     let mut t = earliest(s, at, z);
     e[0] = t;
@@ -54,7 +53,6 @@ pub fn starts(s: &[u8], at: Layout, route: &[usize; 64], stops: usize) -> [usize
         t = arrive(s, at, t, p, x);
         e[i] = t;
     }
-    e
 }
 
 // The last start at a stop: its own last moment, or what the last start at the next stop, `gap` seconds on, leaves of it.
@@ -74,12 +72,11 @@ pub fn in_time(t: usize, last: i64) -> bool
     t as i64 <= last
 }
 
-// L: the last start at each stop.
-pub fn lasts(s: &[u8], at: Layout, route: &[usize; 64], stops: usize) -> [i64; 64]
-    requires { ⌜ Laid (now s) at × Route (at .nodes) (now route) stops ⌝ }
-    ensures { λ r. ⌜ Filled 64 (lastAt (dayOf (now (s .entry))) (take stops (now (route .entry)))) (pos 0) stops r ⌝ }
+// L: the last start at each stop, into an array.
+pub fn lasts(s: &[u8], at: Layout, route: &[usize; 64], stops: usize, l: &mut [i64; 64])
+    requires { ⌜ Laid (now s) at × Route (at .nodes) (now route) stops × (length (now l) ≡ 64) ⌝ }
+    ensures { λ _. ⌜ Filled 64 (lastAt (dayOf (now (s .entry))) (take stops (now (route .entry)))) (pos 0) stops (now (l .exit)) ⌝ }
 {
-    let mut l = [0i64; 64];
     let mut i = stops - 1;
     let z = route[i];
     let mut t = last_moment(s, at, z);
@@ -92,7 +89,6 @@ pub fn lasts(s: &[u8], at: Layout, route: &[usize; 64], stops: usize) -> [i64; 6
         t = before(last_moment(s, at, p), t, gap);
         l[i] = t;
     }
-    l
 }
 
 // The metres of the route.

@@ -12,7 +12,7 @@ abbrev μ-loop : tie.MeasureT-loop
 μ-loop route stops at₀ i₀ at i = stops - i
 
 loop-holds : tie.Need-loop-holds Inv-loop μ-loop
-loop-holds c = (omega arith, spots-none _)
+loop-holds c = (omega arith, rw (c .pre .3) (spots-none _))
 
 mul-x : tie.Need-mul-x Inv-loop μ-loop
 mul-x c = omega arith
@@ -23,8 +23,8 @@ element-copy-out-x c = omega arith
 mul-at : tie.Need-mul-at Inv-loop μ-loop
 mul-at c = omega (arith, c .before .before .before .pre .2 (c .before .before .loop .i) (omega arith))
 
-array-write-at : tie.Need-array-write-at Inv-loop μ-loop
-array-write-at c = omega (arith, c .before .before .before .pre .2 (c .before .before .loop .i) (omega arith), c .before .before .loop .inv .1 .long)
+element-write-at : tie.Need-element-write-at Inv-loop μ-loop
+element-write-at c = omega (arith, c .before .before .before .pre .2 (c .before .before .loop .i) (omega arith), c .before .before .loop .inv .1 .long)
 
 add-i : tie.Need-add-i Inv-loop μ-loop
 add-i c = omega arith
@@ -49,7 +49,7 @@ spots-spec =
     mul-x
     element-copy-out-x
     mul-at
-    array-write-at
+    element-write-at
     add-i
     loop-less
     loop-again

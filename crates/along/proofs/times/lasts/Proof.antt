@@ -1,6 +1,6 @@
 use Rattle.along.proofs.Signed.{last-low, last-kept, moment-kept}
-use lib.ListN.{take, getD, replicate}
-use mathlib.Core.Path.{_≡_, refl, _∙_}
+use lib.ListN.{take, getD}
+use mathlib.Core.Path.{_≡_, _∙_}
 use Prim.Native.Nat.{_-_, _<_}
 use native.Mathlib.Omega.{arith}
 use lib.IntN.{pos}
@@ -31,11 +31,11 @@ element-copy-out-z c = omega arith
 last-moment-requires : tie.Need-last-moment-requires Inv-loop μ-loop
 last-moment-requires c κs = let p = c .before .before .pre in (p .0, node-at (p .1) (c .before .before .args .stops - 1) (omega arith))
 
-mul-l : tie.Need-mul-l Inv-loop μ-loop
-mul-l c = omega arith
+mul-t : tie.Need-mul-t Inv-loop μ-loop
+mul-t c = omega arith
 
-array-set-from-l : tie.Need-array-set-from-l Inv-loop μ-loop
-array-set-from-l c = omega arith
+element-set-from-t : tie.Need-element-set-from-t Inv-loop μ-loop
+element-set-from-t c = omega arith
 
 loop-holds : tie.Need-loop-holds Inv-loop μ-loop
 loop-holds c =
@@ -44,7 +44,7 @@ loop-holds c =
     let e =
     last-kept d (low (a .s .now)) (a .route .now) (a .stops) (a .stops - 1) (omega arith)
     (c .last-moment .ensures ∙ last-first d (a .route .now) (a .stops) (omega arith) (omega arith)) in
-    (omega arith, e, from-last _ _ (a .stops) (replicate 64 (pos 0)) _ refl (omega arith) (omega arith) e)
+    (omega arith, e, from-last _ _ (a .stops) (a .l .now) _ (c .before .before .before .pre .2) (omega arith) (omega arith) e)
 
 mul-k : tie.Need-mul-k Inv-loop μ-loop
 mul-k c = omega arith
@@ -90,11 +90,11 @@ before-requires c κs =
       rw (v .1) (last-low (dayOf (a .s .now)) (low (a .s .now)) (a .route .now) (a .stops) (c .before .before .before .before .before .before .loop .i) (omega arith)),
     )
 
-mul-l-2 : tie.Need-mul-l-2 Inv-loop μ-loop
-mul-l-2 c = omega arith
+mul-t-2 : tie.Need-mul-t-2 Inv-loop μ-loop
+mul-t-2 c = omega arith
 
-array-set-from-l-2 : tie.Need-array-set-from-l-2 Inv-loop μ-loop
-array-set-from-l-2 c = omega arith
+element-set-from-t-2 : tie.Need-element-set-from-t-2 Inv-loop μ-loop
+element-set-from-t-2 c = omega arith
 
 loop-less : tie.Need-loop-less Inv-loop μ-loop
 loop-less c = omega arith
@@ -125,8 +125,8 @@ lasts-spec =
     mul-z
     element-copy-out-z
     last-moment-requires
-    mul-l
-    array-set-from-l
+    mul-t
+    element-set-from-t
     loop-holds
     mul-k
     element-copy-out-k
@@ -138,8 +138,8 @@ lasts-spec =
     add-gap
     last-moment-requires-2
     before-requires
-    mul-l-2
-    array-set-from-l-2
+    mul-t-2
+    element-set-from-t-2
     loop-less
     loop-again
     returns)

@@ -1,7 +1,7 @@
-use mathlib.Core.Path.{_≡_, refl, _∙_}
+use mathlib.Core.Path.{_≡_, _∙_}
 use Prim.Native.Nat.{_+_, _-_, _<_}
 use native.Mathlib.Omega.{arith}
-use lib.ListN.{take, replicate}
+use lib.ListN.{take}
 use Rattle.laws.specs.Table.{Filled, filled-none, filled-more}
 use Rattle.rules.specs.Along.{startAt}
 use Rattle.day.specs.Tell.{dayOf}
@@ -22,14 +22,14 @@ element-copy-out-z c = omega (arith, c .before .pre .1 .long)
 earliest-requires : tie.Need-earliest-requires Inv-loop μ-loop
 earliest-requires c κs = (c .before .before .pre .0, node-at (c .before .before .pre .1) 0 (omega arith))
 
-array-write-e : tie.Need-array-write-e Inv-loop μ-loop
-array-write-e c = omega arith
+element-write-e : tie.Need-element-write-e Inv-loop μ-loop
+element-write-e c = omega arith
 
 loop-holds : tie.Need-loop-holds Inv-loop μ-loop
 loop-holds c =
     let a = c .before .before .before .args in
     let e : c .earliest .result ≡ startAt (dayOf (a .s .now)) (take (a .stops) (a .route .now)) 0 = c .earliest .ensures .is ∙ start-first (dayOf (a .s .now)) (a .route .now) (a .stops) (omega arith) in
-    (omega arith, e, filled-more _ (filled-none 64 _ 0 (replicate 64 0) refl) (omega arith) e)
+    (omega arith, e, filled-more _ (filled-none 64 _ 0 (a .e .now) (c .before .before .before .pre .2)) (omega arith) e)
 
 add-loop : tie.Need-add-loop Inv-loop μ-loop
 add-loop c = omega arith
@@ -62,8 +62,8 @@ arrive-requires c κs =
 mul-e : tie.Need-mul-e Inv-loop μ-loop
 mul-e c = omega arith
 
-array-write-e-2 : tie.Need-array-write-e-2 Inv-loop μ-loop
-array-write-e-2 c = omega arith
+element-write-e-2 : tie.Need-element-write-e-2 Inv-loop μ-loop
+element-write-e-2 c = omega arith
 
 loop-less : tie.Need-loop-less Inv-loop μ-loop
 loop-less c = omega arith
@@ -88,7 +88,7 @@ starts-spec =
     μ-loop
     element-copy-out-z
     earliest-requires
-    array-write-e
+    element-write-e
     loop-holds
     add-loop
     mul-p
@@ -98,7 +98,7 @@ starts-spec =
     element-copy-out-x
     arrive-requires
     mul-e
-    array-write-e-2
+    element-write-e-2
     loop-less
     loop-again
     returns)

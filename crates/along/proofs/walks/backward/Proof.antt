@@ -1,65 +1,78 @@
 use borrow.Author.Needs.{needs}
-use mathlib.Core.Path.{_≡_}
-use Prim.Native.Nat.{_≤_, _-_}
 use native.Mathlib.Omega.{arith}
-use Rattle.along.specs.Walks.{Kept, kept-none, kept-down, downFlag, ridesDown, down-first, down-next}
+use mathlib.Core.Path.{_≡_, _∙_, ap}
+use mathlib.Core.Logic.{⊎-elim}
+use Rattle.bits.specs.Places.{minus}
+use Rattle.along.specs.Walks.{downFlag}
+use Rattle.along.specs.Stretches.{Back, room, ahead, legs-under, legs-part, back-begin, back-through, back-turn, back-less}
 use Rattle.along.proofs.walks.backward.Statement.{statement}
 use Rattle.along.proofs.walks.backward.Tie as tie
 
 abbrev Inv-loop : tie.InvT-loop
-Inv-loop word route h legs ride w₀ ok₀ i₀ w ok i = (i ≤ legs) × (ok ≡ downFlag route h ride legs i) × Kept route i legs (ridesDown route h ride legs) word w
+Inv-loop word route heads h highest legs ride w₀ i₀ w i = Back route (room h ride) (ahead route ride) (ride .through) legs word i w
 
 abbrev μ-loop : tie.MeasureT-loop
-μ-loop word route h legs ride w₀ ok₀ i₀ w ok i = i
+μ-loop word route heads h highest legs ride w₀ i₀ w i = i
+
+fits-since-requires : tie.Need-fits-since-requires Inv-loop μ-loop
+fits-since-requires c κs = let p = c .before .pre in (legs-under (p .0) (p .2) (omega arith), p .0 .few, p .0 .low)
 
 loop-holds : tie.Need-loop-holds Inv-loop μ-loop
-loop-holds c = (omega arith, down-first _ _ _ _, kept-none _ _ _ _ _ (omega arith))
+loop-holds c =
+    ⊎-elim (λ w. rw (w .2) (back-through _ _ _ _ _ _ (w .0 .taken) (c .before .fits .word .fits) (w .1 .ensures)))
+    (λ w. rw (w .1) (back-begin _ _ _ _ _ _ (w .0 .left) (c .before .fits .word .fits))) (c .if1 .came)
 
-mul-k : tie.Need-mul-k Inv-loop μ-loop
-mul-k c = search needs
+alights-requires : tie.Need-alights-requires Inv-loop μ-loop
+alights-requires c κs = legs-part (c .before .before .before .pre .0) (c .before .loop .inv .done)
 
-element-copy-out-k : tie.Need-element-copy-out-k Inv-loop μ-loop
-element-copy-out-k c = search needs
+mul-minus : tie.Need-mul-minus Inv-loop μ-loop
+mul-minus c = search needs
 
-sub-i : tie.Need-sub-i Inv-loop μ-loop
-sub-i c = search needs
+element-copy-out-minus : tie.Need-element-copy-out-minus Inv-loop μ-loop
+element-copy-out-minus c = omega (arith, c .before .alights .ensures .high)
 
-mul-p : tie.Need-mul-p Inv-loop μ-loop
-mul-p c = search needs
+mul-minus-2 : tie.Need-mul-minus-2 Inv-loop μ-loop
+mul-minus-2 c = search needs
 
-element-copy-out-p : tie.Need-element-copy-out-p Inv-loop μ-loop
-element-copy-out-p c = search needs
+element-copy-out-minus-2 : tie.Need-element-copy-out-minus-2 Inv-loop μ-loop
+element-copy-out-minus-2 c = omega (arith, c .before .before .alights .ensures .high)
 
-mul-v : tie.Need-mul-v Inv-loop μ-loop
-mul-v c = search needs
+minus-requires : tie.Need-minus-requires Inv-loop μ-loop
+minus-requires c κs = search needs
 
-element-copy-out-v : tie.Need-element-copy-out-v Inv-loop μ-loop
-element-copy-out-v c = search needs
+minus-requires-2 : tie.Need-minus-requires-2 Inv-loop μ-loop
+minus-requires-2 c κs = search needs
 
-has-requires : tie.Need-has-requires Inv-loop μ-loop
-has-requires c κs = search needs
-
-add-room : tie.Need-add-room Inv-loop μ-loop
-add-room c =
-    omega (arith, c .before .before .before .before .before .before .before .before .pre .loads (c .before .before .before .before .before .before .before .loop .i - 1) (omega arith))
-
-strike-requires : tie.Need-strike-requires Inv-loop μ-loop
-strike-requires c κs = search needs
+fits-since-requires-2 : tie.Need-fits-since-requires-2 Inv-loop μ-loop
+fits-since-requires-2 c κs =
+    let t = c .before .before .before .before .before in
+    let p = t .before .before .before .before .pre in
+    let d = t .alights .ensures .high in
+    let g = t .before .before .loop .inv .done in
+    (legs-under (p .0) (p .2) (omega arith), omega (arith, p .0 .few), p .0 .low)
 
 loop-less : tie.Need-loop-less Inv-loop μ-loop
-loop-less c = search needs
+loop-less c =
+    let t = c .before .before .before .before .before .before in
+    let a = t .before .before .before .before .args in
+    let f = room (a .h .now) (a .ride) in
+    let m = ahead (a .route .now) (a .ride) in
+    omega (arith, back-less f m (t .before .loop-test .taken) (t .alights .ensures) (c .fits-since2 .ensures))
 
 loop-again : tie.Need-loop-again Inv-loop μ-loop
 loop-again c =
-    let v = c .before .before .before .before .before .before .before .before .before .loop .inv in
-    let a = c .before .before .before .before .before .before .before .before .before .before .args in
-    let e =
-    down-next (a .route .now) (a .h .now) (a .ride) (a .legs) (c .before .before .before .before .before .before .before .before .before .loop .i)
-    (omega arith) (omega arith) (c .before .before .before .has .ensures) (v .1) in
-    (omega arith, e, kept-down (omega arith) (omega arith) e (c .strike .ensures) (v .2))
+    let t = c .before .before .before .before .before .before in
+    let l = t .before .before in
+    let p = l .before .before .pre in
+    back-turn _ _ _ _ _ _ (p .0) (p .1) (l .loop .inv) (t .before .loop-test .taken) (t .alights .ensures) (c .fits-since2 .ensures)
+    (c .before .minus2 .ensures ∙ ap (minus (l .loop .w)) (c .before .before .minus .ensures))
 
 returns : tie.Need-returns Inv-loop μ-loop
-returns c = let v = c .before .loop .inv in let e : c .before .loop .i ≡ 0 = omega arith in rw e at (v .2)
+unfolding downFlag
+returns c =
+    let l = c .before in
+    let e : l .loop .i ≡ 0 = omega (arith, l .loop .inv .done) in
+    rw e at (l .loop .inv .kept)
 
 pub backward-spec : {M : Type 1} → statement M
 backward-spec =
@@ -67,17 +80,16 @@ backward-spec =
     (tie.spec
     Inv-loop
     μ-loop
+    fits-since-requires
     loop-holds
-    mul-k
-    element-copy-out-k
-    sub-i
-    mul-p
-    element-copy-out-p
-    mul-v
-    element-copy-out-v
-    has-requires
-    add-room
-    strike-requires
+    alights-requires
+    mul-minus
+    element-copy-out-minus
+    mul-minus-2
+    element-copy-out-minus-2
+    minus-requires
+    minus-requires-2
+    fits-since-requires-2
     loop-less
     loop-again
     returns)
