@@ -7,29 +7,35 @@ use native.Mathlib.Omega.{arith}
 use lib.Dec.{T, eqb→eq}
 use lib.IntN.{ℤ}
 use lib.ListN.{getD, take, length, length-take}
+use lib.Seq.{getD-take}
+use borrow.Author.Tests.{eqb-false}
 use Rattle.laws.specs.Logic.{decided, true→T}
 use Rattle.bits.specs.Places.{has}
 use Rattle.bits.specs.Members.{has-none}
 use Rattle.rules.specs.Day.{Van}
 use Rattle.rules.specs.Settle.{round, settle}
 use Rattle.rules.specs.Asked.{endsWith}
-use Rattle.rules.proofs.AlongLaws.{leg-index}
+use Rattle.rules.proofs.AlongLaws.{leg-index, stops-apart}
 use Rattle.rules.proofs.Left.{_⊆_, round-less}
 use Rattle.rules.proofs.Inner.{inner-low}
 use Rattle.rules.proofs.Fixpoint.{Seen, settle-less}
 use Rattle.rules.proofs.Forms.{formed-seen, fewer-formed}
 use Rattle.sheet.specs.Section.{mOf}
 use Rattle.sheet.specs.declared.Layout.{Layout}
+use Rattle.rules.specs.declared.Job.{Job}
+use Rattle.sheet.specs.Place.{Laid}
 use Rattle.day.specs.Jobs.{jobIn}
+use Rattle.day.specs.Seen.{Placed}
+use Rattle.day.specs.Fit.{placed-job}
 use Rattle.day.specs.Tell.{dayOf}
 use Rattle.along.specs.Route.{Route, node-at, low, job-low}
-use Rattle.along.specs.Times.{start-low, length-low}
-use Rattle.along.specs.Spots.{node-low}
+use Rattle.along.specs.Times.{start-low}
+use Rattle.along.specs.Spots.{Spots, loadOf, node-low, spot-in, spot-found}
 use Rattle.along.specs.Loads.{load-at-low}
 use Rattle.along.specs.Walks.{Legs}
 use Rattle.settle.specs.Sets.{placesOf, setsOf, Small, word-ext, length-sets, places-sets}
-use Rattle.settle.specs.Round.{Timed}
-use Rattle.settle.specs.Ready.{Ready, Read, nodes-are, nodes-most}
+use Rattle.settle.specs.Round.{Timed, Spotted, Named, Walked, walked-load}
+use Rattle.settle.specs.Ready.{Ready, Read, nodes-are, nodes-most, jobs-are}
 
 some-stops : (k : ℕ) → 1 ≤ k → (tail : List ℕ) → T (endsWith k (0 ∷ tail)) → 1 ≤ length tail
 some-stops k h [] t = absurd (omega (arith, eqb→eq 0 k t))
@@ -72,16 +78,31 @@ module _ {s : List ℕ} {at : Layout} {l : List ℕ} {n : ℕ} {ws : List ℕ} {
   past-nodes y h = word-ext (getD ws y 0) 0 (λ p. decided (has (getD ws y 0) p)
       (λ t. absurd (omega (arith, inner-low (dayOf s) (r .form .inside y p (true→T _ t)) .1, nodes-are (r .laid)))) (λ t. t ∙ sym (has-none p)))
 
-  module _ {e : List ℕ} {z : List ℤ} {h : List ℕ} {total : ℕ} (read : Read (dayOf s) l n e z h total) where
-    pub timed : (limit : ℕ) → limit < 1099511627776 → Timed (at .nodes) l e z (n - 1) total limit
+  -- the spots have the leg of each stop, and of each place
+  module _ {at′ : List ℕ} (p : Spots l n at′) where
+    leg-at : (i : ℕ) → i < n → getD at′ (getD l i 0) 0 ≡ i
+    leg-at i h = spot-in at′ (getD l i 0) (omega (arith, near-nodes i h, p .long)) ∙ p .at (getD l i 0)
+        ∙ spot-found l n (r .most) (omega (arith, r .long, r .most)) (r .form .nodes) (getD l i 0) i h (getD-take n l i 0 h)
+
+    pub spotted : Spotted l at′ (n - 1)
+    spotted = record { is = λ i h. leg-at i (omega arith) }
+
+    pub named : (y : ℕ) → Named l at′ (n - 1) (getD ws y 0)
+    named y = record {
+      leg = λ q t.
+          let a = leg-index q m (r .form .leg y q t) in
+          let h : a .0 < n - 1 = omega (arith, a .1, size) in
+          let e : getD l (a .0) 0 ≡ q = sym (getD-take n l (a .0) 0 (omega arith)) ∙ a .2 in
+          let f : getD at′ q 0 ≡ a .0 = ap (λ (k : ℕ). getD at′ k 0) (sym e) ∙ leg-at (a .0) (omega arith) in
+          (omega (arith, f), ap (λ (i : ℕ). getD l i 0) f ∙ e);
+    }
+
+  module _ {e : List ℕ} {z : List ℤ} {h : List ℕ} (read : Read (dayOf s) l n e z h) where
+    pub timed : (limit : ℕ) → limit < 1099511627776 → Timed (at .nodes) l e (n - 1) limit
     timed limit b = record {
       few = omega (arith, two-stops, r .most);
       nodes = λ i k. node-at route-of i (omega (arith, two-stops));
-      route = r .long;
-      starts = read .starts .long;
-      lasts = read .lasts .long;
       times = λ i k. omega (arith, read .starts .at i (omega arith), start-low (dayOf s) (low s) m i (omega (arith, r .most)));
-      whole = omega (arith, read .metres, length-low (dayOf s) (low s) l n (r .most));
       bound = b;
     }
 
@@ -92,7 +113,17 @@ module _ {s : List ℕ} {at : Layout} {l : List ℕ} {n : ℕ} {ws : List ℕ} {
       few = omega (arith, two-stops, r .most);
       low = omega arith;
       loads = λ i k. omega (arith, read .loads .at i k, load-at-low (jobIn s) m (mOf s) i (job-low s) (r .laid .fine .m-high));
+      nodes = λ i k. near-nodes i (omega arith);
+      apart = λ i j k g e. eqb-false (getD m j 0) (getD m i 0) (stops-apart (r .form .nodes) j i g (omega (arith, size)))
+          (getD-take n l j 0 (omega arith) ∙ e ∙ sym (getD-take n l i 0 (omega arith)));
     }
+
+-- a job's nodes have words, and its load is far from the end of 64 bits
+pub asked : {s : List ℕ} {at : Layout} → Laid s at → {l heads h : List ℕ} {highest legs : ℕ} → Walked l heads h highest legs 0 → (i : ℕ) → i < at .jobs → {j : Job}
+    → j ≡ jobIn s i
+    → Placed j × Walked l heads h highest legs (loadOf j)
+asked {s} p w i h e =
+    (subst Placed (sym e) (placed-job s (p .fine) i (omega (arith, jobs-are p))), walked-load (subst (λ (j : Job). loadOf j < 4294967296) (sym e) (job-low s i)) w)
 
 -- the words after a round are as ready as those before
 pub ready-round : {s : List ℕ} {at : Layout} {l : List ℕ} {n : ℕ} {ws : List ℕ} {marks : ℕ} (v : Van) → Ready s at l n ws marks → {vs : List ℕ}

@@ -25,7 +25,7 @@ use Rattle.rules.specs.declared.Job.the-variants.{Clean, Soiled, Transfer}
 use Rattle.rules.proofs.AlongLaws.{atLeg, ahead-next, ahead-end, back-first, back-next, reach-ahead-next, reach-ahead-end, reach-back-first, reach-back-next, mem-at}
 use Rattle.along.specs.Walks.{walkUp, walkDown, upFlag, downFlag, fitsAt, metBehind, metAhead, through, between, ridesUp, ridesDown}
 use Rattle.settle.specs.Sets.{placesOf}
-use Rattle.settle.specs.Round.{loadOk}
+use Rattle.settle.specs.Round.{pairOk, loadOk}
 
 pub and-swap : (a b c e : Bool) → ((a && b) && (c && e)) ≡ ((a && c) && (b && e))
 and-swap true true c e = refl
@@ -154,12 +154,19 @@ module _ (v : Van) (d : Day) (l h : List ℕ) (n : ℕ) (two : 2 ≤ n) (fits : 
         next : (j : ℕ) → j < n - 1 → getD m (suc j) 0 ≡ getD l (j + 1) 0
         next j q = rw (add-one j) (getD-take n l (suc j) 0 (omega arith))
 
-    -- a job's load test from arrays is the rules' four
-    pub load-is : (x i : ℕ) → i < n - 1 → (j : Job) → loadOk j old l h (n - 1) cap x i
+    -- a transfer's tests from arrays are the rules' two, and a job's are the rules' four
+    pub pair-is : (x i : ℕ) → i < n - 1 → (j : Job) → pairOk old l h (n - 1) cap j x i
+        ≡ (meetsPartner v d m x (behind m (suc i)) (drop (suc i) m) j && hasSupport v d m o x (behind m (suc i)) (drop (suc i) m) j)
+    unfolding pairOk
+    pair-is x i k (Clean a w) = refl
+    pair-is x i k (Soiled a w) = refl
+    pair-is x i k (Transfer a b w) =
+        (λ u. first-is x a b w i k u && second-is x a b w i k u) ∙ and-swap (meetB x a b w i) (holdB x a b w i) (meetA x a b w i) (holdA x a b w i)
+
+    pub load-is : (x i : ℕ) → i < n - 1 → (j : Job) → loadOk old l h (n - 1) cap j x i
         ≡ (cleanFits v d x (behind m (suc i)) (drop (suc i) m) j && soiledFits v d x (behind m (suc i)) (drop (suc i) m) j
         && (meetsPartner v d m x (behind m (suc i)) (drop (suc i) m) j && hasSupport v d m o x (behind m (suc i)) (drop (suc i) m) j))
-    unfolding loadOk
+    unfolding loadOk pairOk
     load-is x i k (Clean a w) = ap (λ (b : Bool). not (eqb a x) || b) (clean-is w i k) ∙ sym (and-true _) ∙ sym (and-true _)
     load-is x i k (Soiled a w) = ap (λ (b : Bool). not (eqb a x) || b) (soiled-is w i k) ∙ sym (and-true _)
-    load-is x i k (Transfer a b w) =
-        (λ u. first-is x a b w i k u && second-is x a b w i k u) ∙ and-swap (meetB x a b w i) (holdB x a b w i) (meetA x a b w i) (holdA x a b w i)
+    load-is x i k (Transfer a b w) = pair-is x i k (Transfer a b w)

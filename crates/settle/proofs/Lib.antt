@@ -3,6 +3,7 @@ pub mod Rounds
 pub mod Struck
 pub mod Facts
 pub mod Order
+pub mod Marks
 pub mod Owed
 pub mod Road
 pub mod Again

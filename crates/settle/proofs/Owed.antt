@@ -1,6 +1,6 @@
 -- No node is owed and has no place: by the marks, then by the transfers, each of which calls for its other end.
 use mathlib.Core.Path.{_≡_, sym, ap, _∙_, subst}
-use Prim.Native.Nat.{ℕ, _+_, _-_}
+use Prim.Native.Nat.{ℕ, _≤_}
 use mathlib.Core.Bool.{Bool, false, not, _&&_, _||_}
 use mathlib.Core.List.{List}
 use mathlib.Core.Logic.{⊎-elim}
@@ -20,12 +20,13 @@ use Rattle.rules.specs.Asked.{Proper}
 use Rattle.rules.specs.Verdict.{partnered, owed, hasPlace}
 use Rattle.rules.specs.declared.Job.{Job}
 use Rattle.rules.specs.declared.Job.the-variants.{Clean, Soiled, Transfer}
-use Rattle.rules.proofs.Inner.{inner-low, mem-down}
+use Rattle.rules.proofs.Inner.{inner-low}
 use Rattle.rules.proofs.AlongLaws.{leg-index, mem-at}
 use Rattle.settle.specs.Sets.{placesOf, word-ext}
 use Rattle.settle.specs.Verdict.{standing, markOk, endsOk}
 
-module _ (d : Day) (m ws : List ℕ) (marks : ℕ) (proper : Proper d) (leg : (y q : ℕ) → T (placesOf ws y q) → T (mem q (legStops m))) where
+module _ (d : Day) (m ws : List ℕ) (marks : ℕ) (proper : Proper d) (small : d .n ≤ 64)
+    (leg : (y q : ℕ) → T (placesOf ws y q) → T (mem q (legStops m))) (inside : (y : ℕ) → T (has marks y) → In y (inner d)) where
   abbrev plan : Plan
   plan = record { route = m; places = placesOf ws; marks = has marks }
 
@@ -42,9 +43,10 @@ module _ (d : Day) (m ws : List ℕ) (marks : ℕ) (proper : Proper d) (leg : (y
 
   open-word : (x : ℕ) → T (hasPlace plan x) → T (not (eqb (getD ws x 0) 0))
   open-word x t =
-      any-e (placesOf ws x) m
-      (λ q i u. ⊎-elim (λ e. absurd (subst (λ (b : Bool). T b) (ap (λ (w : ℕ). has w q) (eqb→eq (getD ws x 0) 0 e) ∙ has-none q) u)) (λ e. e) (tf (eqb (getD ws x 0) 0)))
-      t
+      any-e (placesOf ws x) m (λ q i u. ⊎-elim (λ e. absurd (subst (λ (b : Bool). T b) (none q e) u)) (λ e. e) (tf (eqb (getD ws x 0) 0))) t
+    where
+      none : (q : ℕ) → T (eqb (getD ws x 0) 0) → has (getD ws x 0) q ≡ false
+      none q e = ap (λ (w : ℕ). has w q) (eqb→eq (getD ws x 0) 0 e) ∙ has-none q
 
   word-open : (x : ℕ) → T (not (eqb (getD ws x 0) 0)) → T (hasPlace plan x)
   word-open x t =
@@ -92,15 +94,16 @@ module _ (d : Day) (m ws : List ℕ) (marks : ℕ) (proper : Proper d) (leg : (y
   abbrev after : ℕ → ℕ → Bool
   after a b = not (call a) || stand b
 
+  -- the end at x of a job that keeps its ends, where the other end is called for
   partner : (x : ℕ) (q : Job) → T (endsOk on ws marks q) → T (partnered call x q) → T (stand x)
   unfolding endsOk
   partner x (Clean a w) t u = absurd u
   partner x (Soiled a w) t u = absurd u
   partner x (Transfer a b w) t u =
-      ⊎-elim
-      (λ v. subst (λ (y : ℕ). T (stand y)) (eqb→eq a x (and-l (eqb a x) (call b) v)) (imp-e (call b) (stand a) (and-r (after a b) (after b a) t) (and-r (eqb a x) (call b) v)))
-      (λ v. subst (λ (y : ℕ). T (stand y)) (eqb→eq b x (and-l (eqb b x) (call a) v)) (imp-e (call a) (stand b) (and-l (after a b) (after b a) t) (and-r (eqb b x) (call a) v)))
-      (or-e (eqb a x && call b) (eqb b x && call a) u)
+      ⊎-elim (end a b (and-r (after a b) (after b a) t)) (end b a (and-l (after a b) (after b a) t)) (or-e (eqb a x && call b) (eqb b x && call a) u)
+    where
+      end : (a b : ℕ) → T (after b a) → T (eqb a x && call b) → T (stand x)
+      end a b t v = subst (λ (y : ℕ). T (stand y)) (eqb→eq a x (and-l (eqb a x) (call b) v)) (imp-e (call b) (stand a) t (and-r (eqb a x) (call b) v))
 
   ends : (q : Job) → In q (d .jobs) → ((x : ℕ) → In x (inner d) → T (Ok x)) → T (endsOk on ws marks q)
   unfolding endsOk
@@ -109,23 +112,34 @@ module _ (d : Day) (m ws : List ℕ) (marks : ℕ) (proper : Proper d) (leg : (y
   ends (Transfer a b w) i f =
       let p = proper .ends a b w i in
       and-i (after a b) (after b a)
-      (imp-i (call a) (stand b) (λ u. ok-stand b (f b (p .1)) (or-r (has marks b) (any (partnered call b) (d .jobs)) (any-i (partnered call b) i (or-r (eqb a b && call b) (eqb b b && call a) (and-i (eqb b b) (call a) (eqb-refl b) u))))))
-      (imp-i (call b) (stand a) (λ u. ok-stand a (f a (p .0)) (or-r (has marks a) (any (partnered call a) (d .jobs)) (any-i (partnered call a) i (or-l (eqb a a && call b) (eqb b a && call a) (and-i (eqb a a) (call b) (eqb-refl a) u))))))
+      (end a b (f b (p .1)) (λ u. or-r (eqb a b && call b) (eqb b b && call a) (and-i (eqb b b) (call a) (eqb-refl b) u)))
+      (end b a (f a (p .0)) (λ u. or-l (eqb a a && call b) (eqb b a && call a) (and-i (eqb a a) (call b) (eqb-refl a) u)))
+    where
+      end : (c e : ℕ) → T (Ok e) → (T (call c) → T (partnered call e (Transfer a b w))) → T (after c e)
+      end c e o g = imp-i (call c) (stand e) (λ u. ok-stand e o (or-r (has marks e) (any (partnered call e) (d .jobs)) (any-i (partnered call e) i (g u))))
 
   -- ---- both ways
 
-  marked : (x : ℕ) → In x (inner d) → T (allBelow (d .n - 2) (markOk on ws marks)) → T (has marks x) → T (stand x)
-  unfolding markOk
-  marked x i p u = let a = inner-low d i in let e : x - 1 + 1 ≡ x = omega (arith, a .0) in
-      subst (λ (y : ℕ). T (stand y)) e (imp-e (has marks (x - 1 + 1)) (stand (x - 1 + 1))
-      (true→T _ (below-at (d .n - 2) (x - 1) (markOk on ws marks) (T→true _ p) (omega (arith, a .0, a .1)))) (subst (λ (y : ℕ). T (has marks y)) (sym e) u))
+  abbrev Marks : Bool
+  Marks = allBelow 64 (markOk on ws marks)
 
-  pub owed-is : (allBelow (d .n - 2) (markOk on ws marks) && all (endsOk on ws marks) (d .jobs)) ≡ all Ok (inner d)
+  abbrev Ends : Bool
+  Ends = all (endsOk on ws marks) (d .jobs)
+
+  marked : (x : ℕ) → T Marks → T (has marks x) → T (stand x)
   unfolding markOk
-  owed-is = T-ext (allBelow (d .n - 2) (markOk on ws marks) && all (endsOk on ws marks) (d .jobs)) (all Ok (inner d))
-      (λ t. let p = and-l (allBelow (d .n - 2) (markOk on ws marks)) (all (endsOk on ws marks) (d .jobs)) t in let q = and-r (allBelow (d .n - 2) (markOk on ws marks)) (all (endsOk on ws marks) (d .jobs)) t in
-      all-i Ok (inner d) (λ x i. stand-ok x (λ u. ⊎-elim (marked x i p) (any-e (partnered call x) (d .jobs) (λ j k v. partner x j (all-in (endsOk on ws marks) q k) v)) (or-e (has marks x) (any (partnered call x) (d .jobs)) u))))
-      (λ t. and-i (allBelow (d .n - 2) (markOk on ws marks)) (all (endsOk on ws marks) (d .jobs))
-      (true→T _ (below-make (d .n - 2) (markOk on ws marks) (λ i h. T→true _ (imp-i (has marks (i + 1)) (stand (i + 1)) (λ u.
-      ok-stand (i + 1) (all-in Ok t (mem-in (i + 1) (inner d) (mem-down (d .n - 2) (i + 1) (omega arith) (omega arith)))) (or-l (has marks (i + 1)) (any (partnered call (i + 1)) (d .jobs)) u))))))
-      (all-i (endsOk on ws marks) (d .jobs) (λ q i. ends q i (λ x k. all-in Ok t k))))
+  marked x p u =
+      imp-e (has marks x) (stand x) (true→T _ (below-at 64 x (markOk on ws marks) (T→true _ p) (omega (arith, inner-low d (inside x u) .1, small)))) u
+
+  all-marked : ((x : ℕ) → In x (inner d) → T (Ok x)) → T Marks
+  unfolding markOk
+  all-marked f =
+      true→T _ (below-make 64 (markOk on ws marks) (λ x h. T→true _ (imp-i (has marks x) (stand x)
+      (λ u. ok-stand x (f x (inside x u)) (or-l (has marks x) (any (partnered call x) (d .jobs)) u)))))
+
+  pub owed-is : (Marks && Ends) ≡ all Ok (inner d)
+  owed-is = T-ext (Marks && Ends) (all Ok (inner d))
+      (λ t. all-i Ok (inner d) (λ x i. stand-ok x (λ u. ⊎-elim (marked x (and-l Marks Ends t))
+      (any-e (partnered call x) (d .jobs) (λ j k v. partner x j (all-in (endsOk on ws marks) (and-r Marks Ends t) k) v))
+      (or-e (has marks x) (any (partnered call x) (d .jobs)) u))))
+      (λ t. and-i Marks Ends (all-marked (λ x k. all-in Ok t k)) (all-i (endsOk on ws marks) (d .jobs) (λ q i. ends q i (λ x k. all-in Ok t k))))

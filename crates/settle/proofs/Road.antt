@@ -1,31 +1,38 @@
--- The route's part of the verdict, and the whole of it, from what the code finds in its arrays.
+-- Who is owed, and the verdict, from what the code finds in its arrays.
 use mathlib.Core.Path.{_≡_, refl, sym, ap, _∙_}
-use Prim.Native.Nat.{ℕ, _-_, _≤_}
-use mathlib.Core.Bool.{Bool, true, false, not, _&&_, _||_}
+use Prim.Native.Nat.{ℕ, _+_, _-_, _<_, _≤_}
+use mathlib.Core.Bool.{Bool, true, false, not, _&&_, _||_, and-comm, and-assoc}
 use mathlib.Core.List.{List, [], _∷_}
 use native.Mathlib.Omega.{arith}
-use lib.Dec.{T, leb}
+use lib.Dec.{leb}
 use lib.ListN.{getD, take, length, length-take}
 use lib.Seq.{getD-take}
 use Rattle.laws.specs.Lists.{mem, all, any}
-use Rattle.laws.specs.Below.{allBelow, below-same}
-use Rattle.laws.specs.Table.{tab}
+use Rattle.laws.specs.Below.{allBelow, below-same, below-both}
+use Rattle.laws.specs.Table.{tab, Filled}
 use Rattle.bits.specs.Places.{has}
 use Rattle.rules.specs.Day.{Day, Van, inner}
-use Rattle.rules.specs.Leg.{everyLeg, legStops}
+use Rattle.rules.specs.Leg.{everyLeg}
 use Rattle.rules.specs.Time.{inTime, onTime}
 use Rattle.rules.specs.Metres.{driven}
 use Rattle.rules.specs.Load.{carries}
+use Rattle.rules.specs.Plan.{Plan}
 use Rattle.rules.specs.Rounds.{Distinct}
-use Rattle.rules.specs.Asked.{Proper}
+use Rattle.rules.specs.Asked.{Proper, Formed}
 use Rattle.rules.specs.Verdict.{partnered, owed, hasPlace, wrongWay, alive}
-use Rattle.rules.specs.Along.{startAt}
+use Rattle.rules.specs.Along.{startAt, loadAt}
 use Rattle.rules.specs.declared.Job.{Job}
 use Rattle.rules.proofs.AlongLaws.{atLeg, on-time-all, every-all}
-use Rattle.along.specs.Spots.{Spots}
-use Rattle.settle.specs.Sets.{placesOf, planFrom}
-use Rattle.settle.specs.Ready.{Ridden, roadOk}
-use Rattle.settle.specs.Verdict.{onSpot, called, markOk, endsOk, orderOk, ofJob}
+use Rattle.sheet.specs.declared.Layout.{Layout}
+use Rattle.day.specs.Jobs.{jobIn}
+use Rattle.day.specs.Tell.{dayOf}
+use Rattle.day.specs.Asked.{proper}
+use Rattle.along.specs.Spots.{Spots, loadOf}
+use Rattle.along.specs.Route.{job-low}
+use Rattle.along.specs.Loads.{Stowed, stowFirst, stowOn, stowOff, running, stowed-more, stowed-loads}
+use Rattle.settle.specs.Sets.{planFrom}
+use Rattle.settle.specs.Ready.{Ready, jobs-are}
+use Rattle.settle.specs.Verdict.{onSpot, called, markOk, endsOk, orderOk, jobOk, ofJob, nodesOk}
 use Rattle.settle.proofs.Rounds.{below-tab}
 use Rattle.settle.proofs.Order.{on-is, order-is}
 use Rattle.settle.proofs.Owed.{owed-is}
@@ -38,13 +45,25 @@ any-all f (x ∷ l) = go (f x) ∙ ap (λ (b : Bool). f x || b) (any-all f l)
     go true = refl
     go false = refl
 
+-- ---- the windows, stop by stop
+
+-- the k-th start of m is not too late
+abbrev pub startOk : Day → List ℕ → ℕ → Bool
+startOk d m k = inTime d (getD m k 0) (startAt d m k)
+
+pub start-told : (d : Day) (l : List ℕ) (n i : ℕ) {t w : ℕ} → i < n → t ≡ startAt d (take n l) i → w ≡ d .latest (getD l i 0)
+    → startOk d (take n l) i ≡ leb t w
+start-told d l n i h e f = λ u. leb (sym e u) ((ap (d .latest) (getD-take n l i 0 h) ∙ sym f) u)
+
+pub windows-told : (d : Day) (l : List ℕ) (n : ℕ) → n ≤ length l → onTime d [] (take n l) ≡ allBelow n (startOk d (take n l))
+windows-told d l n h =
+    let e : length (take n l) ≡ n = simp length-take (omega arith) in
+    on-time-all d (take n l) ∙ ap (λ (q : ℕ). allBelow q (startOk d (take n l))) e
+
 module _ (d : Day) (g : ℕ → Job) (jobs : ℕ) (told : d .jobs ≡ tab jobs g) (l : List ℕ) (n : ℕ) (long : length l ≡ 64) (most : n ≤ 64) {k : ℕ}
     (nodes : Distinct k (take n l)) (spots : List ℕ) (at : Spots l n spots) where
   abbrev m : List ℕ
   m = take n l
-
-  size : length m ≡ n
-  size = simp length-take (omega arith)
 
   -- who has a stop is on the route
   on-all : onSpot spots ≡ (λ x. mem x m)
@@ -64,46 +83,90 @@ module _ (d : Day) (g : ℕ → Job) (jobs : ℕ) (told : d .jobs ≡ tab jobs g
           ∙ ap not (below-tab (λ j. not (partnered (λ y. has marks y || mem y m) x j)) jobs g)
           ∙ any-all (partnered (λ y. has marks y || mem y m) x) (tab jobs g) ∙ ap (any (partnered (λ y. has marks y || mem y m) x)) (sym told)
 
-  -- ---- the route
+  -- ---- what the nodes have to keep: by the marks, by both ends of the transfers, by their order
 
-  module _ (v : Van) (e h : List ℕ) (total : ℕ) (ridden : Ridden d l n e h total) where
-    windows : allBelow n (λ i. inTime d (getD l i 0) (getD e i 0)) ≡ onTime d [] m
-    windows =
-        below-same n _ (λ i. inTime d (getD m i 0) (startAt d m i)) (λ i b. λ u. inTime d (sym (getD-take n l i 0 b) u) (ridden .starts .at i b u))
-        ∙ ap (λ (q : ℕ). allBelow q (λ i. inTime d (getD m i 0) (startAt d m i))) (sym size) ∙ sym (on-time-all d m)
+  abbrev Order : Bool
+  Order = allBelow jobs (ofJob (orderOk spots) g)
 
-    loads : allBelow (n - 1) (λ i. leb (getD h i 0) (v .capacity)) ≡ everyLeg (carries v d) m
-    loads =
-        below-same (n - 1) _ (atLeg (carries v d) m) (λ i b. ap (λ (q : ℕ). leb q (v .capacity)) (ridden .loads .at i b))
-        ∙ ap (λ (q : ℕ). allBelow (q - 1) (atLeg (carries v d) m)) (sym size) ∙ sym (every-all (carries v d) m)
+  order : Order ≡ all (λ j. not (wrongWay m j)) (d .jobs)
+  order =
+      below-same jobs _ (λ q. not (wrongWay m (g q))) (λ q b. order-is l n most (omega arith) nodes spots at (g q))
+      ∙ below-tab (λ j. not (wrongWay m j)) jobs g ∙ ap (all (λ j. not (wrongWay m j))) (sym told)
 
-    order : allBelow jobs (ofJob (orderOk spots) g) ≡ all (λ j. not (wrongWay m j)) (d .jobs)
-    order =
-        below-same jobs _ (λ q. not (wrongWay m (g q))) (λ q b. order-is l n most (omega arith) nodes spots at (g q))
-        ∙ below-tab (λ j. not (wrongWay m j)) jobs g ∙ ap (all (λ j. not (wrongWay m j))) (sym told)
+  module _ (ws : List ℕ) (marks : ℕ) (proper : Proper d) (small : d .n ≤ 64) (form : Formed d (planFrom l n ws marks)) where
+    abbrev Marks : (ℕ → Bool) → Bool
+    Marks on = allBelow 64 (markOk on ws marks)
 
-    pub road-told : {a b c : Bool} → a ≡ allBelow n (λ i. inTime d (getD l i 0) (getD e i 0)) → b ≡ allBelow (n - 1) (λ i. leb (getD h i 0) (v .capacity))
-        → c ≡ allBelow jobs (ofJob (orderOk spots) g)
-        → (((a && leb total (v .limit)) && b) && c) ≡ roadOk v d m
-    unfolding roadOk
-    road-told a b c = λ u. (((a ∙ windows) u && leb (ridden .metres u) (v .limit)) && (b ∙ loads) u) && (c ∙ order) u
+    abbrev Ends : (ℕ → Bool) → Bool
+    Ends on = allBelow jobs (ofJob (endsOk on ws marks) g)
 
-  -- ---- the whole
+    owing : Marks (onSpot spots) && Ends (onSpot spots) ≡ all (λ x. not (owed d m (has marks) x) || hasPlace (planFrom l n ws marks) x) (inner d)
+    owing =
+        (λ u. Marks (on-all u) && Ends (on-all u))
+        ∙ ap (λ (b : Bool). Marks (λ x. mem x m) && b)
+        (below-tab (endsOk (λ x. mem x m) ws marks) jobs g ∙ ap (all (endsOk (λ x. mem x m) ws marks)) (sym told))
+        ∙ owed-is d m ws marks proper small (form .leg) (form .marked)
 
-  whole : (o t q b c : Bool) → (o && (((t && q) && b) && c)) ≡ ((((o && t) && q) && b) && c)
-  whole true t q b c = refl
-  whole false t q b c = refl
+    -- with the loads, in the order in which the code asks
+    nodes-told : (v : Van) {b c e : Bool} → b ≡ Marks (onSpot spots) → c ≡ allBelow jobs (ofJob (jobOk spots ws marks) g) → e ≡ everyLeg (carries v d) m
+        → (b && (c && e)) ≡ nodesOk v d (planFrom l n ws marks)
+    unfolding nodesOk
+    nodes-told v b c e =
+        (λ u. b u && ((c ∙ both) u && e u)) ∙ turn (Marks (onSpot spots)) (Ends (onSpot spots)) Order (everyLeg (carries v d) m)
+        ∙ (λ u. (owing u && everyLeg (carries v d) m) && order u)
+      where
+        both : allBelow jobs (ofJob (jobOk spots ws marks) g) ≡ (Ends (onSpot spots) && Order)
+        both = below-both jobs (ofJob (endsOk (onSpot spots) ws marks) g) (ofJob (orderOk spots) g) (ofJob (jobOk spots ws marks) g) (λ i. refl)
 
-  pub alive-told : (v : Van) (ws : List ℕ) (marks : ℕ) (nn : ℕ) → nn ≡ d .n → Proper d → ((y q : ℕ) → T (placesOf ws y q) → T (mem q (legStops m)))
-      → {o r : Bool} → o ≡ (allBelow (nn - 2) (markOk (onSpot spots) ws marks) && allBelow jobs (ofJob (endsOk (onSpot spots) ws marks) g)) → r ≡ roadOk v d m
-      → (o && r) ≡ alive v d (planFrom l n ws marks)
-  unfolding roadOk alive
-  alive-told v ws marks nn en proper leg {o} {r} e f =
-      (λ u. (e ∙ standing-all ∙ owed-is d m ws marks proper leg) u && f u)
-      ∙ whole (all (λ x. not (owed d m (has marks) x) || hasPlace (planFrom l n ws marks) x) (inner d)) (onTime d [] m) (leb (driven d m) (v .limit)) (everyLeg (carries v d) m) (all (λ j. not (wrongWay m j)) (d .jobs))
+        turn : (a b c e : Bool) → (a && ((b && c) && e)) ≡ (((a && b) && e) && c)
+        turn true true c e = and-comm c e
+        turn true false c e = refl
+        turn false b c e = refl
+
+-- ---- of a state that is ready
+
+module _ {s : List ℕ} {at : Layout} {l : List ℕ} {n : ℕ} {ws : List ℕ} {marks : ℕ} (r : Ready s at l n ws marks) where
+  -- one job more is stowed
+  pub stow-next : {a : List ℕ} {q : Job} {j first : ℕ} {on off : List ℕ} → Spots l n a → q ≡ jobIn s j → Stowed (jobIn s) l n j first on off
+      → Stowed (jobIn s) l n (j + 1) (first + stowFirst q a) (stowOn q a on) (stowOff q a off)
+  stow-next {j = j} sp e p =
+      stowed-more (jobIn s) l n j (r .most) (omega (arith, r .long, r .most)) (r .form .nodes) sp e (omega (arith, ap loadOf e, job-low s j)) p
+
+  -- all are, and the legs keep to the capacity
+  pub loads-told : (v : Van) {j first : ℕ} {on off h : List ℕ} → j ≡ at .jobs → Stowed (jobIn s) l n j first on off
+      → Filled 64 (running first on off) 0 (n - 1) h
+      → allBelow (n - 1) (λ i. leb (getD h i 0) (v .capacity)) ≡ everyLeg (carries v (dayOf s)) (take n l)
+  loads-told v {j} {h = h} e p q =
+      below-same (n - 1) _ (atLeg (carries v (dayOf s)) (take n l)) (λ i b. ap (λ (k : ℕ). leb k (v .capacity)) (f .at i b))
+      ∙ ap (λ (k : ℕ). allBelow (k - 1) (atLeg (carries v (dayOf s)) (take n l))) (sym size) ∙ sym (every-all (carries v (dayOf s)) (take n l))
     where
-      standing-all : (allBelow (nn - 2) (markOk (onSpot spots) ws marks) && allBelow jobs (ofJob (endsOk (onSpot spots) ws marks) g))
-          ≡ (allBelow (d .n - 2) (markOk (λ x. mem x m) ws marks) && all (endsOk (λ x. mem x m) ws marks) (d .jobs))
-      standing-all =
-          (λ u. allBelow (en u - 2) (markOk (on-all u) ws marks) && allBelow jobs (ofJob (endsOk (on-all u) ws marks) g))
-          ∙ ap (λ (b : Bool). allBelow (d .n - 2) (markOk (λ x. mem x m) ws marks) && b) (below-tab (endsOk (λ x. mem x m) ws marks) jobs g ∙ ap (all (endsOk (λ x. mem x m) ws marks)) (sym told))
+      size : length (take n l) ≡ n
+      size = let a = r .long in let b = r .most in simp length-take (omega arith)
+
+      f : Filled 64 (loadAt (dayOf s) (take n l)) 0 (n - 1) h
+      f = rw (e ∙ jobs-are (r .laid)) at (stowed-loads p q)
+
+  pub nodes-ready : (v : Van) {spots : List ℕ} → Spots l n spots → {b c e : Bool} → b ≡ allBelow 64 (markOk (onSpot spots) ws marks)
+      → c ≡ allBelow (at .jobs) (ofJob (jobOk spots ws marks) (jobIn s)) → e ≡ everyLeg (carries v (dayOf s)) (take n l)
+      → (b && (c && e)) ≡ nodesOk v (dayOf s) (planFrom l n ws marks)
+  nodes-ready v {spots} sp =
+      nodes-told (dayOf s) (jobIn s) (at .jobs) (ap (λ (k : ℕ). tab k (jobIn s)) (sym (jobs-are (r .laid)))) l n (r .long) (r .most)
+      (r .form .nodes) spots sp ws marks (proper s (r .clear)) (r .laid .fine .n-high) (r .form) v
+
+-- ---- the whole
+
+-- the verdict from its three parts, in the order in which the code asks
+pub alive-told : (v : Van) (d : Day) (a : Plan) {t q r : Bool} → t ≡ onTime d [] (a .route) → q ≡ leb (driven d (a .route)) (v .limit) → r ≡ nodesOk v d a
+    → (t && (q && r)) ≡ alive v d a
+unfolding nodesOk alive
+alive-told v d a t q r =
+    (λ u. t u && (q u && r u))
+    ∙ turn (all (λ x. not (owed d (a .route) (a .marks) x) || hasPlace a x) (inner d)) (onTime d [] (a .route)) (leb (driven d (a .route)) (v .limit))
+    (everyLeg (carries v d) (a .route)) (all (λ j. not (wrongWay (a .route) j)) (d .jobs))
+  where
+    turn : (o t q b c : Bool) → (t && (q && ((o && b) && c))) ≡ ((((o && t) && q) && b) && c)
+    turn true true q b c = sym (and-assoc q b c)
+    turn true false q b c = refl
+    turn false true true b c = refl
+    turn false true false b c = refl
+    turn false false q b c = refl

@@ -6,29 +6,29 @@ use mathlib.Core.List.{List, [], _∷_}
 use native.Mathlib.Numerals.{add-one}
 use native.Mathlib.Omega.{arith}
 use lib.Dec.{T}
-use lib.IntN.{ℤ}
+use lib.IntN.{ℤ, pos}
 use lib.ListN.{getD, take, drop, length, length-take}
 use lib.Seq.{getD-take}
-use Rattle.laws.specs.Logic.{decided, T-ext, true→T, and-r}
-use Rattle.laws.specs.Lists.{mem, all}
+use Rattle.laws.specs.Logic.{decided, T-ext, true→T, and-i, and-r}
+use Rattle.laws.specs.Lists.{here, there, mem, all}
 use Rattle.laws.specs.Below.{allBelow, below-same}
-use Rattle.laws.specs.Table.{tab}
+use Rattle.laws.specs.Table.{tab, Filled}
 use Rattle.rules.specs.Day.{Day, Van}
 use Rattle.rules.specs.Leg.{onLeg, legStops}
 use Rattle.rules.specs.Plan.{Places}
 use Rattle.rules.specs.Rounds.{Distinct}
 use Rattle.rules.specs.Tests.{cleanFits, soiledFits, meetsPartner, hasSupport, window, short, clean, soiled, partnerPlaced, neitherPlaced, stays}
 use Rattle.rules.specs.Settle.{round}
-use Rattle.rules.specs.Along.{behind}
+use Rattle.rules.specs.Metres.{driven}
+use Rattle.rules.specs.Along.{behind, startAt, lastAt, loadAt}
 use Rattle.rules.specs.declared.Job.{Job}
 use Rattle.rules.proofs.AlongLaws.{atLeg, window-at, short-at, on-leg, leg-index}
 use Rattle.rules.proofs.Twice.{restays}
-use Rattle.rules.proofs.Left.{round-less, round-leg, round-left}
+use Rattle.rules.proofs.Left.{stays-e, round-less, round-leg, round-left}
 use Rattle.along.specs.Spots.{node-low}
 use Rattle.settle.specs.Sets.{placesOf, setsOf, sets-ext}
-use Rattle.settle.specs.Round.{Kepts, stands, standsAt, loadsOk, placeOk}
-use Rattle.settle.specs.Ready.{Read}
-use Rattle.settle.proofs.Legs.{and-swap, load-is}
+use Rattle.settle.specs.Round.{Kepts, stands, standsAt, pairOk, loadOk, jobsOk, placeOk}
+use Rattle.settle.proofs.Legs.{and-swap, pair-is, load-is}
 
 -- ---- tests of a list of jobs
 
@@ -50,7 +50,7 @@ below-tab f (suc n) g = below-front n (λ k. f (g k)) ∙ ap (λ (b : Bool). f (
 
 module _ (v : Van) (d : Day) (g : ℕ → Job) (jobs : ℕ) (told : d .jobs ≡ tab jobs g) (l : List ℕ) (n : ℕ) (long : length l ≡ 64) (two : 2 ≤ n) (most : n ≤ 64)
     (small : d .n ≤ 64)
-    (nodes : Distinct (d .n) (take n l)) (e : List ℕ) (z : List ℤ) (h : List ℕ) (total : ℕ) (read : Read d l n e z h total) where
+    (nodes : Distinct (d .n) (take n l)) (h : List ℕ) (loads : Filled 64 (loadAt d (take n l)) 0 (n - 1) h) where
   abbrev m : List ℕ
   m = take n l
 
@@ -60,74 +60,63 @@ module _ (v : Van) (d : Day) (g : ℕ → Job) (jobs : ℕ) (told : d .jobs ≡ 
   near : (i : ℕ) → i < n → getD l i 0 < 64
   near i k = omega (arith, node-low nodes i (omega (arith, size)), getD-take n l i 0 k)
 
-  stands-is : (o : Places) (x i : ℕ) → i < n - 1 → standsAt d (v .limit) l e z total x i ≡ (atLeg (window v d m o x) m i && atLeg (short v d m o x) m i)
-  unfolding stands
-  stands-is o x i k =
-      rw (add-one i, read .starts .at i (omega arith), read .lasts .at (suc i) (omega arith), read .metres, ← getD-take n l i 0 (omega arith), ← getD-take n l (suc i) 0 (omega arith))
-      (λ u. sym (window-at v d m o x m i (omega (arith, size))) u && sym (short-at v d m o x m i (omega (arith, size))) u)
-
   module _ (old : List ℕ) (off : (y q : ℕ) → T (placesOf old y q) → T (not (mem y m))) (leg : (y q : ℕ) → T (placesOf old y q) → T (mem q (legStops m))) where
     abbrev o : Places
     o = placesOf old
 
-    loads-is : (x i : ℕ) → i < n - 1 → loadsOk g old l h (n - 1) (v .capacity) jobs x i
-        ≡ ((atLeg (clean v d m o x) m i && atLeg (soiled v d m o x) m i) && (atLeg (partnerPlaced v d m o x) m i && atLeg (neitherPlaced v d m o x) m i))
-    unfolding loadsOk
-    loads-is x i k =
-        below-same jobs _ (λ q. Four (g q)) (λ q w. load-is v d l h n two (omega arith) near (read .loads) old off x i k (g q))
-        ∙ below-tab Four jobs g ∙ ap (all Four) (sym told)
-        ∙ all-both (λ j. C j && S j) (λ j. P j && N j) (d .jobs)
-        ∙ (λ u. all-both C S (d .jobs) u && all-both P N (d .jobs) u)
+    -- ---- the tests of all jobs
+
+    module _ (x i : ℕ) (k : i < n - 1) where
+      abbrev C : Job → Bool
+      C = cleanFits v d x (behind m (suc i)) (drop (suc i) m)
+
+      abbrev S : Job → Bool
+      S = soiledFits v d x (behind m (suc i)) (drop (suc i) m)
+
+      abbrev P : Job → Bool
+      P = meetsPartner v d m x (behind m (suc i)) (drop (suc i) m)
+
+      abbrev N : Job → Bool
+      N = hasSupport v d m o x (behind m (suc i)) (drop (suc i) m)
+
+      jobs-is : (f : Job → ℕ → ℕ → Bool) (r : Job → Bool) → ((j : Job) → f j x i ≡ r j) → jobsOk f g jobs x i ≡ all r (d .jobs)
+      unfolding jobsOk
+      jobs-is f r e = below-same jobs _ (λ q. r (g q)) (λ q w. e (g q)) ∙ below-tab r jobs g ∙ ap (all r) (sym told)
+
+      pairs-is : jobsOk (pairOk old l h (n - 1) (v .capacity)) g jobs x i ≡ (atLeg (partnerPlaced v d m o x) m i && atLeg (neitherPlaced v d m o x) m i)
+      pairs-is = jobs-is _ (λ j. P j && N j) (pair-is v d l h n two (omega arith) near loads old off x i k) ∙ all-both P N (d .jobs)
+
+      loads-is : jobsOk (loadOk old l h (n - 1) (v .capacity)) g jobs x i
+          ≡ ((atLeg (clean v d m o x) m i && atLeg (soiled v d m o x) m i) && (atLeg (partnerPlaced v d m o x) m i && atLeg (neitherPlaced v d m o x) m i))
+      loads-is =
+          jobs-is _ (λ j. (C j && S j) && (P j && N j)) (load-is v d l h n two (omega arith) near loads old off x i k)
+          ∙ all-both (λ j. C j && S j) (λ j. P j && N j) (d .jobs) ∙ (λ u. all-both C S (d .jobs) u && all-both P N (d .jobs) u)
+
+    -- ---- words that keep what passes f are the words of the rules' round, where f tells of each open place whether it stays
+
+    abbrev Tells : (ℕ → ℕ → Bool) → Type 0
+    Tells f = (x i : ℕ) → i < n - 1 → T (o x (getD m i 0)) → f x i ≡ atLeg (stays v d m o x) m i
+
+    left-places : (f : ℕ → ℕ → Bool) → Tells f → (new : List ℕ) → Kepts l (n - 1) f old new → (x q : ℕ) → placesOf new x q ≡ round v d m o x q
+    left-places f tells new kept x q = T-ext (placesOf new x q) (round v d m o x q) there′ back′
       where
-        C : Job → Bool
-        C = cleanFits v d x (behind m (suc i)) (drop (suc i) m)
+        is : (i : ℕ) → i < n - 1 → getD m i 0 ≡ q → T (o x q) → f x i ≡ onLeg (stays v d m o x) q m
+        is i k e t =
+            tells x i k (subst (λ (p : ℕ). T (o x p)) (sym e) t) ∙ sym (on-leg (stays v d m o x) m nodes i (omega (arith, size)))
+            ∙ ap (λ (p : ℕ). onLeg (stays v d m o x) p m) e
 
-        S : Job → Bool
-        S = soiledFits v d x (behind m (suc i)) (drop (suc i) m)
-
-        P : Job → Bool
-        P = meetsPartner v d m x (behind m (suc i)) (drop (suc i) m)
-
-        N : Job → Bool
-        N = hasSupport v d m o x (behind m (suc i)) (drop (suc i) m)
-
-        Four : Job → Bool
-        Four j = (C j && S j) && (P j && N j)
-
-    six : (a b c s p q : Bool) → ((a && b) && ((c && s) && (p && q))) ≡ (a && (b && (c && (s && (p && (q && true))))))
-    six true true true true p q = ap (λ (t : Bool). p && t) (sym (and-true q))
-    six true true true false p q = refl
-    six true true false s p q = refl
-    six true false c s p q = refl
-    six false b c s p q = refl
-
-    place-is : (x i : ℕ) → i < n - 1 → placeOk d g jobs (v .capacity) (v .limit) old l e z h (n - 1) total x i ≡ atLeg (stays v d m o x) m i
-    unfolding stays
-    place-is x i k =
-        (λ u. stands-is o x i k u && loads-is x i k u)
-        ∙ six (atLeg (window v d m o x) m i) (atLeg (short v d m o x) m i) (atLeg (clean v d m o x) m i) (atLeg (soiled v d m o x) m i) (atLeg (partnerPlaced v d m o x) m i) (atLeg (neitherPlaced v d m o x) m i)
-
-    -- what is open after the code's round is what the rules' round leaves
-    pub round-places : (new : List ℕ) → Kepts l (n - 1) (placeOk d g jobs (v .capacity) (v .limit) old l e z h (n - 1) total) old new → (x q : ℕ)
-        → placesOf new x q ≡ round v d m o x q
-    round-places new kept x q = T-ext (placesOf new x q) (round v d m o x q) there′ back′
-      where
         there′ : T (placesOf new x q) → T (round v d m o x q)
         there′ t =
             let u = kept .at x .at q .0 t in
             let a = leg-index q m (leg x q (u .0)) in
             let k : a .0 < n - 1 = omega (arith, a .1, size) in
-            let w = u .1 (a .0) (omega arith) k (sym (getD-take n l (a .0) 0 (omega arith)) ∙ a .2) in
-            let s : T (onLeg (stays v d m o x) (getD m (a .0) 0) m) = subst (λ (b : Bool). T b) (place-is x (a .0) k ∙ sym (on-leg (stays v d m o x) m nodes (a .0) (a .1))) w in
-            round-left v d m o x q (u .0) (subst (λ (p : ℕ). T (onLeg (stays v d m o x) p m)) (a .2) s)
+            round-left v d m o x q (u .0)
+            (subst (λ (b : Bool). T b) (is (a .0) k (a .2) (u .0)) (u .1 (a .0) (omega arith) k (sym (getD-take n l (a .0) 0 (omega arith)) ∙ a .2)))
 
         back′ : T (round v d m o x q) → T (placesOf new x q)
-        back′ t = kept .at x .at q .1 (
-          round-less v d m o x q t,
-          λ i a b c. let f : getD m i 0 ≡ q = getD-take n l i 0 (omega arith) ∙ c in
-              subst (λ (b : Bool). T b) (sym (place-is x i b ∙ sym (on-leg (stays v d m o x) m nodes i (omega (arith, size)))))
-              (subst (λ (p : ℕ). T (onLeg (stays v d m o x) p m)) (sym f) (round-leg v d m o x q t)),
-        )
+        back′ t =
+            let w = round-less v d m o x q t in
+            kept .at x .at q .1 (w, λ i a b c. subst (λ (y : Bool). T y) (sym (is i b (getD-take n l i 0 (omega arith) ∙ c) w)) (round-leg v d m o x q t))
 
     -- no leg is named past 63
     far : (p : ℕ) → T (mem p (legStops m)) → p < 64
@@ -136,38 +125,54 @@ module _ (v : Van) (d : Day) (g : ℕ → Job) (jobs : ℕ) (told : d .jobs ≡ 
     past-legs : (x p : ℕ) → 64 ≤ p → round v d m o x p ≡ false
     past-legs x p k = decided (round v d m o x p) (λ t. absurd (omega (arith, far p (leg x p (round-less v d m o x p (true→T _ t)))))) (λ t. t)
 
-    pub round-sets : (new : List ℕ) → Kepts l (n - 1) (placeOk d g jobs (v .capacity) (v .limit) old l e z h (n - 1) total) old new
-        → new ≡ setsOf (round v d m o)
-    round-sets new kept = sets-ext new (round v d m o) (kept .long) (round-places new kept) past-legs
+    left-sets : (f : ℕ → ℕ → Bool) → Tells f → (new : List ℕ) → Kepts l (n - 1) f old new → new ≡ setsOf (round v d m o)
+    left-sets f tells new kept = sets-ext new (round v d m o) (kept .long) (left-places f tells new kept) past-legs
 
-    -- a further round: every test but 'neither placed' reads the route only, so what passed it passes it again, and the jobs' tests are enough
+    -- ---- the first round: all tests
+
+    module _ (e : List ℕ) (z : List ℤ) (total : ℕ) (starts : Filled 64 (startAt d m) 0 n e) (lasts : Filled 64 (lastAt d m) (pos 0) n z)
+        (metres : total ≡ driven d m) where
+      stands-is : (x i : ℕ) → i < n - 1 → standsAt d (v .limit) l e z total x i ≡ (atLeg (window v d m o x) m i && atLeg (short v d m o x) m i)
+      unfolding stands
+      stands-is x i k =
+          rw (add-one i, starts .at i (omega arith), lasts .at (suc i) (omega arith), metres, ← getD-take n l i 0 (omega arith), ← getD-take n l (suc i) 0 (omega arith))
+          (λ u. sym (window-at v d m o x m i (omega (arith, size))) u && sym (short-at v d m o x m i (omega (arith, size))) u)
+
+      six : (a b c s p q : Bool) → ((a && b) && ((c && s) && (p && q))) ≡ (a && (b && (c && (s && (p && (q && true))))))
+      six true true true true p q = ap (λ (t : Bool). p && t) (sym (and-true q))
+      six true true true false p q = refl
+      six true true false s p q = refl
+      six true false c s p q = refl
+      six false b c s p q = refl
+
+      place-is : Tells (placeOk d g jobs (v .capacity) (v .limit) old l e z h (n - 1) total)
+      unfolding stays
+      place-is x i k t =
+          (λ u. stands-is x i k u && loads-is x i k u)
+          ∙ six (atLeg (window v d m o x) m i) (atLeg (short v d m o x) m i) (atLeg (clean v d m o x) m i) (atLeg (soiled v d m o x) m i)
+          (atLeg (partnerPlaced v d m o x) m i) (atLeg (neitherPlaced v d m o x) m i)
+
+      pub round-sets : (new : List ℕ) → Kepts l (n - 1) (placeOk d g jobs (v .capacity) (v .limit) old l e z h (n - 1) total) old new
+          → new ≡ setsOf (round v d m o)
+      round-sets = left-sets _ place-is
+
+    -- ---- a further round: every test but 'neither placed' reads the route only, so what passed it passes it again, and the transfers are enough
+
     module _ (before : Places) (left : o ≡ round v d m before) where
-      again-places : (new : List ℕ) → Kepts l (n - 1) (loadsOk g old l h (n - 1) (v .capacity) jobs) old new → (x q : ℕ)
-          → placesOf new x q ≡ round v d m o x q
-      again-places new kept x q = T-ext (placesOf new x q) (round v d m o x q) there′ back′
+      pair-stays : Tells (jobsOk (pairOk old l h (n - 1) (v .capacity)) g jobs)
+      pair-stays x i k t = pairs-is x i k ∙ T-ext _ _ (λ w. restays v d m before o x (behind m (suc i)) (drop (suc i) m) was (and-r partner neither w))
+          (λ w. let e = stays-e v d m o x (behind m (suc i)) (drop (suc i) m) w in
+          and-i partner neither (e partnerPlaced (there (there (there (there here))))) (e neitherPlaced (there (there (there (there (there here)))))))
         where
-          there′ : T (placesOf new x q) → T (round v d m o x q)
-          there′ t =
-              let u = kept .at x .at q .0 t in
-              let a = leg-index q m (leg x q (u .0)) in
-              let k : a .0 < n - 1 = omega (arith, a .1, size) in
-              let w = subst (λ (b : Bool). T b) (loads-is x (a .0) k) (u .1 (a .0) (omega arith) k (sym (getD-take n l (a .0) 0 (omega arith)) ∙ a .2)) in
-              let f : T (onLeg (stays v d m before x) (getD m (a .0) 0) m) =
-              subst (λ (p : ℕ). T (onLeg (stays v d m before x) p m)) (sym (a .2)) (round-leg v d m before x q (subst (λ (c : Places). T (c x q)) left (u .0))) in
-              let s = restays v d m before o x (behind m (suc (a .0))) (drop (suc (a .0)) m)
-              (subst (λ (b : Bool). T b) (on-leg (stays v d m before x) m nodes (a .0) (a .1)) f) (and-r (atLeg (partnerPlaced v d m o x) m (a .0)) (atLeg (neitherPlaced v d m o x) m (a .0))
-              (and-r (atLeg (clean v d m o x) m (a .0) && atLeg (soiled v d m o x) m (a .0)) (atLeg (partnerPlaced v d m o x) m (a .0) && atLeg (neitherPlaced v d m o x) m (a .0)) w)) in
-              round-left v d m o x q (u .0)
-              (subst (λ (p : ℕ). T (onLeg (stays v d m o x) p m)) (a .2) (subst (λ (b : Bool). T b) (sym (on-leg (stays v d m o x) m nodes (a .0) (a .1))) s))
+          partner : Bool
+          partner = atLeg (partnerPlaced v d m o x) m i
 
-          back′ : T (round v d m o x q) → T (placesOf new x q)
-          back′ t = kept .at x .at q .1 (
-            round-less v d m o x q t,
-            λ i a b c. let f : getD m i 0 ≡ q = getD-take n l i 0 (omega arith) ∙ c in
-                and-r (standsAt d (v .limit) l e z total x i) (loadsOk g old l h (n - 1) (v .capacity) jobs x i)
-                (subst (λ (b : Bool). T b) (sym (place-is x i b ∙ sym (on-leg (stays v d m o x) m nodes i (omega (arith, size)))))
-                (subst (λ (p : ℕ). T (onLeg (stays v d m o x) p m)) (sym f) (round-leg v d m o x q t))),
-          )
+          neither : Bool
+          neither = atLeg (neitherPlaced v d m o x) m i
 
-      pub again-sets : (new : List ℕ) → Kepts l (n - 1) (loadsOk g old l h (n - 1) (v .capacity) jobs) old new → new ≡ setsOf (round v d m o)
-      again-sets new kept = sets-ext new (round v d m o) (kept .long) (again-places new kept) past-legs
+          was : T (atLeg (stays v d m before x) m i)
+          was = subst (λ (b : Bool). T b) (on-leg (stays v d m before x) m nodes i (omega (arith, size)))
+              (round-leg v d m before x (getD m i 0) (subst (λ (c : Places). T (c x (getD m i 0))) left t))
+
+      pub again-sets : (new : List ℕ) → Kepts l (n - 1) (jobsOk (pairOk old l h (n - 1) (v .capacity)) g jobs) old new → new ≡ setsOf (round v d m o)
+      again-sets = left-sets _ pair-stays

@@ -3,7 +3,7 @@ use mathlib.Core.Path.{_≡_, sym, ap, _∙_, subst}
 use Prim.Native.Nat.{ℕ, suc, _-_, _*_, _≤_}
 use mathlib.Core.Bool.{Bool, true, false, not}
 use mathlib.Core.List.{List}
-use native.Mathlib.Nat.{mul-le-mul}
+use native.Mathlib.Nat.{mul-le-mul, suc-ne-zero}
 use native.Mathlib.Omega.{arith}
 use lib.Dec.{T, not-T, eqb}
 use borrow.Author.Tests.{eqb-true, eq-eqb}
@@ -20,6 +20,7 @@ use Rattle.rules.proofs.Left.{_⊆_, round-less}
 use Rattle.rules.proofs.Twice.{calm, at-most-two}
 use Rattle.rules.proofs.Fixpoint.{Seen, settle-twice}
 use Rattle.settle.specs.Sets.{placesOf, setsOf, sets-ext, length-sets, places-sets, Small}
+use Rattle.settle.specs.Ready.{Settles}
 
 -- the arrays are the same
 abbrev pub sameSets : List ℕ → List ℕ → Bool
@@ -129,20 +130,22 @@ module _ (v : Van) (d : Day) (one : OneEnd (d .jobs)) (rt : List ℕ) (nodes : D
         ∙ ap (λ (l : List ℕ). not (sameSets first l)) (sym f)
 
     -- nothing struck: the words stay
-    pub settle-none : {first : List ℕ} → first ≡ setsOf o₁ → sameSets ws first ≡ true → (0 ≡ rounds v d rt o₀) × (ws ≡ setsOf (settle v d rt o₀))
+    pub settle-none : {first : List ℕ} → first ≡ setsOf o₁ → sameSets ws first ≡ true → Settles v d rt ws 0 first
     settle-none {first} e s =
         let same = same-sets ws first long (ap length e ∙ length-sets o₁) s in
-        (none-strikes o₀ (struck₁ e ∙ ap not s), same ∙ e ∙ ap (λ (f : Places). setsOf (round v d rt f)) (ap placesOf same ∙ first-open e) ∙ settled-sets)
+        record {
+          rounds = none-strikes o₀ (struck₁ e ∙ ap not s);
+          sets = e ∙ ap (λ (f : Places). setsOf (round v d rt f)) (ap placesOf same ∙ first-open e) ∙ settled-sets;
+          still = λ z. sym same;
+        }
 
     second-sets : {first second : List ℕ} → first ≡ setsOf o₁ → second ≡ setsOf (round v d rt (placesOf first)) → second ≡ setsOf (settle v d rt o₀)
     second-sets e f = f ∙ ap (λ (g : Places). setsOf (round v d rt g)) (first-open e) ∙ settled-sets
 
     pub settle-once : {first second : List ℕ} → first ≡ setsOf o₁ → second ≡ setsOf (round v d rt (placesOf first)) → sameSets ws first ≡ false
-        → sameSets first second ≡ true
-        → (1 ≡ rounds v d rt o₀) × (second ≡ setsOf (settle v d rt o₀))
-    settle-once e f s t = (one-strikes o₀ (struck₁ e ∙ ap not s) (struck₂ e f ∙ ap not t), second-sets e f)
+        → sameSets first second ≡ true → Settles v d rt ws 1 second
+    settle-once e f s t = record { rounds = one-strikes o₀ (struck₁ e ∙ ap not s) (struck₂ e f ∙ ap not t); sets = second-sets e f; still = λ z. absurd (suc-ne-zero 0 z) }
 
     pub settle-again : {first second : List ℕ} → first ≡ setsOf o₁ → second ≡ setsOf (round v d rt (placesOf first)) → sameSets ws first ≡ false
-        → sameSets first second ≡ false
-        → (2 ≡ rounds v d rt o₀) × (second ≡ setsOf (settle v d rt o₀))
-    settle-again e f s t = (two-strike o₀ (struck₁ e ∙ ap not s) (struck₂ e f ∙ ap not t), second-sets e f)
+        → sameSets first second ≡ false → Settles v d rt ws 2 second
+    settle-again e f s t = record { rounds = two-strike o₀ (struck₁ e ∙ ap not s) (struck₂ e f ∙ ap not t); sets = second-sets e f; still = λ z. absurd (suc-ne-zero 1 z) }

@@ -1,21 +1,13 @@
--- What settling and the verdict ask of their caller, E, L, H and the length of a route in arrays, and what settling gives.
+-- What settling and the verdict ask of their caller, E, L and H of a route in arrays, and what settling gives.
 use mathlib.Core.Path.{_≡_, ap}
 use Prim.Native.Nat.{ℕ, _-_, _≤_}
-use mathlib.Core.Bool.{Bool, not, _&&_}
-use mathlib.Core.List.{List, []}
+use mathlib.Core.List.{List}
 use native.Mathlib.Omega.{arith}
 use lib.ListN.{take, length}
-use lib.Dec.{leb}
 use lib.IntN.{ℤ, pos}
-use Rattle.laws.specs.Lists.{all}
 use Rattle.laws.specs.Table.{Filled}
 use Rattle.rules.specs.Day.{Day}
 use Rattle.rules.specs.Day as rules
-use Rattle.rules.specs.Leg.{everyLeg}
-use Rattle.rules.specs.Time.{onTime}
-use Rattle.rules.specs.Metres.{driven}
-use Rattle.rules.specs.Load.{carries}
-use Rattle.rules.specs.Verdict.{wrongWay}
 use Rattle.rules.specs.Settle.{settle, rounds}
 use Rattle.rules.specs.Asked.{Formed}
 use Rattle.rules.specs.Along.{startAt, lastAt, loadAt}
@@ -40,27 +32,17 @@ pub record Ready (s : List ℕ) (at : Layout) (l : List ℕ) (n : ℕ) (ws : Lis
   pub most : n ≤ 64
   pub form : Formed (dayOf s) (planFrom l n ws marks)
 
--- E, L, H and the length of the first n entries of l
-pub record Read (d : Day) (l : List ℕ) (n : ℕ) (e : List ℕ) (z : List ℤ) (h : List ℕ) (total : ℕ) : Type 0 where
+-- E, L and H of the first n entries of l
+pub record Read (d : Day) (l : List ℕ) (n : ℕ) (e : List ℕ) (z : List ℤ) (h : List ℕ) : Type 0 where
   pub starts : Filled 64 (startAt d (take n l)) 0 n e
   pub lasts : Filled 64 (lastAt d (take n l)) (pos 0) n z
   pub loads : Filled 64 (loadAt d (take n l)) 0 (n - 1) h
-  pub metres : total ≡ driven d (take n l)
-
--- of these, what the verdict reads
-pub record Ridden (d : Day) (l : List ℕ) (n : ℕ) (e h : List ℕ) (total : ℕ) : Type 0 where
-  pub starts : Filled 64 (startAt d (take n l)) 0 n e
-  pub loads : Filled 64 (loadAt d (take n l)) 0 (n - 1) h
-  pub metres : total ≡ driven d (take n l)
-
--- the route breaks no window, metre or load rule and has no transfer in wrong order
-unfoldable pub roadOk : rules.Van → Day → List ℕ → Bool
-roadOk v d m = onTime d [] m && leb (driven d m) (v .limit) && everyLeg (carries v d) m && all (λ j. not (wrongWay m j)) (d .jobs)
 
 -- settling of the words ws on the route rt: r rounds struck, and the words after have the places that 01's rounds leave
 pub record Settles (v : rules.Van) (d : Day) (rt ws : List ℕ) (r : ℕ) (vs : List ℕ) : Type 0 where
   pub rounds : r ≡ rounds v d rt (placesOf ws)
   pub sets : vs ≡ setsOf (settle v d rt (placesOf ws))
+  pub still : r ≡ 0 → vs ≡ ws
 
 -- ---- what the layout says of the day
 

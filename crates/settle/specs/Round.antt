@@ -1,28 +1,31 @@
 -- A round of settling over all words, from arrays: which places window, metres and the jobs leave.
 use mathlib.Core.Path.{_≡_, refl, sym, ap, _∙_, subst}
-use Prim.Native.Nat.{ℕ, _+_, _-_, _<_, _≤_}
+use Prim.Native.Nat.{ℕ, max, _+_, _^_, _<_, _≤_}
 use mathlib.Core.Bool.{Bool, true, false, not, _&&_, _||_}
 use mathlib.Core.List.{List}
+use mathlib.Core.Logic.{_↔_}
 use native.Mathlib.Numerals.{add-one}
 use native.Mathlib.Omega.{arith}
-use lib.Dec.{leb, ltb, eqb}
-use borrow.Author.Tests.{eqb-true, eqb-false, eq-eqb, ltb-true, ltb-false}
-use lib.ListN.{getD, set, length, length-set, replicate, List·getD-eq-default}
+use lib.Dec.{T, leb, ltb, eqb}
+use borrow.Author.Tests.{not-true, not-false, eqb-true, eqb-false, eq-eqb, ltb-true, ltb-false}
+use lib.ListN.{getD, set, length, length-set, List·getD-eq-default}
 use lib.Seq.{getD-set-same, getD-set-other}
+use lib.Pow.{pow-pos}
 use lib.IntN.{ℤ, pos}
 use lib.Signed.{leZ}
-use Rattle.laws.specs.Logic.{decided}
+use Rattle.laws.specs.Logic.{decided, T→true, true→T}
 use Rattle.laws.specs.Below.{allBelow}
+use Rattle.laws.specs.Table.{Filled}
 use Rattle.rules.specs.Day.{Day}
-use Rattle.rules.specs.Time.{inTime, lastMoment}
+use Rattle.rules.specs.Time.{inTime}
 use Rattle.rules.specs.declared.Job.{Job}
 use Rattle.rules.specs.declared.Job.the-variants.{Clean, Soiled, Transfer}
 use Rattle.rules.proofs.AlongLaws.{arrives}
-use Rattle.along.specs.declared.walks.Ride.{Ride}
-use Rattle.bits.specs.Places.{has}
-use Rattle.bits.specs.Members.{without-no}
-use Rattle.along.specs.Spots.{same-entries}
-use Rattle.along.specs.Walks.{struck, Kept, kept-same, kept-both, kept-all, kept-zero, through, between, ridesUp, ridesDown}
+use Rattle.bits.specs.Places.{has, without, lowest}
+use Rattle.bits.specs.Members.{has-none, without-yes, without-same, without-other, without-part}
+use Rattle.bits.specs.Masks.{lowest-has}
+use Rattle.along.specs.Times.{Low}
+use Rattle.along.specs.Walks.{struck, struck-has, Kept, kept-same, kept-both, kept-all, kept-zero, Legs, Heads, peak, through, between, ridesUp, ridesDown}
 
 -- each word of vs keeps of the word of ws the places that pass f
 pub record Kepts (l : List ℕ) (legs : ℕ) (f : ℕ → ℕ → Bool) (ws vs : List ℕ) : Type 0 where
@@ -66,14 +69,14 @@ kepts-same e a = record { long = a .long; at = λ y. kept-same (λ i m n. e y i 
 
 -- ---- a loop over the words
 
--- the words below x are done, the others are 0
+-- the words below x are done, the others are as they were
 pub record Upto (l : List ℕ) (legs : ℕ) (f : ℕ → ℕ → Bool) (ws : List ℕ) (x : ℕ) (vs : List ℕ) : Type 0 where
   pub long : length vs ≡ 64
   pub at : (y : ℕ) → y < x → Kept l 0 legs (f y) (getD ws y 0) (getD vs y 0)
-  pub rest : (y : ℕ) → x ≤ y → getD vs y 0 ≡ 0
+  pub rest : (y : ℕ) → x ≤ y → getD vs y 0 ≡ getD ws y 0
 
-pub upto-none : (l : List ℕ) (legs : ℕ) (f : ℕ → ℕ → Bool) (ws : List ℕ) → Upto l legs f ws 0 (replicate 64 0)
-upto-none l legs f ws = record { long = refl; at = λ y h. absurd (omega arith); rest = λ y h. same-entries 0 64 y }
+pub upto-none : {l : List ℕ} {legs : ℕ} {f : ℕ → ℕ → Bool} {ws vs : List ℕ} → length ws ≡ 64 → vs ≡ ws → Upto l legs f ws 0 vs
+upto-none n e = record { long = ap length e ∙ n; at = λ y h. absurd (omega arith); rest = λ y h. ap (λ (k : List ℕ). getD k y 0) e }
 
 pub upto-more : {l : List ℕ} {legs : ℕ} {f : ℕ → ℕ → Bool} {ws : List ℕ} {x : ℕ} {vs : List ℕ} {v : ℕ} → x < 64 → Upto l legs f ws x vs
     → Kept l 0 legs (f x) (getD ws x 0) v
@@ -95,23 +98,80 @@ upto-all {l} {legs} {f} {ws} {x} {vs} n a =
     record { long = a .long; at = λ y. decided (ltb y x) (λ e. a .at y (ltb-true y x e)) (λ e. out y (ltb-false y x e)) }
   where
     out : (y : ℕ) → x ≤ y → Kept l 0 legs (f y) (getD ws y 0) (getD vs y 0)
-    out y q = subst (λ (v : ℕ). Kept l 0 legs (f y) (getD ws y 0) v) (sym (a .rest y q)) (kept-zero (n y q))
+    out y q = subst (λ (v : ℕ). Kept l 0 legs (f y) (getD ws y 0) v) (sym (a .rest y q ∙ n y q)) (kept-zero (n y q))
+
+-- ---- a loop over the places of a word, least first
+
+-- of w, r has the places that pass f
+pub record Sifted (f : ℕ → Bool) (w r : ℕ) : Type 0 where
+  pub at : (q : ℕ) → T (has r q) ↔ (T (has w q) × T (f q))
+
+-- those that are left are not looked at yet
+pub record Sifting (f : ℕ → Bool) (w left r : ℕ) : Type 0 where
+  pub part : (q : ℕ) → T (has left q) → T (has w q)
+  pub at : (q : ℕ) → T (has r q) ↔ (T (has w q) × (has left q ≡ false → T (f q)))
+
+pub sift-all : (f : ℕ → Bool) (w : ℕ) → Sifting f w w w
+sift-all f w = record { part = λ q t. t; at = λ q. (λ t. (t, λ e. absurd (subst (λ (b : Bool). T b) e t)), λ t. t .0) }
+
+pub sift-next : {f : ℕ → Bool} {w left r : ℕ} (p : ℕ) {rest v : ℕ} → rest ≡ without left p → v ≡ struck r p (f p) → Sifting f w left r
+    → Sifting f w rest v
+sift-next {f} {w} {left} {r} p o e a = rw (o, e) (record { part = λ q t. a .part q (was q t); at = λ q. (to q, from q) })
+  where
+    was : (q : ℕ) → T (has (without left p) q) → T (has left q)
+    was q t = true→T _ (without-part left p q (T→true _ t))
+
+    to : (q : ℕ) → T (has (struck r p (f p)) q) → T (has w q) × (has (without left p) q ≡ false → T (f q))
+    to q t = let s = struck-has r p q (f p) .0 t in let o = a .at q .0 (s .0) in (
+      o .0,
+      λ n. decided (eqb p q) (λ z. subst (λ (k : ℕ). T (f k)) (eqb-true p q z) (s .1 (eqb-true p q z)))
+          (λ z. o .1 (sym (without-other left p q (λ y. eqb-false p q z (sym y))) ∙ n)),
+    )
+
+    from : (q : ℕ) → T (has w q) × (has (without left p) q ≡ false → T (f q)) → T (has (struck r p (f p)) q)
+    from q t = struck-has r p q (f p) .1 (
+      a .at q .1 (t .0, λ n. t .1 (decided (has (without left p) q) (λ z. absurd (subst (λ (b : Bool). T b) n (was q (true→T _ z)))) (λ z. z))),
+      λ y. subst (λ (k : ℕ). T (f k)) (sym y) (t .1 (ap (λ (k : ℕ). has (without left p) k) (sym y) ∙ without-same left p)),
+    )
+
+pub sift-done : {f : ℕ → Bool} {w left r : ℕ} → left ≡ 0 → Sifting f w left r → Sifted f w r
+sift-done {left = left} e a = record {
+  at = λ q. let o = a .at q in (λ t. (o .0 t .0, o .0 t .1 (ap (λ (k : ℕ). has k q) e ∙ has-none q)), λ t. o .1 (t .0, λ n. t .1));
+}
+
+-- at has the leg of each of the first `legs` stops
+pub record Spotted (l at : List ℕ) (legs : ℕ) : Type 0 where
+  pub is : (i : ℕ) → i < legs → getD at (getD l i 0) 0 ≡ i
+
+-- each place of the word is a leg, and at has it
+pub record Named (l at : List ℕ) (legs w : ℕ) : Type 0 where
+  pub leg : (q : ℕ) → T (has w q) → (getD at q 0 < legs) × (getD l (getD at q 0) 0 ≡ q)
+
+-- a test of each place on its leg is a test of each leg
+pub sifted-kept : {l at : List ℕ} {legs : ℕ} {f : ℕ → Bool} {w r : ℕ} → Spotted l at legs → Named l at legs w → Sifted (λ q. f (getD at q 0)) w r → Kept l 0 legs f w r
+sifted-kept {l} {at} {legs} {f} s n a = record {
+  at = λ q. (
+    λ t. let o = a .at q .0 t in (o .0, λ i g h e. subst (λ (k : ℕ). T (f k)) (ap (λ (k : ℕ). getD at k 0) (sym e) ∙ s .is i h) (o .1)),
+    λ t. let m = n .leg q (t .0) in a .at q .1 (t .0, t .1 (getD at q 0) (omega arith) (m .0) (m .1)),
+  );
+}
+
+-- taking the least place out makes the word smaller
+pub rest-less : (w : ℕ) → 0 < w → w < 2 ^ 64 → without w (lowest w) < w
+rest-less w z f = omega (arith, without-yes w (lowest w) (lowest-has w z f), pow-pos (lowest w))
+
+-- ---- two tests, the second made only where the first is passed
+
+pub first-fails : {r a : Bool} (b : Bool) → r ≡ a → not r ≡ true → false ≡ (a && b)
+first-fails {r} b e t = ap (λ (c : Bool). c && b) (sym (not-true r t) ∙ e)
+
+pub second-tells : {r q a b : Bool} → r ≡ a → not r ≡ false → q ≡ b → q ≡ (a && b)
+second-tells {r} {q} e t f = (λ u. (sym (not-false r t) ∙ e) u && f u)
 
 -- ---- window and metres of x between p, left after a start at t, and k, which has to be started by z, on a route of `total` metres
 
 abbrev pub inWindow : Day → ℕ → ℕ → ℕ → ℕ → ℤ → Bool
 inWindow d x p k t z = inTime d x (arrives d t p x) && leZ (pos (arrives d t p x + d .service x + d .seconds x k)) z
-
--- the same from what the code has read
-pub window-is : (d : Day) (x p k t : ℕ) (z : ℤ) {r q : Bool} {o y : ℤ} {a b c : ℕ} → r ≡ leZ (pos a) o → q ≡ leZ (pos (a + b + c)) y → a ≡ arrives d t p x
-    → o ≡ lastMoment d x
-    → b ≡ d .service x → c ≡ d .seconds x k → y ≡ z → (r && q) ≡ inWindow d x p k t z
-window-is d x p k t z f g a o b c y = (λ u. f u && g u) ∙ (λ u. leZ (pos (a u)) (o u) && leZ (pos (a u + b u + c u)) (y u))
-
--- a place that is not there is not struck
-pub struck-lacks : (w p : ℕ) (b : Bool) → has w p ≡ false → w ≡ struck w p b
-struck-lacks w p true e = refl
-struck-lacks w p false e = sym (without-no w p e)
 
 -- nothing is taken away
 abbrev pub inMetres : Day → ℕ → ℕ → ℕ → ℕ → ℕ → Bool
@@ -124,62 +184,127 @@ stands d limit x p k t z total = inWindow d x p k t z && inMetres d limit x p k 
 abbrev pub standsAt : Day → ℕ → List ℕ → List ℕ → List ℤ → ℕ → ℕ → ℕ → Bool
 standsAt d limit l e z total x i = stands d limit x (getD l i 0) (getD l (i + 1) 0) (getD e i 0) (getD z (i + 1) (pos 0)) total
 
--- what the tests of one node's places ask: nodes of a day of k, a route of `legs` legs, and numbers far from the end of 64 bits
-pub record Timed (k : ℕ) (l e : List ℕ) (z : List ℤ) (legs total limit : ℕ) : Type 0 where
+-- ---- the same from what no node changes: when p is left, and how long the route may be with the leg still counted
+
+-- the start at x of a van that leaves p at u
+abbrev pub reached : Day → ℕ → ℕ → ℕ → ℕ
+reached d u p x = max (d .earliest x) (u + d .seconds p x)
+
+abbrev pub windowFrom : Day → ℕ → ℕ → ℕ → ℕ → ℤ → Bool
+windowFrom d x p k u z = inTime d x (reached d u p x) && leZ (pos (reached d u p x + d .service x + d .seconds x k)) z
+
+unfoldable pub fitsIn : Day → ℕ → ℕ → ℕ → ℕ → ℤ → ℕ → ℕ → Bool
+fitsIn d x p k u z m total = windowFrom d x p k u z && leb (total + d .metres p x + d .metres x k) m
+
+-- the place p of x in the i-th leg
+abbrev pub fitsLeg : Day → List ℕ → List ℕ → List ℤ → List ℕ → ℕ → ℕ → ℕ → ℕ → Bool
+fitsLeg d l leave z most total x p i = fitsIn d x p (getD l (i + 1) 0) (getD leave i 0) (getD z (i + 1) (pos 0)) (getD most i 0) total
+
+abbrev pub leftAt : Day → List ℕ → List ℕ → ℕ → ℕ
+leftAt d l e i = getD e i 0 + d .service (getD l i 0)
+
+abbrev pub mostAt : Day → ℕ → List ℕ → ℕ → ℕ
+mostAt d limit l i = limit + d .metres (getD l i 0) (getD l (i + 1) 0)
+
+pub fits-stands : (d : Day) (limit : ℕ) (l e : List ℕ) (z : List ℤ) (total x : ℕ) {leave most : List ℕ} {legs : ℕ} → Filled 64 (leftAt d l e) 0 legs leave
+    → Filled 64 (mostAt d limit l) 0 legs most
+    → (i : ℕ) → i < legs → fitsLeg d l leave z most total x (getD l i 0) i ≡ standsAt d limit l e z total x i
+unfolding fitsIn stands
+fits-stands d limit l e z total x a b i h = rw (a .at i h, b .at i h)
+
+-- what these tables ask: nodes of a day of k, a route of `legs` legs, and numbers far from the end of 64 bits
+pub record Timed (k : ℕ) (l e : List ℕ) (legs limit : ℕ) : Type 0 where
   pub few : legs < 64
   pub nodes : (i : ℕ) → i ≤ legs → getD l i 0 < k
-  pub route : length l ≡ 64
-  pub starts : length e ≡ 64
-  pub lasts : length z ≡ 64
   pub times : (i : ℕ) → i < legs → getD e i 0 < 1099511627776
-  pub whole : total < 1099511627776
   pub bound : limit < 1099511627776
+
+-- the place p of a node on its leg i
+pub record PlaceAt (k : ℕ) (l leave : List ℕ) (p i : ℕ) : Type 0 where
+  pub node : p < k
+  pub few : i < 63
+  pub next : getD l (i + 1) 0 < k
+  pub time : getD leave i 0 < 2199023255552
+
+-- each place of the word on the leg that at has for it
+pub record PlacesAt (k : ℕ) (l leave at : List ℕ) (w : ℕ) : Type 0 where
+  pub place : (p : ℕ) → T (has w p) → PlaceAt k l leave p (getD at p 0)
+
+-- the least that is left
+pub least-place : {k : ℕ} {l leave at : List ℕ} {w left r : ℕ} {f : ℕ → Bool} → PlacesAt k l leave at w → Sifting f w left r → (left ≡ 0 → ⊥) → left < 2 ^ 64
+    → {p : ℕ} → p ≡ lowest left → PlaceAt k l leave p (getD at p 0)
+least-place {left = left} a s n h {p} e = a .place p (s .part p (rw e (true→T _ (lowest-has left (omega arith) h))))
+
+-- the tables of a route are those of each word whose places are its legs, and what they leave of it stands
+module _ (d : Day) (limit : ℕ) (l e : List ℕ) {leave : List ℕ} {legs : ℕ} (left : Filled 64 (leftAt d l e) 0 legs leave) {at : List ℕ} {w : ℕ} (named : Named l at legs w) where
+  pub places-at : {k : ℕ} → Low d → Timed k l e legs limit → PlacesAt k l leave at w
+  places-at a t = record {
+    place = λ p h. let n = named .leg p h in record {
+      node = omega (arith, t .nodes (getD at p 0) (omega (arith, n .0)), n .1);
+      few = omega (arith, t .few, n .0);
+      next = t .nodes (getD at p 0 + 1) (omega (arith, n .0));
+      time = omega (arith, left .at (getD at p 0) (n .0), t .times (getD at p 0) (n .0), a .service (getD l (getD at p 0) 0));
+    };
+  }
+
+  pub stand-kept : (z : List ℤ) (total x : ℕ) {most : List ℕ} {r : ℕ} → Filled 64 (mostAt d limit l) 0 legs most → Spotted l at legs
+      → Sifted (λ p. fitsLeg d l leave z most total x p (getD at p 0)) w r → Kept l 0 legs (standsAt d limit l e z total x) w r
+  stand-kept z total x {most} b s a = sifted-kept s named (record {
+    at = λ q. (
+      λ t. let o = a .at q .0 t in (o .0, subst (λ (c : Bool). T c) (here q (o .0)) (o .1)),
+      λ t. a .at q .1 (t .0, subst (λ (c : Bool). T c) (sym (here q (t .0))) (t .1)),
+    );
+  })
+    where
+      here : (q : ℕ) → T (has w q) → fitsLeg d l leave z most total x q (getD at q 0) ≡ standsAt d limit l e z total x (getD at q 0)
+      here q t = let n = named .leg q t in
+          ap (λ (p : ℕ). fitsLeg d l leave z most total x p (getD at q 0)) (sym (n .1)) ∙ fits-stands d limit l e z total x left b (getD at q 0) (n .0)
 
 -- ---- the load tests by the case of the job
 
-unfoldable pub loadOk : Job → List ℕ → List ℕ → List ℕ → ℕ → ℕ → ℕ → ℕ → Bool
-loadOk (Clean a w) old l h legs cap y i = not (eqb a y) || ridesUp l h (through cap w) i
-loadOk (Soiled a w) old l h legs cap y i = not (eqb a y) || ridesDown l h (through cap w) legs i
-loadOk (Transfer a b w) old l h legs cap y i =
+-- what a walk reads: the route and its loads, the first so many stops as sets, the most that is aboard on any leg
+abbrev pub Walked : List ℕ → List ℕ → List ℕ → ℕ → ℕ → ℕ → Type 0
+Walked l heads h highest legs load = Legs l h legs load × Heads l legs heads × (highest ≡ peak h legs)
+
+pub walked-load : {l heads h : List ℕ} {highest legs a b : ℕ} → b < 4294967296 → Walked l heads h highest legs a → Walked l heads h highest legs b
+walked-load e w = (record { long = w .0 .long; wide = w .0 .wide; few = w .0 .few; low = e; loads = w .0 .loads; nodes = w .0 .nodes; apart = w .0 .apart }, w .1, w .2)
+
+-- a clean job's load rides from the first leg, a soiled job's to the last
+abbrev pub cleanOk : ℕ → ℕ → List ℕ → List ℕ → ℕ → ℕ → ℕ → Bool
+cleanOk a w l h cap y i = not (eqb a y) || ridesUp l h (through cap w) i
+
+abbrev pub soiledOk : ℕ → ℕ → List ℕ → List ℕ → ℕ → ℕ → ℕ → ℕ → Bool
+soiledOk a w l h legs cap y i = not (eqb a y) || ridesDown l h (through cap w) legs i
+
+-- each end of a transfer rides to the other, where it stands or was open at the beginning
+abbrev pub transferOk : ℕ → ℕ → ℕ → List ℕ → List ℕ → List ℕ → ℕ → ℕ → ℕ → ℕ → Bool
+transferOk a b w old l h legs cap y i =
     (not (eqb a y) || ridesDown l h (between cap w b (getD old b 0)) legs i) && (not (eqb b y) || ridesUp l h (between cap w a (getD old a 0)) i)
 
-pub job-clean : {l : List ℕ} {legs : ℕ} {ws vs : List ℕ} (old h : List ℕ) (cap a w : ℕ) {r : Ride} → r ≡ through cap w
-    → Kepts l legs (λ y i. not (eqb a y) || ridesUp l h r i) ws vs
-    → Kepts l legs (loadOk (Clean a w) old l h legs cap) ws vs
-unfolding loadOk
-job-clean {l} old h cap a w e k = kepts-same (λ y i n. λ u. not (eqb a y) || ridesUp l h (e u) i) k
+-- what the second round asks: the transfers only
+unfoldable pub pairOk : List ℕ → List ℕ → List ℕ → ℕ → ℕ → Job → ℕ → ℕ → Bool
+pairOk old l h legs cap (Clean a w) y i = true
+pairOk old l h legs cap (Soiled a w) y i = true
+pairOk old l h legs cap (Transfer a b w) y i = transferOk a b w old l h legs cap y i
 
-pub job-soiled : {l : List ℕ} {legs : ℕ} {ws vs : List ℕ} (old h : List ℕ) (cap a w : ℕ) {r : Ride} → r ≡ through cap w
-    → Kepts l legs (λ y i. not (eqb a y) || ridesDown l h r legs i) ws vs
-    → Kepts l legs (loadOk (Soiled a w) old l h legs cap) ws vs
-unfolding loadOk
-job-soiled {l} {legs} old h cap a w e k = kepts-same (λ y i n. λ u. not (eqb a y) || ridesDown l h (e u) legs i) k
+unfoldable pub loadOk : List ℕ → List ℕ → List ℕ → ℕ → ℕ → Job → ℕ → ℕ → Bool
+loadOk old l h legs cap (Clean a w) y i = cleanOk a w l h cap y i
+loadOk old l h legs cap (Soiled a w) y i = soiledOk a w l h legs cap y i
+loadOk old l h legs cap (Transfer a b w) y i = transferOk a b w old l h legs cap y i
 
-pub job-transfer : {l : List ℕ} {legs : ℕ} {ws us vs : List ℕ} (old h : List ℕ) (cap a b w : ℕ) {u v : ℕ} {r q : Ride} → u ≡ getD old b 0 → v ≡ getD old a 0
-    → r ≡ between cap w b u → q ≡ between cap w a v
-    → Kepts l legs (λ y i. not (eqb a y) || ridesDown l h r legs i) ws us
-    → Kepts l legs (λ y i. not (eqb b y) || ridesUp l h q i) us vs
-    → Kepts l legs (loadOk (Transfer a b w) old l h legs cap) ws vs
-unfolding loadOk
-job-transfer {l} {legs} old h cap a b w e f r q j k =
-    kepts-same (λ y i n. λ z. (not (eqb a y) || ridesDown l h ((r ∙ ap (between cap w b) e) z) legs i) && (not (eqb b y) || ridesUp l h ((q ∙ ap (between cap w a) f) z) i))
-    (kepts-both j k)
+-- the first m of the jobs g pass f
+unfoldable pub jobsOk : (Job → ℕ → ℕ → Bool) → (ℕ → Job) → ℕ → ℕ → ℕ → Bool
+jobsOk f g m y i = allBelow m (λ k. f (g k) y i)
 
--- the first m of the jobs g
-unfoldable pub loadsOk : (ℕ → Job) → List ℕ → List ℕ → List ℕ → ℕ → ℕ → ℕ → ℕ → ℕ → Bool
-loadsOk g old l h legs cap m y i = allBelow m (λ k. loadOk (g k) old l h legs cap y i)
+pub jobs-none : {l : List ℕ} {legs : ℕ} {ws : List ℕ} (f : Job → ℕ → ℕ → Bool) (g : ℕ → Job) → length ws ≡ 64 → Kepts l legs (jobsOk f g 0) ws ws
+unfolding jobsOk allBelow
+jobs-none f g n = kepts-all n (λ y i. refl)
 
-pub loads-none : {l : List ℕ} {legs : ℕ} {ws : List ℕ} (g : ℕ → Job) (old h : List ℕ) (cap : ℕ) → length ws ≡ 64
-    → Kepts l legs (loadsOk g old l h legs cap 0) ws ws
-unfolding loadsOk allBelow
-loads-none g old h cap n = kepts-all n (λ y i. refl)
-
-pub loads-more : {l : List ℕ} {legs : ℕ} {ws us vs : List ℕ} (g : ℕ → Job) (old h : List ℕ) (cap j : ℕ) {q : Job} → q ≡ g j
-    → Kepts l legs (loadsOk g old l h legs cap j) ws us → Kepts l legs (loadOk q old l h legs cap) us vs → Kepts l legs (loadsOk g old l h legs cap (j + 1)) ws vs
-unfolding loadsOk allBelow
-loads-more {l} {legs} g old h cap j {q} e a b =
-    rw (add-one j) (kepts-same (λ y i n. λ u. allBelow j (λ k. loadOk (g k) old l h legs cap y i) && loadOk (e u) old l h legs cap y i) (kepts-both a b))
+pub jobs-more : {l : List ℕ} {legs : ℕ} {ws us vs : List ℕ} (f : Job → ℕ → ℕ → Bool) (g : ℕ → Job) (j : ℕ) {q : Job} → q ≡ g j
+    → Kepts l legs (jobsOk f g j) ws us → Kepts l legs (f q) us vs → Kepts l legs (jobsOk f g (j + 1)) ws vs
+unfolding jobsOk allBelow
+jobs-more f g j {q} e a b = rw (add-one j) (kepts-same (λ y i n. λ u. allBelow j (λ k. f (g k) y i) && f (e u) y i) (kepts-both a b))
 
 -- both: what a round leaves, from arrays
 abbrev pub placeOk : Day → (ℕ → Job) → ℕ → ℕ → ℕ → List ℕ → List ℕ → List ℕ → List ℤ → List ℕ → ℕ → ℕ → ℕ → ℕ → Bool
-placeOk d g m cap limit old l e z h legs total y i = standsAt d limit l e z total y i && loadsOk g old l h legs cap m y i
+placeOk d g m cap limit old l e z h legs total y i = standsAt d limit l e z total y i && jobsOk (loadOk old l h legs cap) g m y i

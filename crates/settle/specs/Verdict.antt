@@ -1,11 +1,16 @@
 -- The verdict's parts from arrays: who is called for, who stands, which transfers are in order. `on` says which nodes are on the route.
-use mathlib.Core.Path.{_≡_, refl}
-use Prim.Native.Nat.{ℕ, _+_, _-_}
+use Prim.Native.Nat.{ℕ}
 use mathlib.Core.Bool.{Bool, true, not, _&&_, _||_}
 use mathlib.Core.List.{List}
 use lib.Dec.{ltb, eqb}
 use lib.ListN.{getD}
+use Rattle.laws.specs.Lists.{all}
 use Rattle.bits.specs.Places.{has}
+use Rattle.rules.specs.Day.{Day, Van, inner}
+use Rattle.rules.specs.Leg.{everyLeg}
+use Rattle.rules.specs.Load.{carries}
+use Rattle.rules.specs.Plan.{Plan}
+use Rattle.rules.specs.Verdict.{owed, hasPlace, wrongWay}
 use Rattle.rules.specs.declared.Job.{Job}
 use Rattle.rules.specs.declared.Job.the-variants.{Clean, Soiled, Transfer}
 
@@ -21,9 +26,9 @@ called on marks y = has marks y || on y
 abbrev pub standing : (ℕ → Bool) → List ℕ → ℕ → Bool
 standing on ws y = on y || not (eqb (getD ws y 0) 0)
 
--- an inner node that is marked stands
+-- x stands if it is marked
 unfoldable pub markOk : (ℕ → Bool) → List ℕ → ℕ → ℕ → Bool
-markOk on ws marks i = not (has marks (i + 1)) || standing on ws (i + 1)
+markOk on ws marks x = not (has marks x) || standing on ws x
 
 -- of a transfer, one end stands if the other is called for
 unfoldable pub endsOk : (ℕ → Bool) → List ℕ → ℕ → Job → Bool
@@ -37,32 +42,16 @@ orderOk a (Clean x w) = true
 orderOk a (Soiled x w) = true
 orderOk a (Transfer x y w) = not (ltb (getD a y 64) (getD a x 64) && onSpot a x)
 
--- the tests of the k-th job
+-- both, which is what the verdict asks of a job
+abbrev pub jobOk : List ℕ → List ℕ → ℕ → Job → Bool
+jobOk a ws marks j = endsOk (onSpot a) ws marks j && orderOk a j
+
+-- a test of the k-th job
 abbrev pub ofJob : (Job → Bool) → (ℕ → Job) → ℕ → Bool
 ofJob f g k = f (g k)
 
-pub ends-clean : (on : ℕ → Bool) (ws : List ℕ) (marks a w : ℕ) → true ≡ endsOk on ws marks (Clean a w)
-unfolding endsOk
-ends-clean on ws marks a w = refl
-
-pub ends-soiled : (on : ℕ → Bool) (ws : List ℕ) (marks a w : ℕ) → true ≡ endsOk on ws marks (Soiled a w)
-unfolding endsOk
-ends-soiled on ws marks a w = refl
-
-pub ends-transfer : (on : ℕ → Bool) (ws : List ℕ) (marks a b w : ℕ) {ca cb sa sb : Bool} → ca ≡ called on marks a → cb ≡ called on marks b
-    → sb ≡ standing on ws b → sa ≡ standing on ws a
-    → ((not ca || sb) && (not cb || sa)) ≡ endsOk on ws marks (Transfer a b w)
-unfolding endsOk
-ends-transfer on ws marks a b w ca cb sb sa = λ u. (not (ca u) || sb u) && (not (cb u) || sa u)
-
-pub order-clean : (a : List ℕ) (x w : ℕ) → true ≡ orderOk a (Clean x w)
-unfolding orderOk
-order-clean a x w = refl
-
-pub order-soiled : (a : List ℕ) (x w : ℕ) → true ≡ orderOk a (Soiled x w)
-unfolding orderOk
-order-soiled a x w = refl
-
-pub order-transfer : (a : List ℕ) (x y w : ℕ) {p q : ℕ} → p ≡ getD a x 64 → q ≡ getD a y 64 → not (ltb q p && ltb p 64) ≡ orderOk a (Transfer x y w)
-unfolding orderOk
-order-transfer a x y w p q = λ u. not (ltb (q u) (p u) && ltb (p u) 64)
+-- the verdict but for windows and metres: who is owed has a place, no leg is above the capacity, no transfer is in wrong order
+unfoldable pub nodesOk : Van → Day → Plan → Bool
+nodesOk v d a =
+    all (λ x. not (owed d (a .route) (a .marks) x) || hasPlace a x) (inner d) && everyLeg (carries v d) (a .route)
+    && all (λ j. not (wrongWay (a .route) j)) (d .jobs)

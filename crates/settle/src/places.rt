@@ -1,96 +1,139 @@
 // The tests of a place that read the route only: window and metres.
 ghost use mathlib.Core.Path.{_≡_};
-ghost use Prim.Native.Nat.{ℕ, _+_, _<_, _≤_};
+ghost use Prim.Native.Nat.{_+_, _<_, _≤_};
+ghost use lib.ListN.{getD, length};
+ghost use Rattle.laws.specs.Table.{Filled};
 ghost use Rattle.sheet.specs.Place.{Laid};
 ghost use Rattle.day.specs.Tell.{dayOf};
-ghost use Rattle.along.specs.Walks.{struck, Kept};
-ghost use Rattle.settle.specs.Round.{inWindow, inMetres, stands, standsAt, Timed};
-use along::times::arrive;
+ghost use Rattle.along.specs.Walks.{struck};
+ghost use Rattle.settle.specs.Round.{reached, windowFrom, fitsIn, fitsLeg, leftAt, mostAt, Sifted, PlaceAt, PlacesAt, Timed};
 use along::times::in_time;
 use along::times::last_moment;
-use along::walks::strike;
+use day::look::earliest;
 use day::look::metres;
 use day::look::seconds;
 use day::look::service;
 use sheet::Layout;
 
-// Window: x between p, which is left after a start at t, and k, which has to be started by `last`.
-fn window(s: &[u8], at: Layout, x: usize, p: usize, k: usize, t: usize, last: i64) -> bool
-    requires { ⌜ Laid (now s) at × (x < at .nodes) × (p < at .nodes) × (k < at .nodes) × (t < 1099511627776) ⌝ }
-    ensures { λ r. ⌜ r ≡ inWindow (dayOf (now (s .entry))) x p k t last ⌝ }
+// The start at x of a van that leaves p at `leave`.
+fn reach(s: &[u8], at: Layout, leave: usize, p: usize, x: usize) -> usize
+    requires { ⌜ Laid (now s) at × (p < at .nodes) × (x < at .nodes) × (leave < 2199023255552) ⌝ }
+    ensures { λ r. ⌜ (r ≡ reached (dayOf (now (s .entry))) leave p x) × (r ≤ leave + 1000000) ⌝ }
 {
-    let a = arrive(s, at, t, p, x);
-    let b = a + service(s, at, x) + seconds(s, at, x, k);
-    in_time(a, last_moment(s, at, x)) & in_time(b, last)
+    let e = earliest(s, at, x);
+    let a = leave + seconds(s, at, p, x);
+    if e <= a { a } else { e }
 }
 
-// Metres: a route of `total` metres with x put in between p and k. Nothing is taken away, so nothing can fall below 0.
-fn short_enough(
+// Window: x between p, which is left at `leave`, and k, which has to be started by `last`.
+fn window(s: &[u8], at: Layout, x: usize, p: usize, k: usize, leave: usize, last: i64) -> bool
+    requires { ⌜ Laid (now s) at × (x < at .nodes) × (p < at .nodes) × (k < at .nodes) × (leave < 2199023255552) ⌝ }
+    ensures { λ r. ⌜ r ≡ windowFrom (dayOf (now (s .entry))) x p k leave last ⌝ }
+{
+    let a = reach(s, at, leave, p, x);
+    if !in_time(a, last_moment(s, at, x)) {
+        return false;
+    }
+    let b = a + service(s, at, x) + seconds(s, at, x, k);
+    in_time(b, last)
+}
+
+// Window, and metres: a route of `total` metres with x put in between p and k is to have at most `most`, in which the leg from p to k is counted.
+fn fits_in(
     s: &[u8],
     at: Layout,
-    limit: usize,
     x: usize,
     p: usize,
     k: usize,
+    leave: usize,
+    last: i64,
+    most: usize,
     total: usize,
 ) -> bool
-    requires { ⌜ Laid (now s) at × (x < at .nodes) × (p < at .nodes) × (k < at .nodes) × (total < 1099511627776) × (limit < 1099511627776) ⌝ }
-    ensures { λ r. ⌜ r ≡ inMetres (dayOf (now (s .entry))) limit x p k total ⌝ }
+    requires { ⌜ Laid (now s) at × (x < at .nodes) × (p < at .nodes) × (k < at .nodes) × (leave < 2199023255552) × (total < 1099511627776) ⌝ }
+    ensures { λ r. ⌜ r ≡ fitsIn (dayOf (now (s .entry))) x p k leave last most total ⌝ }
 {
-    total + metres(s, at, p, x) + metres(s, at, x, k) <= limit + metres(s, at, p, k)
+    if !window(s, at, x, p, k, leave, last) {
+        return false;
+    }
+    total + metres(s, at, p, x) + metres(s, at, x, k) <= most
 }
 
-// The word without the place p of x where window or metres strike it.
+// The word without the place p of x, in the leg i, where window or metres strike it.
 fn tried(
     s: &[u8],
     at: Layout,
-    limit: usize,
     word: u64,
     x: usize,
     p: usize,
-    k: usize,
-    t: usize,
-    last: i64,
+    i: usize,
+    route: &[usize; 64],
+    leave: &[usize; 64],
+    l: &[i64; 64],
+    most: &[usize; 64],
     total: usize,
 ) -> u64
-    requires { ⌜ Laid (now s) at × (x < at .nodes) × (p < at .nodes) × (k < at .nodes) × (t < 1099511627776) × (total < 1099511627776) × (limit < 1099511627776) ⌝ }
-    ensures { λ r. ⌜ r ≡ struck word p (stands (dayOf (now (s .entry))) limit x p k t last total) ⌝ }
+    requires { ⌜ Laid (now s) at × (x < at .nodes) × PlaceAt (at .nodes) (now route) (now leave) p i × (total < 1099511627776) ⌝ }
+    ensures { λ r. ⌜ r ≡ struck word p (fitsLeg (dayOf (now (s .entry))) (now (route .entry)) (now (leave .entry)) (now (l .entry)) (now (most .entry)) total x p i) ⌝ }
 {
-    if bits::has(word, p) {
-        let stays = window(s, at, x, p, k, t, last) & short_enough(s, at, limit, x, p, k, total);
-        return strike(word, p, stays);
+    let k = route[i + 1];
+    let t = leave[i];
+    let last = l[i + 1];
+    let m = most[i];
+    if fits_in(s, at, x, p, k, t, last, m, total) {
+        word
+    } else {
+        bits::take(word, p)
     }
-    word
 }
 
-// The places of x that window and metres leave.
-pub fn stand(
+// Of each leg: when its stop is left, and how long the route may be with the leg still counted. No node is in these, so they are found once for all.
+pub fn legs_of(
     s: &[u8],
     at: Layout,
     limit: usize,
-    word: u64,
-    x: usize,
     route: &[usize; 64],
     e: &[usize; 64],
-    l: &[i64; 64],
     legs: usize,
-    total: usize,
-) -> u64
-    requires { ⌜ Laid (now s) at × (x < at .nodes) × Timed (at .nodes) (now route) (now e) (now l) legs total limit ⌝ }
-    ensures { λ r. ⌜ Kept (now (route .entry)) 0 legs (standsAt (dayOf (now (s .entry))) limit (now (route .entry)) (now (e .entry)) (now (l .entry)) total x) word r ⌝ }
+    leave: &mut [usize; 64],
+    most: &mut [usize; 64],
+)
+    requires { ⌜ Laid (now s) at × Timed (at .nodes) (now route) (now e) legs limit × (length (now leave) ≡ 64) × (length (now most) ≡ 64) ⌝ }
+    ensures { λ _. ⌜ Filled 64 (leftAt (dayOf (now (s .entry))) (now (route .entry)) (now (e .entry))) 0 legs (now (leave .exit)) × Filled 64 (mostAt (dayOf (now (s .entry))) limit (now (route .entry))) 0 legs (now (most .exit)) ⌝ }
 {
-    if word == 0 {
-        return 0;
-    }
-    let mut w = word;
     let mut i = 0;
     while i < legs {
         let p = route[i];
-        let t = e[i];
         let k = route[i + 1];
-        let last = l[i + 1];
-        w = tried(s, at, limit, w, x, p, k, t, last, total);
+        leave[i] = e[i] + service(s, at, p);
+        most[i] = limit + metres(s, at, p, k);
         i += 1;
+    }
+}
+
+// The places of x that window and metres leave; `spots` has the leg of each.
+pub fn stand(
+    s: &[u8],
+    at: Layout,
+    word: u64,
+    x: usize,
+    route: &[usize; 64],
+    spots: &[usize; 64],
+    leave: &[usize; 64],
+    l: &[i64; 64],
+    most: &[usize; 64],
+    total: usize,
+) -> u64
+    requires { ⌜ Laid (now s) at × (x < at .nodes) × PlacesAt (at .nodes) (now route) (now leave) (now spots) word × (total < 1099511627776) ⌝ }
+    ensures { λ r. ⌜ Sifted (λ p. fitsLeg (dayOf (now (s .entry))) (now (route .entry)) (now (leave .entry)) (now (l .entry)) (now (most .entry)) total x p (getD (now (spots .entry)) p 0)) word r ⌝ }
+{
+    let mut w = word;
+    let mut left = word;
+    while left != 0 {
+        let p = bits::lowest(left);
+        let i = spots[p];
+        w = tried(s, at, w, x, p, i, route, leave, l, most, total);
+        left = bits::rest(left);
     }
     w
 }

@@ -1,20 +1,20 @@
 // One round of settling: what stays open against the places at its beginning.
 ghost use mathlib.Core.Path.{_≡_};
-ghost use mathlib.Core.Bool.{_&&_, _||_, not, true, false};
-ghost use Prim.Native.Nat.{ℕ, _+_, _-_, _*_, _<_, _≤_};
+ghost use Prim.Native.Nat.{ℕ, _-_, _<_, _≤_};
 ghost use lib.ListN.{getD, take, length};
-ghost use lib.Dec.{eqb};
 ghost use Rattle.sheet.specs.Place.{Laid};
 ghost use Rattle.day.specs.Jobs.{jobIn};
+ghost use Rattle.day.specs.Seen.{Placed};
 ghost use Rattle.day.specs.Tell.{dayOf};
-ghost use Rattle.along.specs.Spots.{loadOf};
-ghost use Rattle.along.specs.Walks.{Legs, ridesUp, ridesDown};
+ghost use Rattle.along.specs.Spots.{Spots, loadOf};
 ghost use Rattle.rules.specs.Settle.{round};
 ghost use Rattle.settle.specs.Sets.{placesOf, setsOf};
 ghost use Rattle.settle.specs.Ready.{Ready, Read, vanIn};
-ghost use Rattle.settle.specs.Round.{Kepts, Timed, standsAt, loadOk, loadsOk};
+ghost use Rattle.settle.specs.Round.{Kepts, Timed, Spotted, Named, standsAt, Walked, cleanOk, soiledOk, transferOk, pairOk, loadOk, jobsOk};
 use crate::Van;
+use crate::places::legs_of;
 use crate::places::stand;
+use along::times::length;
 use along::walks::Ride;
 use along::walks::backward;
 use along::walks::forward;
@@ -29,45 +29,76 @@ pub fn places(sets: &[u64; 64], x: usize) -> u64
     if x < 64 { sets[x] } else { 0 }
 }
 
-// The places of x from which the ride can go back to the first leg, or to its partner.
-fn front(
+// One transfer against the places of its ends: each rides to where the other stands, or was open at the beginning.
+fn strike_transfer(
+    from: usize,
+    to: usize,
+    load: usize,
+    capacity: usize,
+    old: &[u64; 64],
     new: &mut [u64; 64],
-    x: usize,
     route: &[usize; 64],
+    heads: &[u64; 64],
     h: &[usize; 64],
+    highest: usize,
     legs: usize,
-    ride: Ride,
 )
-    requires { ⌜ (length (now new) ≡ 64) × Legs (now route) (now h) legs (ride .load) ⌝ }
-    ensures { λ _. ⌜ Kepts (now (route .entry)) legs (λ y i. not (eqb x y) || ridesUp (now (route .entry)) (now (h .entry)) ride i) (now (new .entry)) (now (new .exit)) ⌝ }
+    requires { ⌜ (from < 64) × (to < 64) × (length (now old) ≡ 64) × (length (now new) ≡ 64) × Walked (now route) (now heads) (now h) highest legs load ⌝ }
+    ensures { λ _. ⌜ Kepts (now (route .entry)) legs (transferOk from to load (now (old .entry)) (now (route .entry)) (now (h .entry)) legs capacity) (now (new .entry)) (now (new .exit)) ⌝ }
 {
-    if x < 64 {
-        let w = new[x];
-        if w != 0 {
-            let v = forward(w, route, h, legs, ride);
-            new[x] = v;
-        }
+    let w = new[from];
+    if w != 0 {
+        let there = Ride::between(capacity, load, to, old[to]);
+        new[from] = backward(w, route, heads, h, highest, legs, there);
+    }
+    let v = new[to];
+    if v != 0 {
+        let here = Ride::between(capacity, load, from, old[from]);
+        new[to] = forward(v, route, heads, h, highest, legs, here);
     }
 }
 
-// The places of x from which the ride can go on to the last leg, or to its partner.
-fn rear(
+// A clean job against the places of its node. A node with no place needs no walk.
+fn strike_clean(
+    node: usize,
+    load: usize,
+    capacity: usize,
     new: &mut [u64; 64],
-    x: usize,
     route: &[usize; 64],
+    heads: &[u64; 64],
     h: &[usize; 64],
+    highest: usize,
     legs: usize,
-    ride: Ride,
 )
-    requires { ⌜ (length (now new) ≡ 64) × Legs (now route) (now h) legs (ride .load) ⌝ }
-    ensures { λ _. ⌜ Kepts (now (route .entry)) legs (λ y i. not (eqb x y) || ridesDown (now (route .entry)) (now (h .entry)) ride legs i) (now (new .entry)) (now (new .exit)) ⌝ }
+    requires { ⌜ (node < 64) × (length (now new) ≡ 64) × Walked (now route) (now heads) (now h) highest legs load ⌝ }
+    ensures { λ _. ⌜ Kepts (now (route .entry)) legs (cleanOk node load (now (route .entry)) (now (h .entry)) capacity) (now (new .entry)) (now (new .exit)) ⌝ }
 {
-    if x < 64 {
-        let w = new[x];
-        if w != 0 {
-            let v = backward(w, route, h, legs, ride);
-            new[x] = v;
-        }
+    let w = new[node];
+    if w != 0 {
+        let ride = Ride::through(capacity, load);
+        new[node] = forward(w, route, heads, h, highest, legs, ride);
+    }
+}
+
+// A soiled job against the places of its node.
+fn strike_soiled(
+    node: usize,
+    load: usize,
+    capacity: usize,
+    new: &mut [u64; 64],
+    route: &[usize; 64],
+    heads: &[u64; 64],
+    h: &[usize; 64],
+    highest: usize,
+    legs: usize,
+)
+    requires { ⌜ (node < 64) × (length (now new) ≡ 64) × Walked (now route) (now heads) (now h) highest legs load ⌝ }
+    ensures { λ _. ⌜ Kepts (now (route .entry)) legs (soiledOk node load (now (route .entry)) (now (h .entry)) legs capacity) (now (new .entry)) (now (new .exit)) ⌝ }
+{
+    let w = new[node];
+    if w != 0 {
+        let ride = Ride::through(capacity, load);
+        new[node] = backward(w, route, heads, h, highest, legs, ride);
     }
 }
 
@@ -78,35 +109,68 @@ fn strike_job(
     old: &[u64; 64],
     new: &mut [u64; 64],
     route: &[usize; 64],
+    heads: &[u64; 64],
     h: &[usize; 64],
+    highest: usize,
     legs: usize,
 )
-    requires { ⌜ (length (now old) ≡ 64) × (length (now new) ≡ 64) × Legs (now route) (now h) legs (loadOf job) ⌝ }
-    ensures { λ _. ⌜ Kepts (now (route .entry)) legs (loadOk job (now (old .entry)) (now (route .entry)) (now (h .entry)) legs capacity) (now (new .entry)) (now (new .exit)) ⌝ }
+    requires { ⌜ Placed job × (length (now old) ≡ 64) × (length (now new) ≡ 64) × Walked (now route) (now heads) (now h) highest legs (loadOf job) ⌝ }
+    ensures { λ _. ⌜ Kepts (now (route .entry)) legs (loadOk (now (old .entry)) (now (route .entry)) (now (h .entry)) legs capacity job) (now (new .entry)) (now (new .exit)) ⌝ }
 {
     match job {
-        Job::Clean { node, load } => front(
-            new,
-            node,
-            route,
-            h,
-            legs,
-            Ride::through(capacity, load),
-        ),
-        Job::Soiled { node, load } => rear(
-            new,
-            node,
-            route,
-            h,
-            legs,
-            Ride::through(capacity, load),
-        ),
-        Job::Transfer { from, to, load } => {
-            let there = Ride::between(capacity, load, to, places(old, to));
-            rear(new, from, route, h, legs, there);
-            let here = Ride::between(capacity, load, from, places(old, from));
-            front(new, to, route, h, legs, here)
+        Job::Clean { node, load } => {
+            strike_clean(node, load, capacity, new, route, heads, h, highest, legs);
         },
+        Job::Soiled { node, load } => {
+            strike_soiled(node, load, capacity, new, route, heads, h, highest, legs);
+        },
+        Job::Transfer { from, to, load } => strike_transfer(
+            from,
+            to,
+            load,
+            capacity,
+            old,
+            new,
+            route,
+            heads,
+            h,
+            highest,
+            legs,
+        ),
+    }
+}
+
+// A transfer again; a job of another case has been asked.
+fn strike_pair(
+    job: Job,
+    capacity: usize,
+    old: &[u64; 64],
+    new: &mut [u64; 64],
+    route: &[usize; 64],
+    heads: &[u64; 64],
+    h: &[usize; 64],
+    highest: usize,
+    legs: usize,
+)
+    requires { ⌜ Placed job × (length (now old) ≡ 64) × (length (now new) ≡ 64) × Walked (now route) (now heads) (now h) highest legs (loadOf job) ⌝ }
+    ensures { λ _. ⌜ Kepts (now (route .entry)) legs (pairOk (now (old .entry)) (now (route .entry)) (now (h .entry)) legs capacity job) (now (new .entry)) (now (new .exit)) ⌝ }
+{
+    match job {
+        Job::Clean { node: _, load: _ } => {},
+        Job::Soiled { node: _, load: _ } => {},
+        Job::Transfer { from, to, load } => strike_transfer(
+            from,
+            to,
+            load,
+            capacity,
+            old,
+            new,
+            route,
+            heads,
+            h,
+            highest,
+            legs,
+        ),
     }
 }
 
@@ -118,85 +182,112 @@ fn strike_jobs(
     old: &[u64; 64],
     new: &mut [u64; 64],
     route: &[usize; 64],
+    heads: &[u64; 64],
     h: &[usize; 64],
+    highest: usize,
     legs: usize,
 )
-    requires { ⌜ Laid (now s) at × (length (now old) ≡ 64) × (length (now new) ≡ 64) × Legs (now route) (now h) legs 0 ⌝ }
-    ensures { λ _. ⌜ Kepts (now (route .entry)) legs (loadsOk (jobIn (now (s .entry))) (now (old .entry)) (now (route .entry)) (now (h .entry)) legs capacity (at .jobs)) (now (new .entry)) (now (new .exit)) ⌝ }
+    requires { ⌜ Laid (now s) at × (length (now old) ≡ 64) × (length (now new) ≡ 64) × Walked (now route) (now heads) (now h) highest legs 0 ⌝ }
+    ensures { λ _. ⌜ Kepts (now (route .entry)) legs (jobsOk (loadOk (now (old .entry)) (now (route .entry)) (now (h .entry)) legs capacity) (jobIn (now (s .entry))) (at .jobs)) (now (new .entry)) (now (new .exit)) ⌝ }
 {
     let m = at.jobs;
     let mut j = 0;
     while j < m {
         let job = day::jobs::job(s, at, j);
-        strike_job(job, capacity, old, new, route, h, legs);
+        strike_job(job, capacity, old, new, route, heads, h, highest, legs);
         j += 1;
     }
 }
 
-// Window and metres against the places of every node.
+// Window and metres against the places of every node, in a copy of them.
 fn stand_all(
     s: &[u8],
     at: Layout,
     limit: usize,
     old: &[u64; 64],
+    new: &mut [u64; 64],
     route: &[usize; 64],
+    spots: &[usize; 64],
     e: &[usize; 64],
     l: &[i64; 64],
     legs: usize,
     total: usize,
-) -> [u64; 64]
-    requires { ⌜ Laid (now s) at × (length (now old) ≡ 64) × ((y : ℕ) → at .nodes ≤ y → getD (now old) y 0 ≡ 0) × Timed (at .nodes) (now route) (now e) (now l) legs total limit ⌝ }
-    ensures { λ r. ⌜ Kepts (now (route .entry)) legs (standsAt (dayOf (now (s .entry))) limit (now (route .entry)) (now (e .entry)) (now (l .entry)) total) (now (old .entry)) r ⌝ }
+)
+    requires { ⌜ Laid (now s) at × (length (now old) ≡ 64) × (now new ≡ now old) × ((y : ℕ) → at .nodes ≤ y → getD (now old) y 0 ≡ 0) × ((y : ℕ) → Named (now route) (now spots) legs (getD (now old) y 0)) ⌝ }
+    requires { ⌜ Timed (at .nodes) (now route) (now e) legs limit × Spotted (now route) (now spots) legs × (total < 1099511627776) ⌝ }
+    ensures { λ _. ⌜ Kepts (now (route .entry)) legs (standsAt (dayOf (now (s .entry))) limit (now (route .entry)) (now (e .entry)) (now (l .entry)) total) (now (old .entry)) (now (new .exit)) ⌝ }
 {
-    let mut new = [0u64; 64];
+    let mut leave = [0usize; 64];
+    let mut most = [0usize; 64];
+    legs_of(s, at, limit, route, e, legs, &mut leave, &mut most);
     let n = at.nodes;
     let mut x = 0;
     while x < n {
         let w = old[x];
-        let v = stand(s, at, limit, w, x, route, e, l, legs, total);
-        new[x] = v;
+        new[x] = stand(s, at, w, x, route, spots, &leave, l, &most, total);
         x += 1;
     }
-    new
 }
 
-// The words after a round.
+// A round, in a copy of the words.
 pub fn round(
     s: &[u8],
     at: Layout,
     van: Van,
     old: &[u64; 64],
+    new: &mut [u64; 64],
     route: &[usize; 64],
     stops: usize,
+    spots: &[usize; 64],
     e: &[usize; 64],
     l: &[i64; 64],
+    heads: &[u64; 64],
     h: &[usize; 64],
-    total: usize,
-) -> [u64; 64]
-    requires { ⌜ Ready (now s) at (now route) stops (now old) 0 × Read (dayOf (now s)) (now route) stops (now e) (now l) (now h) total × (van .limit < 1099511627776) ⌝ }
-    ensures { λ r. ⌜ r ≡ setsOf (round (vanIn van) (dayOf (now (s .entry))) (take stops (now (route .entry))) (placesOf (now (old .entry)))) ⌝ }
+    highest: usize,
+)
+    requires { ⌜ Ready (now s) at (now route) stops (now old) 0 × Read (dayOf (now s)) (now route) stops (now e) (now l) (now h) × (van .limit < 1099511627776) ⌝ }
+    requires { ⌜ (now new ≡ now old) × Spots (now route) stops (now spots) × Walked (now route) (now heads) (now h) highest (stops - 1) 0 ⌝ }
+    ensures { λ _. ⌜ now (new .exit) ≡ setsOf (round (vanIn van) (dayOf (now (s .entry))) (take stops (now (route .entry))) (placesOf (now (old .entry)))) ⌝ }
 {
     let legs = stops - 1;
-    let mut new = stand_all(s, at, van.limit, old, route, e, l, legs, total);
-    strike_jobs(s, at, van.capacity, old, &mut new, route, h, legs);
-    new
+    let total = length(s, at, route, stops);
+    stand_all(s, at, van.limit, old, new, route, spots, e, l, legs, total);
+    strike_jobs(
+        s,
+        at,
+        van.capacity,
+        old,
+        new,
+        route,
+        heads,
+        h,
+        highest,
+        legs,
+    );
 }
 
-// A further round on the words that a round has left: window, metres and clean and soiled jobs read the route only, so only the jobs are asked
-// again, for the transfers that have lost their support.
+// A further round, in a copy of the words that a round has left: window, metres and clean and soiled jobs read the route only, so only the
+// transfers are asked again, which may have lost their support.
 pub fn again(
     s: &[u8],
     at: Layout,
     capacity: usize,
     old: &[u64; 64],
+    new: &mut [u64; 64],
     route: &[usize; 64],
+    heads: &[u64; 64],
     h: &[usize; 64],
+    highest: usize,
     legs: usize,
-) -> [u64; 64]
-    requires { ⌜ Laid (now s) at × (length (now old) ≡ 64) × Legs (now route) (now h) legs 0 ⌝ }
-    ensures { λ r. ⌜ Kepts (now (route .entry)) legs (loadsOk (jobIn (now (s .entry))) (now (old .entry)) (now (route .entry)) (now (h .entry)) legs capacity (at .jobs)) (now (old .entry)) r ⌝ }
+)
+    requires { ⌜ Laid (now s) at × (length (now old) ≡ 64) × (length (now new) ≡ 64) × Walked (now route) (now heads) (now h) highest legs 0 ⌝ }
+    ensures { λ _. ⌜ Kepts (now (route .entry)) legs (jobsOk (pairOk (now (old .entry)) (now (route .entry)) (now (h .entry)) legs capacity) (jobIn (now (s .entry))) (at .jobs)) (now (new .entry)) (now (new .exit)) ⌝ }
 {
-    let mut new = *old;
-    strike_jobs(s, at, capacity, old, &mut new, route, h, legs);
-    new
+    let m = at.jobs;
+    let mut j = 0;
+    while j < m {
+        let job = day::jobs::job(s, at, j);
+        strike_pair(job, capacity, old, new, route, heads, h, highest, legs);
+        j += 1;
+    }
 }

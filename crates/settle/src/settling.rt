@@ -1,10 +1,16 @@
 // Settling: rounds until one strikes nothing. The rules have that two are enough, so the code makes two and counts those that struck.
 ghost use mathlib.Core.Path.{_≡_};
-ghost use Prim.Native.Nat.{ℕ, _+_, _-_, _<_, _≤_};
+ghost use Prim.Native.Nat.{_-_, _<_};
 ghost use lib.ListN.{getD, length, take};
 ghost use lib.Dec.{eqb};
 ghost use Rattle.laws.specs.Below.{allBelow};
+ghost use Rattle.laws.specs.Table.{Filled};
+ghost use Rattle.rules.specs.Along.{loadAt};
+ghost use Rattle.rules.specs.Settle.{round};
 ghost use Rattle.day.specs.Tell.{dayOf};
+ghost use Rattle.along.specs.Spots.{Spots};
+ghost use Rattle.settle.specs.Sets.{placesOf, setsOf};
+ghost use Rattle.settle.specs.Round.{Walked};
 ghost use Rattle.settle.specs.Ready.{Ready, Read, Settles, vanIn};
 use crate::Van;
 use crate::round::again;
@@ -12,8 +18,9 @@ use crate::round::round;
 use along::loads::loads;
 use along::spots::spots;
 use along::times::lasts;
-use along::times::length;
 use along::times::starts;
+use along::walks::heads;
+use along::walks::highest;
 use sheet::Layout;
 
 // Whether two arrays of sets are the same.
@@ -21,57 +28,112 @@ fn same(a: &[u64; 64], b: &[u64; 64]) -> bool
     requires { ⌜ (length (now a) ≡ 64) × (length (now b) ≡ 64) ⌝ }
     ensures { λ r. ⌜ r ≡ allBelow 64 (λ i. eqb (getD (now (a .entry)) i 0) (getD (now (b .entry)) i 0)) ⌝ }
 {
+    let mut is = true;
     let mut i = 0;
     while i < 64 {
-        if a[i] != b[i] {
-            return false;
-        }
+        is = is & (a[i] == b[i]);
         i += 1;
     }
-    true
+    is
 }
 
-// The rounds, with E, L, H and the route's length at hand.
+// Counts the round that has been made, which has left `new` of `old`, and makes the further one where it struck something.
+fn finish(
+    s: &[u8],
+    at: Layout,
+    van: Van,
+    route: &[usize; 64],
+    stops: usize,
+    old: &[u64; 64],
+    new: &mut [u64; 64],
+    heads: &[u64; 64],
+    h: &[usize; 64],
+    highest: usize,
+) -> usize
+    requires { ⌜ Ready (now s) at (now route) stops (now old) 0 × (now new ≡ setsOf (round (vanIn van) (dayOf (now s)) (take stops (now route)) (placesOf (now old)))) ⌝ }
+    requires { ⌜ Filled 64 (loadAt (dayOf (now s)) (take stops (now route))) 0 (stops - 1) (now h) × Walked (now route) (now heads) (now h) highest (stops - 1) 0 ⌝ }
+    ensures { λ r. ⌜ Settles (vanIn van) (dayOf (now (s .entry))) (take stops (now (route .entry))) (now (old .entry)) r (now (new .exit)) ⌝ }
+{
+    if same(old, new) {
+        return 0;
+    }
+    let first = *new;
+    let legs = stops - 1;
+    again(
+        s,
+        at,
+        van.capacity,
+        &first,
+        new,
+        route,
+        heads,
+        h,
+        highest,
+        legs,
+    );
+    if same(&first, new) { 1 } else { 2 }
+}
+
+// The rounds, with E, L, H and the spots at hand.
 fn rounds(
     s: &[u8],
     at: Layout,
     van: Van,
     route: &[usize; 64],
     stops: usize,
-    sets: &mut [u64; 64],
+    old: &[u64; 64],
+    new: &mut [u64; 64],
+    spots: &[usize; 64],
     e: &[usize; 64],
     l: &[i64; 64],
     h: &[usize; 64],
-    total: usize,
 ) -> usize
-    requires { ⌜ Ready (now s) at (now route) stops (now sets) 0 × Read (dayOf (now s)) (now route) stops (now e) (now l) (now h) total × (van .limit < 1099511627776) ⌝ }
-    ensures { λ r. ⌜ Settles (vanIn van) (dayOf (now (s .entry))) (take stops (now (route .entry))) (now (sets .entry)) r (now (sets .exit)) ⌝ }
+    requires { ⌜ Ready (now s) at (now route) stops (now old) 0 × Read (dayOf (now s)) (now route) stops (now e) (now l) (now h) × (van .limit < 1099511627776) ⌝ }
+    requires { ⌜ (now new ≡ now old) × Spots (now route) stops (now spots) ⌝ }
+    ensures { λ r. ⌜ Settles (vanIn van) (dayOf (now (s .entry))) (take stops (now (route .entry))) (now (old .entry)) r (now (new .exit)) ⌝ }
 {
-    let first = round(s, at, van, sets, route, stops, e, l, h, total);
-    if same(sets, &first) {
-        return 0;
-    }
-    let second = again(s, at, van.capacity, &first, route, h, stops - 1);
-    *sets = second;
-    if same(&first, &second) { 1 } else { 2 }
+    let legs = stops - 1;
+    let mut head = [0u64; 64];
+    heads(route, legs, &mut head);
+    let most = highest(h, legs);
+    round(
+        s,
+        at,
+        van,
+        old,
+        new,
+        route,
+        stops,
+        spots,
+        e,
+        l,
+        &head,
+        h,
+        most,
+    );
+    finish(s, at, van, route, stops, old, new, &head, h, most)
 }
 
-// Settles the sets of a state in form: the number of rounds that struck something.
+// Settles the sets of a state in form, of which `new` is a copy at first: the number of rounds that struck something.
 pub fn settle(
     s: &[u8],
     at: Layout,
     van: Van,
     route: &[usize; 64],
     stops: usize,
-    sets: &mut [u64; 64],
+    old: &[u64; 64],
+    new: &mut [u64; 64],
 ) -> usize
-    requires { ⌜ Ready (now s) at (now route) stops (now sets) 0 × (van .limit < 1099511627776) ⌝ }
-    ensures { λ r. ⌜ Settles (vanIn van) (dayOf (now (s .entry))) (take stops (now (route .entry))) (now (sets .entry)) r (now (sets .exit)) ⌝ }
+    requires { ⌜ Ready (now s) at (now route) stops (now old) 0 × (now new ≡ now old) × (van .limit < 1099511627776) ⌝ }
+    ensures { λ r. ⌜ Settles (vanIn van) (dayOf (now (s .entry))) (take stops (now (route .entry))) (now (old .entry)) r (now (new .exit)) ⌝ }
 {
-    let e = starts(s, at, route, stops);
-    let l = lasts(s, at, route, stops);
-    let spot = spots(route, stops);
-    let h = loads(s, at, route, stops, &spot);
-    let total = length(s, at, route, stops);
-    rounds(s, at, van, route, stops, sets, &e, &l, &h, total)
+    let mut e = [0usize; 64];
+    let mut l = [0i64; 64];
+    let mut spot = [64usize; 64];
+    let mut h = [0usize; 64];
+    starts(s, at, route, stops, &mut e);
+    lasts(s, at, route, stops, &mut l);
+    spots(route, stops, &mut spot);
+    loads(s, at, route, stops, &spot, &mut h);
+    rounds(s, at, van, route, stops, old, new, &spot, &e, &l, &h)
 }

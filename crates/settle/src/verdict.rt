@@ -1,22 +1,23 @@
 // Who is owed, and the verdict of a state.
 ghost use mathlib.Core.Path.{_≡_};
-ghost use mathlib.Core.Bool.{_&&_, _||_, not, true, false};
-ghost use Prim.Native.Nat.{ℕ, _+_, _-_, _*_, _<_, _≤_};
+ghost use mathlib.Core.Bool.{not};
+ghost use mathlib.Core.List.{[]};
+ghost use Prim.Native.Nat.{_≤_};
 ghost use lib.ListN.{getD, length, take};
-ghost use lib.Dec.{eqb, leb, ltb};
+ghost use lib.Dec.{eqb, leb};
 ghost use Rattle.laws.specs.Below.{allBelow};
 ghost use Rattle.bits.specs.Places.{has};
-ghost use Rattle.rules.specs.Time.{inTime};
+ghost use Rattle.rules.specs.Time.{onTime};
 ghost use Rattle.rules.specs.Verdict.{partnered, owed, alive};
 ghost use Rattle.sheet.specs.Place.{Laid};
 ghost use Rattle.day.specs.Jobs.{jobIn};
 ghost use Rattle.day.specs.Tell.{dayOf};
 ghost use Rattle.along.specs.Route.{Route};
-ghost use Rattle.along.specs.Spots.{Spots};
 ghost use Rattle.settle.specs.Sets.{planFrom};
-ghost use Rattle.settle.specs.Ready.{Ready, Ridden, roadOk, vanIn};
-ghost use Rattle.settle.specs.Verdict.{onSpot, called, standing, markOk, endsOk, orderOk, ofJob};
+ghost use Rattle.settle.specs.Ready.{Ready, vanIn};
+ghost use Rattle.settle.specs.Verdict.{onSpot, called, standing, markOk, jobOk, nodesOk};
 use crate::Van;
+use crate::round::places;
 use along::spots::spot;
 use rules::Job;
 use sheet::Layout;
@@ -72,118 +73,76 @@ fn paired(s: &[u8], at: Layout, spots: &[usize; 64], marks: u64, x: usize) -> bo
     false
 }
 
+// Whether x has an open place: the count of ones in its word is not 0.
+fn is_open(sets: &[u64; 64], x: usize) -> bool
+    requires { ⌜ length (now sets) ≡ 64 ⌝ }
+    ensures { λ r. ⌜ r ≡ not (eqb (getD (now (sets .entry)) x 0) 0) ⌝ }
+{
+    bits::count(places(sets, x)) != 0
+}
+
 // Whether x is on the route or has an open place.
 fn stands(spots: &[usize; 64], sets: &[u64; 64], x: usize) -> bool
     requires { ⌜ (length (now spots) ≡ 64) × (length (now sets) ≡ 64) ⌝ }
     ensures { λ r. ⌜ r ≡ standing (onSpot (now (spots .entry))) (now (sets .entry)) x ⌝ }
 {
     let on = placed(spots, x);
-    let w = crate::round::places(sets, x);
-    on | (w != 0)
+    let some = is_open(sets, x);
+    on | some
 }
 
-// Every inner node that is marked stands.
-fn marks_kept(spots: &[usize; 64], sets: &[u64; 64], marks: u64, inner: usize) -> bool
-    requires { ⌜ (length (now spots) ≡ 64) × (length (now sets) ≡ 64) × (inner < 64) ⌝ }
-    ensures { λ r. ⌜ r ≡ allBelow inner (markOk (onSpot (now (spots .entry))) (now (sets .entry)) marks) ⌝ }
-{
-    let mut i = 0;
-    while i < inner {
-        let marked = bits::has(marks, i + 1);
-        let there = stands(spots, sets, i + 1);
-        let ok = !marked | there;
-        if !ok {
-            return false;
-        }
-        i += 1;
-    }
-    true
-}
-
-// Of a transfer, one end stands if the other is marked or on the route.
-fn ends_kept(job: Job, spots: &[usize; 64], sets: &[u64; 64], marks: u64) -> bool
+// Every marked node stands: each is asked, from the least on.
+fn marks_kept(spots: &[usize; 64], sets: &[u64; 64], marks: u64) -> bool
     requires { ⌜ (length (now spots) ≡ 64) × (length (now sets) ≡ 64) ⌝ }
-    ensures { λ r. ⌜ r ≡ endsOk (onSpot (now (spots .entry))) (now (sets .entry)) marks job ⌝ }
+    ensures { λ r. ⌜ r ≡ allBelow 64 (markOk (onSpot (now (spots .entry))) (now (sets .entry)) marks) ⌝ }
+{
+    let mut left = marks;
+    while left != 0 {
+        let x = bits::lowest(left);
+        if !stands(spots, sets, x) {
+            return false;
+        }
+        left = bits::rest(left);
+    }
+    true
+}
+
+// Of a transfer, one end stands if the other is marked or on the route, and the second node does not stand before the first.
+fn job_kept(job: Job, spots: &[usize; 64], sets: &[u64; 64], marks: u64) -> bool
+    requires { ⌜ (length (now spots) ≡ 64) × (length (now sets) ≡ 64) ⌝ }
+    ensures { λ r. ⌜ r ≡ jobOk (now (spots .entry)) (now (sets .entry)) marks job ⌝ }
 {
     match job {
         Job::Clean { node: _, load: _ } => true,
         Job::Soiled { node: _, load: _ } => true,
         Job::Transfer { from, to, load: _ } => {
-            let first = calls(spots, marks, from);
-            let second = calls(spots, marks, to);
-            let after = stands(spots, sets, to);
-            let before = stands(spots, sets, from);
-            (!first | after) & (!second | before)
+            let a = spot(spots, from);
+            let b = spot(spots, to);
+            let first = bits::has(marks, from) | (a < 64);
+            let second = bits::has(marks, to) | (b < 64);
+            let after = (b < 64) | is_open(sets, to);
+            let before = (a < 64) | is_open(sets, from);
+            (!first | after) & (!second | before) & !((b < a) & (a < 64))
         },
     }
 }
 
-// No job's end is owed and has no place.
-fn jobs_kept(s: &[u8], at: Layout, spots: &[usize; 64], sets: &[u64; 64], marks: u64) -> bool
-    requires { ⌜ Laid (now s) at × (length (now spots) ≡ 64) × (length (now sets) ≡ 64) ⌝ }
-    ensures { λ r. ⌜ r ≡ allBelow (at .jobs) (ofJob (endsOk (onSpot (now (spots .entry))) (now (sets .entry)) marks) (jobIn (now (s .entry)))) ⌝ }
+// No start is too late. The first need not be asked: it is its node's earliest, which is after the latest on no sheet.
+fn in_windows(s: &[u8], at: Layout, route: &[usize; 64], stops: usize) -> bool
+    requires { ⌜ Laid (now s) at × Route (at .nodes) (now route) stops ⌝ }
+    ensures { λ r. ⌜ r ≡ onTime (dayOf (now (s .entry))) [] (take stops (now (route .entry))) ⌝ }
 {
-    let m = at.jobs;
-    let mut j = 0;
-    while j < m {
-        let job = day::jobs::job(s, at, j);
-        let ok = ends_kept(job, spots, sets, marks);
-        if !ok {
-            return false;
-        }
-        j += 1;
-    }
-    true
-}
-
-// The job is no transfer whose second node stands before its first.
-fn right_way(job: Job, spots: &[usize; 64]) -> bool
-    requires { ⌜ length (now spots) ≡ 64 ⌝ }
-    ensures { λ r. ⌜ r ≡ orderOk (now (spots .entry)) job ⌝ }
-{
-    match job {
-        Job::Clean { node: _, load: _ } => true,
-        Job::Soiled { node: _, load: _ } => true,
-        Job::Transfer { from, to, load: _ } => {
-            let first = spot(spots, from);
-            let second = spot(spots, to);
-            !((second < first) & (first < 64))
-        },
-    }
-}
-
-// No transfer is in wrong order.
-fn in_order(s: &[u8], at: Layout, spots: &[usize; 64]) -> bool
-    requires { ⌜ Laid (now s) at × (length (now spots) ≡ 64) ⌝ }
-    ensures { λ r. ⌜ r ≡ allBelow (at .jobs) (ofJob (orderOk (now (spots .entry))) (jobIn (now (s .entry)))) ⌝ }
-{
-    let m = at.jobs;
-    let mut j = 0;
-    while j < m {
-        let job = day::jobs::job(s, at, j);
-        let ok = right_way(job, spots);
-        if !ok {
-            return false;
-        }
-        j += 1;
-    }
-    true
-}
-
-// No start is too late.
-fn in_windows(s: &[u8], at: Layout, route: &[usize; 64], e: &[usize; 64], stops: usize) -> bool
-    requires { ⌜ Laid (now s) at × Route (at .nodes) (now route) stops × (length (now e) ≡ 64) × ((i : ℕ) → i < stops → getD (now e) i 0 < 1099511627776) ⌝ }
-    ensures { λ r. ⌜ r ≡ allBelow stops (λ i. inTime (dayOf (now (s .entry))) (getD (now (route .entry)) i 0) (getD (now (e .entry)) i 0)) ⌝ }
-{
+    let z = route[0];
+    let mut t = day::look::earliest(s, at, z);
     let mut i = 0;
-    while i < stops {
+    while i + 1 < stops {
+        let p = route[i];
+        i += 1;
         let x = route[i];
-        let t = e[i];
-        let ok = along::times::in_time(t, along::times::last_moment(s, at, x));
-        if !ok {
+        t = along::times::arrive(s, at, t, p, x);
+        if day::look::latest(s, at, x) < t {
             return false;
         }
-        i += 1;
     }
     true
 }
@@ -209,47 +168,17 @@ pub fn owed(s: &[u8], at: Layout, route: &[usize; 64], stops: usize, marks: u64,
     requires { ⌜ Laid (now s) at × Route (at .nodes) (now route) stops ⌝ }
     ensures { λ r. ⌜ r ≡ owed (dayOf (now (s .entry))) (take stops (now (route .entry))) (has marks) x ⌝ }
 {
-    let spots = along::spots::spots(route, stops);
+    let mut spots = [64usize; 64];
+    along::spots::spots(route, stops, &mut spots);
     let on = placed(&spots, x);
     let marked = bits::has(marks, x);
     let pair = paired(s, at, &spots, marks, x);
     !on & (marked | pair)
 }
 
-// No node is owed and has no open place.
-fn none_owed(s: &[u8], at: Layout, spots: &[usize; 64], sets: &[u64; 64], marks: u64) -> bool
-    requires { ⌜ Laid (now s) at × (length (now spots) ≡ 64) × (length (now sets) ≡ 64) ⌝ }
-    ensures { λ r. ⌜ r ≡ (allBelow (at .nodes - 2) (markOk (onSpot (now (spots .entry))) (now (sets .entry)) marks) && allBelow (at .jobs) (ofJob (endsOk (onSpot (now (spots .entry))) (now (sets .entry)) marks) (jobIn (now (s .entry))))) ⌝ }
-{
-    let inner = at.nodes - 2;
-    let marked = marks_kept(spots, sets, marks, inner);
-    let paired = jobs_kept(s, at, spots, sets, marks);
-    marked & paired
-}
-
-// The route keeps window, metres and loads and has no transfer in wrong order.
-fn road_kept(
-    s: &[u8],
-    at: Layout,
-    van: Van,
-    route: &[usize; 64],
-    stops: usize,
-    spots: &[usize; 64],
-    e: &[usize; 64],
-    h: &[usize; 64],
-    total: usize,
-) -> bool
-    requires { ⌜ Laid (now s) at × Route (at .nodes) (now route) stops × Spots (now route) stops (now spots) × Ridden (dayOf (now s)) (now route) stops (now e) (now h) total ⌝ }
-    ensures { λ r. ⌜ r ≡ roadOk (vanIn van) (dayOf (now (s .entry))) (take stops (now (route .entry))) ⌝ }
-{
-    let windows = in_windows(s, at, route, e, stops);
-    let loads = in_capacity(h, stops - 1, van.capacity);
-    let order = in_order(s, at, spots);
-    windows & (total <= van.limit) & loads & order
-}
-
-// The verdict of a state in form.
-pub fn alive(
+// What the nodes have to keep: who is owed has a place, no load is too large and no transfer in wrong order. One pass over the jobs asks of each
+// whether it is kept, and has its load come aboard and go off.
+fn nodes_kept(
     s: &[u8],
     at: Layout,
     van: Van,
@@ -259,13 +188,50 @@ pub fn alive(
     marks: u64,
 ) -> bool
     requires { ⌜ Ready (now s) at (now route) stops (now sets) marks ⌝ }
+    ensures { λ r. ⌜ r ≡ nodesOk (vanIn van) (dayOf (now (s .entry))) (planFrom (now (route .entry)) stops (now (sets .entry)) marks) ⌝ }
+{
+    let mut spots = [64usize; 64];
+    along::spots::spots(route, stops, &mut spots);
+    if !marks_kept(&spots, sets, marks) {
+        return false;
+    }
+    let mut on = [0usize; 64];
+    let mut off = [0usize; 64];
+    let m = at.jobs;
+    let mut first = 0;
+    let mut ok = true;
+    let mut j = 0;
+    while j < m {
+        let job = day::jobs::job(s, at, j);
+        first += along::loads::stow(job, &spots, &mut on, &mut off);
+        ok = ok & job_kept(job, &spots, sets, marks);
+        j += 1;
+    }
+    if !ok {
+        return false;
+    }
+    along::loads::run(&mut on, &off, first, stops);
+    in_capacity(&on, stops - 1, van.capacity)
+}
+
+// The verdict of a state in form.
+pub fn alive<'a>(
+    s: &[u8],
+    at: Layout,
+    van: Van,
+    route: &'a [usize; 64],
+    stops: usize,
+    sets: &'a [u64; 64],
+    marks: u64,
+) -> bool
+    requires { ⌜ Ready (now s) at (now route) stops (now sets) marks ⌝ }
     ensures { λ r. ⌜ r ≡ alive (vanIn van) (dayOf (now (s .entry))) (planFrom (now (route .entry)) stops (now (sets .entry)) marks) ⌝ }
 {
-    let e = along::times::starts(s, at, route, stops);
-    let spots = along::spots::spots(route, stops);
-    let h = along::loads::loads(s, at, route, stops, &spots);
-    let total = along::times::length(s, at, route, stops);
-    let stand = none_owed(s, at, &spots, sets, marks);
-    let road = road_kept(s, at, van, route, stops, &spots, &e, &h, total);
-    stand & road
+    if !in_windows(s, at, route, stops) {
+        return false;
+    }
+    if van.limit < along::times::length(s, at, route, stops) {
+        return false;
+    }
+    nodes_kept(s, at, van, route, stops, sets, marks)
 }

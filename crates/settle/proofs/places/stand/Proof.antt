@@ -1,83 +1,63 @@
-use mathlib.Core.Path.{_≡_, refl}
-use Prim.Native.Nat.{_+_, _-_, _≤_}
+use mathlib.Core.Path.{sym, ap, _∙_}
+use Prim.Native.Nat.{_^_, _<_}
 use native.Mathlib.Omega.{arith}
 use lib.ListN.{getD}
-use lib.IntN.{pos}
-use mir.Syntax.{w64}
-use mir.Facts.{toZ-ofZ}
+use Rattle.bits.specs.Places.{without}
+use Rattle.bits.specs.Members.{without-fits}
 use Rattle.day.specs.Tell.{dayOf}
-use Rattle.along.specs.Walks.{Kept, kept-none, kept-up, kept-zero}
-use Rattle.settle.specs.Round.{standsAt}
+use Rattle.settle.specs.Round.{fitsLeg, Sifting, sift-all, sift-next, sift-done, rest-less, least-place}
+use Rattle.settle.specs.Ready.{nodes-most}
 use Rattle.settle.proofs.places.stand.Statement.{statement}
 use Rattle.settle.proofs.places.stand.Tie as tie
 
 abbrev Inv-loop : tie.InvT-loop
-Inv-loop s at limit word x route e l legs total w₀ i₀ w i = (i ≤ legs) × Kept route 0 i (standsAt (dayOf s) limit route e l total x) word w
+Inv-loop s at word x route spots leave l most total w₀ left₀ w left =
+    (left < 2 ^ 64) × Sifting (λ p. fitsLeg (dayOf s) route leave l most total x p (getD spots p 0)) word left w
 
 abbrev μ-loop : tie.MeasureT-loop
-μ-loop s at limit word x route e l legs total w₀ i₀ w i = legs - i
-
-returns : tie.Need-returns Inv-loop μ-loop
-returns c = kept-zero (c .if1 .taken)
+μ-loop s at word x route spots leave l most total w₀ left₀ w left = left
 
 loop-holds : tie.Need-loop-holds Inv-loop μ-loop
-loop-holds c = (omega arith, kept-none _ _ _ _ _ (omega arith))
+loop-holds c = (c .before .fits .word .fits, sift-all _ _)
 
-mul-p : tie.Need-mul-p Inv-loop μ-loop
-mul-p c = omega arith
+lowest-requires : tie.Need-lowest-requires Inv-loop μ-loop
+lowest-requires c κs = tt
 
-element-copy-out-p : tie.Need-element-copy-out-p Inv-loop μ-loop
-element-copy-out-p c = omega arith
+mul-i : tie.Need-mul-i Inv-loop μ-loop
+mul-i c = omega (arith, c .lowest .ensures .1)
 
-mul-t : tie.Need-mul-t Inv-loop μ-loop
-mul-t c = omega arith
-
-element-copy-out-t : tie.Need-element-copy-out-t Inv-loop μ-loop
-element-copy-out-t c = omega arith
-
-add-k : tie.Need-add-k Inv-loop μ-loop
-add-k c = omega arith
-
-mul-k : tie.Need-mul-k Inv-loop μ-loop
-mul-k c = omega arith
-
-element-copy-out-k : tie.Need-element-copy-out-k Inv-loop μ-loop
-element-copy-out-k c = omega arith
-
-add-last : tie.Need-add-last Inv-loop μ-loop
-add-last c = omega arith
-
-mul-last : tie.Need-mul-last Inv-loop μ-loop
-mul-last c = omega arith
-
-element-copy-out-last : tie.Need-element-copy-out-last Inv-loop μ-loop
-element-copy-out-last c = omega arith
+element-copy-out-i : tie.Need-element-copy-out-i Inv-loop μ-loop
+element-copy-out-i c =
+    let v = c .before .before .loop .inv in
+    let r = c .before .before .before .before .pre in
+    let q = least-place (r .2) (v .1) (c .before .loop-test .taken) (v .0) (c .lowest .ensures .0) in
+    omega (arith, q .node, nodes-most (r .0))
 
 tried-requires : tie.Need-tried-requires Inv-loop μ-loop
 tried-requires c κs =
-    let i = c .before .before .before .before .before .loop .i in
-    let q = c .before .before .before .before .before .before .before .before .pre in
-    (q .0, q .1, q .2 .nodes i (omega arith), q .2 .nodes (i + 1) (omega arith), q .2 .times i (omega arith), q .2 .whole, q .2 .bound)
+    let v = c .before .before .before .loop .inv in
+    let r = c .before .before .before .before .before .pre in
+    let q = least-place (r .2) (v .1) (c .before .before .loop-test .taken) (v .0) (c .before .lowest .ensures .0) in
+    (r .0, r .1, q, r .3)
 
-add-i : tie.Need-add-i Inv-loop μ-loop
-add-i c = omega arith
+rest-requires : tie.Need-rest-requires Inv-loop μ-loop
+rest-requires c κs = let z = c .before .before .before .loop-test .taken in omega arith
 
 loop-less : tie.Need-loop-less Inv-loop μ-loop
-loop-less c = omega arith
+loop-less c =
+    let l = c .before .before .before .before in
+    let z = l .loop-test .taken in
+    rw (c .rest .ensures) (rest-less (l .before .loop .left) (omega arith) (l .before .loop .inv .0))
 
 loop-again : tie.Need-loop-again Inv-loop μ-loop
 loop-again c =
-    let v = c .before .before .before .before .before .before .loop .inv in
-    let a = c .before .before .before .before .before .before .before .before .before .args in (
-      omega arith,
-      kept-up (omega arith) refl
-          (rw (toZ-ofZ {w = w64} {z = getD (a .l .now) (c .before .before .before .before .before .before .loop .i + 1) (pos 0)} (record { sfits = c .before .last .given })) at (c .tried .ensures))
-          (v .1),
-    )
+    let l = c .before .before .before in
+    let v = l .before .before .loop .inv in
+    let e = c .rest .ensures in
+    (rw e (without-fits _ _ (v .0)), sift-next _ (e ∙ ap (without _) (sym (l .lowest .ensures .0))) (c .before .tried .ensures) (v .1))
 
-returns-2 : tie.Need-returns-2 Inv-loop μ-loop
-returns-2 c =
-    let v = c .before .loop .inv in let e : c .before .loop .i ≡ c .before .before .before .before .args .legs = omega arith in rw e at (v .1)
+returns : tie.Need-returns Inv-loop μ-loop
+returns c = sift-done (omega (arith, c .loop-test .left)) (c .before .loop .inv .1)
 
 pub stand-spec : {M : Type 1} → statement M
 stand-spec =
@@ -85,20 +65,12 @@ stand-spec =
     (tie.spec
     Inv-loop
     μ-loop
-    returns
     loop-holds
-    mul-p
-    element-copy-out-p
-    mul-t
-    element-copy-out-t
-    add-k
-    mul-k
-    element-copy-out-k
-    add-last
-    mul-last
-    element-copy-out-last
+    lowest-requires
+    mul-i
+    element-copy-out-i
     tried-requires
-    add-i
+    rest-requires
     loop-less
     loop-again
-    returns-2)
+    returns)

@@ -1,14 +1,30 @@
+use mathlib.Core.Path.{_∙_}
+use Prim.Native.Nat.{_+_}
+use lib.IntN.{pos}
+use lib.Signed.{leZ}
 use mir.Facts.{toZ-ofZ}
 use Rattle.day.specs.Tell.{dayOf}
 use Rattle.along.specs.Route.{low}
 use Rattle.along.proofs.Signed.{moment-kept}
-use Rattle.settle.specs.Round.{window-is}
+use Rattle.settle.specs.Round.{first-fails, second-tells}
 use borrow.Author.Needs.{needs}
 use Rattle.settle.proofs.places.window.Statement.{statement}
 use Rattle.settle.proofs.places.window.Tie as tie
 
-arrive-requires : tie.Need-arrive-requires
-arrive-requires c κs = search needs
+reach-requires : tie.Need-reach-requires
+reach-requires c κs = search needs
+
+last-moment-requires : tie.Need-last-moment-requires
+last-moment-requires c κs = search needs
+
+in-time-requires : tie.Need-in-time-requires
+in-time-requires c κs = search needs
+
+returns : tie.Need-returns
+returns c =
+    let a = c .before .before .before .before .before .args in
+    let m = moment-kept (dayOf (a .s .now)) (low (a .s .now)) (a .x) (c .before .before .last-moment .ensures) in
+    first-fails _ (c .before .in-time .ensures ∙ (λ i. leZ (pos (c .before .before .before .reach .ensures .0 i)) (m i))) (c .if1 .taken)
 
 service-requires : tie.Need-service-requires
 service-requires c κs = search needs
@@ -22,34 +38,30 @@ seconds-requires c κs = search needs
 add-b-2 : tie.Need-add-b-2
 add-b-2 c = search needs
 
-last-moment-requires : tie.Need-last-moment-requires
-last-moment-requires c κs = search needs
-
-in-time-requires : tie.Need-in-time-requires
-in-time-requires c κs = search needs
-
 in-time-requires-2 : tie.Need-in-time-requires-2
 in-time-requires-2 c κs = search needs
 
-returns : tie.Need-returns
-returns c =
-    let a = c .before .before .before .before .before .before .before .args in
-    window-is (dayOf (a .s .now)) (a .x) (a .p) (a .k) (a .t) (a .last) (c .before .in-time .ensures) (c .in-time2 .ensures)
-    (c .before .before .before .before .before .arrive .ensures .0)
-    (moment-kept (dayOf (a .s .now)) (low (a .s .now)) (a .x) (c .before .before .last-moment .ensures))
-    (c .before .before .before .before .service .ensures .is) (c .before .before .before .seconds .ensures .is)
-    (toZ-ofZ (c .before .before .before .before .before .before .before .fits .last))
+returns-2 : tie.Need-returns-2
+returns-2 c =
+    let b = c .before .before .before in
+    let a = b .before .before .before .before .before .args in
+    let r = b .before .before .before .reach .ensures .0 in
+    let m = moment-kept (dayOf (a .s .now)) (low (a .s .now)) (a .x) (b .before .before .last-moment .ensures) in
+    let z = toZ-ofZ (b .before .before .before .before .before .fits .last) in
+    second-tells (b .before .in-time .ensures ∙ (λ i. leZ (pos (r i)) (m i))) (b .if1 .left)
+    (c .in-time2 .ensures ∙ (λ i. leZ (pos (r i + c .before .before .service .ensures .is i + c .before .seconds .ensures .is i)) (z i)))
 
 pub window-spec : {M : Type 1} → statement M
 window-spec =
     tie.close
     (tie.spec
-    arrive-requires
+    reach-requires
+    last-moment-requires
+    in-time-requires
+    returns
     service-requires
     add-b
     seconds-requires
     add-b-2
-    last-moment-requires
-    in-time-requires
     in-time-requires-2
-    returns)
+    returns-2)

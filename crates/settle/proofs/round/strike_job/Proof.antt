@@ -1,4 +1,4 @@
-use Rattle.settle.specs.Round.{job-clean, job-soiled, job-transfer}
+use Rattle.settle.specs.Round.{loadOk}
 use borrow.Author.Needs.{needs}
 use Rattle.settle.proofs.round.strike_job.Statement.{statement}
 use Rattle.settle.proofs.round.strike_job.Tie as tie
@@ -6,79 +6,53 @@ use Rattle.settle.proofs.round.strike_job.Tie as tie
 enum-known-job : tie.Need-enum-known-job
 enum-known-job c = search needs
 
-through-requires : tie.Need-through-requires
-through-requires c κs = search needs
-
-front-requires : tie.Need-front-requires
-front-requires c κs =
-    let q = c .before .before .before .before .before .pre in
-    (q .1, rw (c .through .ensures) (rw (c .before .before .before .job .given .1) at (q .2)))
+strike-clean-requires : tie.Need-strike-clean-requires
+strike-clean-requires c κs =
+    let q = c .before .before .before .before .pre in
+    let e = c .before .before .job .given .1 in
+    (rw e at (q .0), q .2, rw e at (q .3))
 
 enum-known-job-2 : tie.Need-enum-known-job-2
 enum-known-job-2 c = search needs
 
-through-requires-2 : tie.Need-through-requires-2
-through-requires-2 c κs = search needs
-
-rear-requires : tie.Need-rear-requires
-rear-requires c κs =
-    let q = c .before .before .before .before .before .pre in
-    (q .1, rw (c .through2 .ensures) (rw (c .before .before .before .job2 .given .1) at (q .2)))
+strike-soiled-requires : tie.Need-strike-soiled-requires
+strike-soiled-requires c κs =
+    let q = c .before .before .before .before .pre in
+    let e = c .before .before .job2 .given .1 in
+    (rw e at (q .0), q .2, rw e at (q .3))
 
 enum-known-job-3 : tie.Need-enum-known-job-3
 enum-known-job-3 c = search needs
 
-places-requires : tie.Need-places-requires
-places-requires c κs = search needs
-
-between-requires : tie.Need-between-requires
-between-requires c κs = search needs
-
-rear-requires-2 : tie.Need-rear-requires-2
-rear-requires-2 c κs =
-    let q = c .before .before .before .before .before .before .pre in
-    (q .1, rw (c .before .between .ensures) (rw (c .before .before .before .before .job3 .given .1) at (q .2)))
-
-places-requires-2 : tie.Need-places-requires-2
-places-requires-2 c κs = search needs
-
-between-requires-2 : tie.Need-between-requires-2
-between-requires-2 c κs = search needs
-
-front-requires-2 : tie.Need-front-requires-2
-front-requires-2 c κs =
-    let q = c .before .before .before .before .before .before .before .before .before .before .pre in (
-      c .before .before .before .rear2 .ensures .long,
-      rw (c .before .between2 .ensures) (rw (c .before .before .before .before .before .before .before .before .job3 .given .1) at (q .2)),
-    )
+strike-transfer-requires : tie.Need-strike-transfer-requires
+strike-transfer-requires c κs =
+    let q = c .before .before .before .before .pre in
+    let e = c .before .before .job3 .given .1 in
+    let h = rw e at (q .0) in
+    (h .0, h .1, q .1, q .2, rw e at (q .3))
 
 returns : tie.Need-returns
-returns c = rw (c .before .before .before .before .job .given .1) (job-clean _ _ _ _ _ (c .before .through .ensures) (c .front .ensures))
+unfolding loadOk
+returns c = rw (c .before .before .before .job .given .1) (c .strike-clean .ensures)
 
 returns-2 : tie.Need-returns-2
-returns-2 c = rw (c .before .before .before .before .job2 .given .1) (job-soiled _ _ _ _ _ (c .before .through2 .ensures) (c .rear .ensures))
+unfolding loadOk
+returns-2 c = rw (c .before .before .before .job2 .given .1) (c .strike-soiled .ensures)
 
 returns-3 : tie.Need-returns-3
-returns-3 c =
-    rw (c .before .before .before .before .before .before .before .before .before .job3 .given .1) (job-transfer _ _ _ _ _ _ (c .before .before .before .before .before .before .before .places .ensures) (c .before .before .before .places2 .ensures) (c .before .before .before .before .before .before .between .ensures) (c .before .before .between2 .ensures) (c .before .before .before .before .rear2 .ensures) (c .front2 .ensures))
+unfolding loadOk
+returns-3 c = rw (c .before .before .before .job3 .given .1) (c .strike-transfer .ensures)
 
 pub strike-job-spec : {M : Type 1} → statement M
 strike-job-spec =
     tie.close
     (tie.spec
     enum-known-job
-    through-requires
-    front-requires
+    strike-clean-requires
     enum-known-job-2
-    through-requires-2
-    rear-requires
+    strike-soiled-requires
     enum-known-job-3
-    places-requires
-    between-requires
-    rear-requires-2
-    places-requires-2
-    between-requires-2
-    front-requires-2
+    strike-transfer-requires
     returns
     returns-2
     returns-3)

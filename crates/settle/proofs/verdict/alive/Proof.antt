@@ -1,63 +1,46 @@
-use Rattle.day.specs.Asked.{proper}
-use mathlib.Core.Path.{sym, ap}
+use mathlib.Core.Path.{refl, sym, ap, _∙_}
 use Prim.Native.Nat.{ℕ}
-use Rattle.laws.specs.Table.{tab}
-use Rattle.day.specs.Jobs.{jobIn}
+use lib.Dec.{leb}
+use borrow.Author.Tests.{le-leb, lt-leb, not-true, not-false}
 use Rattle.day.specs.Tell.{dayOf}
-use Rattle.settle.specs.Ready.{vanIn, jobs-are, nodes-are}
-use Rattle.settle.proofs.Facts.{route-of, near-nodes}
+use Rattle.settle.specs.Sets.{planFrom}
+use Rattle.settle.specs.Ready.{vanIn}
+use Rattle.settle.proofs.Facts.{route-of}
 use Rattle.settle.proofs.Road.{alive-told}
+use borrow.Author.Needs.{needs}
 use Rattle.settle.proofs.verdict.alive.Statement.{statement}
 use Rattle.settle.proofs.verdict.alive.Tie as tie
 
-starts-requires : tie.Need-starts-requires
-starts-requires c κs = let p = c .before .pre in (p .laid, route-of p)
-
-spots-requires : tie.Need-spots-requires
-spots-requires c κs = let p = c .before .before .pre in (p .long, p .most, near-nodes p)
-
-loads-requires : tie.Need-loads-requires
-loads-requires c κs = let p = c .before .before .before .before .pre in (p .laid, route-of p, c .before .spots .ensures)
-
-length-requires : tie.Need-length-requires
-length-requires c κs = let p = c .before .before .before .before .before .pre in (p .laid, route-of p)
-
-none-owed-requires : tie.Need-none-owed-requires
-none-owed-requires c κs =
-    let p = c .before .before .before .before .before .before .before .pre in
-    (p .laid, c .before .before .before .before .spots .ensures .long, p .sized)
-
-road-kept-requires : tie.Need-road-kept-requires
-road-kept-requires c κs =
-    let p = c .before .before .before .before .before .before .before .before .before .before .before .pre in (
-      p .laid,
-      route-of p,
-      c .before .before .before .before .before .before .before .before .spots .ensures,
-      record {
-        starts = c .before .before .before .before .before .before .before .before .before .starts .ensures;
-        loads = c .before .before .before .before .before .before .loads .ensures;
-        metres = c .before .before .before .before .before .length .ensures .0;
-      },
-    )
+in-windows-requires : tie.Need-in-windows-requires
+in-windows-requires c κs = let p = c .before .pre in (p .laid, route-of p)
 
 returns : tie.Need-returns
 returns c =
-    let a = c .before .before .before .before .before .before .before .before .before .before .before .before .args in
-    let p = c .before .before .before .before .before .before .before .before .before .before .before .before .pre in
-    alive-told (dayOf (a .s .now)) (jobIn (a .s .now)) (a .at .jobs) (ap (λ (k : ℕ). tab k (jobIn (a .s .now))) (sym (jobs-are (p .laid))))
-    (a .route .now) (a .stops) (p .long) (p .most) (p .form .nodes)
-    (c .before .before .before .before .before .before .before .before .before .spots .result)
-    (c .before .before .before .before .before .before .before .before .before .spots .ensures) (vanIn (a .van)) (a .sets .now) (a .marks)
-    (a .at .nodes) (nodes-are (p .laid)) (proper (a .s .now) (p .clear)) (p .form .leg) (c .before .before .before .before .none-owed .ensures) (c .road-kept .ensures)
+    let a = c .before .before .before .args in
+    alive-told (vanIn (a .van)) (dayOf (a .s .now)) (planFrom (a .route .now) (a .stops) (a .sets .now) (a .marks))
+    (sym (not-true _ (c .if1 .taken)) ∙ c .before .in-windows .ensures) refl refl
+
+length-requires : tie.Need-length-requires
+length-requires c κs = let p = c .before .before .before .pre in (p .laid, route-of p)
+
+returns-2 : tie.Need-returns-2
+returns-2 c =
+    let a = c .before .before .before .before .before .before .args in
+    alive-told (vanIn (a .van)) (dayOf (a .s .now)) (planFrom (a .route .now) (a .stops) (a .sets .now) (a .marks))
+    (sym (not-false _ (c .before .before .before .if1 .left)) ∙ c .before .before .before .before .in-windows .ensures)
+    (sym (lt-leb _ _ (c .if2 .taken)) ∙ ap (λ (k : ℕ). leb k (a .van .limit)) (c .before .before .length .ensures .0)) refl
+
+nodes-kept-requires : tie.Need-nodes-kept-requires
+nodes-kept-requires c κs = search needs
+
+returns-3 : tie.Need-returns-3
+returns-3 c =
+    let a = c .before .before .before .before .before .before .before .args in
+    alive-told (vanIn (a .van)) (dayOf (a .s .now)) (planFrom (a .route .now) (a .stops) (a .sets .now) (a .marks))
+    (sym (not-false _ (c .before .before .before .before .if1 .left)) ∙ c .before .before .before .before .before .in-windows .ensures)
+    (sym (le-leb _ _ (c .before .if2 .left)) ∙ ap (λ (k : ℕ). leb k (a .van .limit)) (c .before .before .before .length .ensures .0)) (c .nodes-kept .ensures)
 
 pub alive-spec : {M : Type 1} → statement M
 alive-spec =
     tie.close
-    (tie.spec
-    starts-requires
-    spots-requires
-    loads-requires
-    length-requires
-    none-owed-requires
-    road-kept-requires
-    returns)
+    (tie.spec in-windows-requires returns length-requires returns-2 nodes-kept-requires returns-3)

@@ -29,8 +29,9 @@ returns : tie.Need-returns Inv-loop μ-loop
 returns c =
     let a = c .before .before .before .before .before .before .args in
     let F = called (onSpot (a .spots .now)) (a .marks) in
+    let e = ap (λ (q : Job). not (partnered F (a .x) q)) (sym (c .before .before .job .ensures)) ∙ ap not (sym (c .before .pairs .ensures) ∙ c .if1 .taken) in
     ap not
-    (sym (below-fails (a .at .jobs) (c .before .before .before .before .loop .j) (λ k. not (partnered F (a .x) (jobIn (a .s .now) k))) (omega arith) (ap (λ (q : Job). not (partnered F (a .x) q)) (sym (c .before .before .job .ensures)) ∙ ap not (sym (c .before .pairs .ensures) ∙ c .if1 .taken))))
+    (sym (below-fails (a .at .jobs) (c .before .before .before .before .loop .j) (λ k. not (partnered F (a .x) (jobIn (a .s .now) k))) (omega arith) e))
 
 add-j : tie.Need-add-j Inv-loop μ-loop
 add-j c = omega arith

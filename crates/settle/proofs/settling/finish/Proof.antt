@@ -1,0 +1,47 @@
+use mathlib.Core.Path.{sym, _∙_}
+use native.Mathlib.Omega.{arith}
+use Rattle.settle.specs.Ready.{vanIn}
+use Rattle.settle.proofs.Facts.{two-stops}
+use Rattle.settle.proofs.Again.{first-sized, none-left, one-left, two-left}
+use Rattle.settle.proofs.settling.finish.Statement.{statement}
+use Rattle.settle.proofs.settling.finish.Tie as tie
+
+same-requires : tie.Need-same-requires
+same-requires c κs = let b = c .before .before in (b .pre .0 .0 .sized, first-sized (vanIn (b .args .van)) (b .pre .0 .0) (b .pre .0 .1))
+
+returns : tie.Need-returns
+returns c =
+    let b = c .before .before .before .before in none-left (vanIn (b .args .van)) (b .pre .0 .0) (b .pre .0 .1) (sym (c .before .same .ensures) ∙ c .if1 .taken)
+
+sub-legs : tie.Need-sub-legs
+sub-legs c = omega (arith, two-stops (c .before .before .before .before .before .pre .0 .0))
+
+again-requires : tie.Need-again-requires
+again-requires c κs =
+    let b = c .before .before .before .before .before .before .before in
+    let n = first-sized (vanIn (b .args .van)) (b .pre .0 .0) (b .pre .0 .1) in
+    (b .pre .0 .0 .laid, n, n, b .pre .1 .1)
+
+same-requires-2 : tie.Need-same-requires-2
+same-requires-2 c κs =
+    let b = c .before .before .before .before .before .before .before .before .before .before in
+    (first-sized (vanIn (b .args .van)) (b .pre .0 .0) (b .pre .0 .1), c .before .before .again .ensures .long)
+
+returns-2 : tie.Need-returns-2
+returns-2 c =
+    let b = c .before .before .before .before .before .before .before .before .before .before .before .before in
+    let e = c .before .before .before .before .before .before .before .before in
+    one-left (vanIn (b .args .van)) (b .pre .0 .0) (b .pre .0 .1) (b .pre .1 .0) (c .before .before .before .before .again .ensures)
+    (sym (e .before .same .ensures) ∙ e .if1 .left) (sym (c .before .same2 .ensures) ∙ c .if2 .taken)
+
+returns-3 : tie.Need-returns-3
+returns-3 c =
+    let b = c .before .before .before .before .before .before .before .before .before .before .before .before in
+    let e = c .before .before .before .before .before .before .before .before in
+    two-left (vanIn (b .args .van)) (b .pre .0 .0) (b .pre .0 .1) (b .pre .1 .0) (c .before .before .before .before .again .ensures)
+    (sym (e .before .same .ensures) ∙ e .if1 .left) (sym (c .before .same2 .ensures) ∙ c .if2 .left)
+
+pub finish-spec : {M : Type 1} → statement M
+finish-spec =
+    tie.close
+    (tie.spec same-requires returns sub-legs again-requires same-requires-2 returns-2 returns-3)
