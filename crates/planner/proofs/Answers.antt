@@ -6,7 +6,7 @@ use mathlib.Core.List.{List}
 use lib.Dec.{eqb}
 use borrow.Author.Tests.{eqb-true, eqb-false, eq-eqb, ne-eqb}
 use Rattle.laws.specs.Logic.{decided, and-true}
-use Rattle.laws.specs.Choice.{or-else-zero, unless-zero}
+use Rattle.laws.specs.Choice.{orElse, or-else-zero, unless-zero}
 use Rattle.sheet.specs.Section.{nOf}
 use Rattle.sheet.specs.Place.{Fine}
 use Rattle.day.specs.Refuse.{refusal14, fine14}
@@ -17,7 +17,7 @@ use Rattle.board.specs.declared.State.{State}
 use Rattle.trail.specs.Trail.{roomOf}
 use Rattle.trail.specs.Steps as trail
 use Rattle.trail.specs.StepLaws.{step-no, step-yes}
-use Rattle.planner.specs.Face.{Ran, refused, stepped, stepOf, actOf, callRefusal, settlingRounds}
+use Rattle.planner.specs.Face.{Ran, refused, acted, stepped, stepOf, actOf, callRefusal, settlingRounds}
 use Rattle.planner.specs.Promises.{Took, Unchanged}
 
 -- ---- a call that is not refused: the sheet is fine, the state in form, its records within the room
@@ -35,6 +35,10 @@ called sheet s t e =
     let f = unless-zero (formWith (nOf sheet) s (roomOf t)) 18 (h .1) in
     record { read = h .0; form = and-true (inForm (nOf sheet) s) _ f .0; room = f; fine = fine14 sheet (h .0) }
 
+pub call-made : (sheet : List ℕ) (s : State) (t : List ℕ) → refusal14 sheet ≡ 0 → formWith (nOf sheet) s (roomOf t) ≡ true → callRefusal sheet s t ≡ 0
+unfolding callRefusal orElse
+call-made sheet s t z f = rw (z, f)
+
 module _ (sheet : List ℕ) (s : State) (t : List ℕ) (kind a b : ℕ) where
   pub call-yes : callRefusal sheet s t ≡ 0 → stepOf sheet s t kind a b ≡ actOf sheet s t kind a b
   unfolding stepOf
@@ -45,9 +49,9 @@ module _ (sheet : List ℕ) (s : State) (t : List ℕ) (kind a b : ℕ) where
   call-no n = rw (ne-eqb (callRefusal sheet s t) 0 n)
 
   -- an accepted step was called on a fine sheet and a state in form, and it acted
-  pub acted : {k : ℕ} {s′ : State} {t′ : List ℕ} → Took sheet s t kind a b k s′ t′
-      → Called sheet s t × (actOf sheet s t kind a b ≡ (record { answer = 0; rounds = k; state = s′ }, t′))
-  acted e =
+  pub acting : {k : ℕ} {s′ : State} {t′ : List ℕ} → Took sheet s t kind a b k s′ t′
+      → Called sheet s t × (actOf sheet s t kind a b ≡ acted 0 k s′ t′)
+  acting e =
       decided (eqb (callRefusal sheet s t) 0)
       (λ q. let z = eqb-true (callRefusal sheet s t) 0 q in (called sheet s t z, sym (call-yes z) ∙ e))
       (λ q. let n = eqb-false (callRefusal sheet s t) 0 q in absurd (n (sym (ap (λ (r : Ran). r .0 .answer) (call-no n)) ∙ ap (λ (r : Ran). r .0 .answer) e)))

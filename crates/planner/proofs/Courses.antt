@@ -1,15 +1,13 @@
 -- Accepted steps one after another: stepping back, and the bound on records.
 use Prim.Native.Nat.{ℕ, _+_, _-_, _≤_, _<_}
 use mathlib.Core.Path.{_≡_, sym, ap, _∙_}
-use mathlib.Core.Bool.{true}
 use mathlib.Core.List.{List}
 use native.Mathlib.Omega.{arith}
 use lib.Dec.{ltb}
-use Rattle.laws.specs.Choice.{orElse, unless}
+use Rattle.laws.specs.Choice.{unless}
 use Rattle.sheet.specs.Section.{nOf}
 use Rattle.day.specs.Refuse.{refusal14, fine14}
 use Rattle.board.specs.Board.{Board, boardOf}
-use Rattle.board.specs.Form.{formWith}
 use Rattle.board.specs.FormLaws as board
 use Rattle.board.specs.Fresh.{freshState}
 use Rattle.board.specs.Held.{Held, Words}
@@ -22,14 +20,9 @@ use Rattle.trail.specs.StepBack.{here-since, step-back, step-back-below}
 use Rattle.trail.specs.Bound.{reached, records-bound}
 use Rattle.planner.specs.Face.{Ran, stepped, actOf, callRefusal}
 use Rattle.planner.specs.Promises.{Took, Steps, none, then, StepsBack, RecordsBounded}
-use Rattle.planner.proofs.Answers.{Called, acted, call-yes}
+use Rattle.planner.proofs.Answers.{Called, acting, call-yes, call-made}
 use Rattle.planner.proofs.Moves.{moved, unlift}
-use Rattle.planner.proofs.Kept.{records-in, form-made}
-
--- a sheet that is fine and a state in form within the room: the call is not refused
-pub call-made : (sheet : List ℕ) (s : State) (t : List ℕ) → refusal14 sheet ≡ 0 → formWith (nOf sheet) s (roomOf t) ≡ true → callRefusal sheet s t ≡ 0
-unfolding callRefusal orElse
-call-made sheet s t z f = rw (z, f)
+use Rattle.planner.proofs.Kept.{form-made}
 
 -- steps since a level, as the trail has them
 module _ (sheet : List ℕ) (b : Board) (k d : ℕ) (levels t₀ : List ℕ) (f : board.Sound (nOf sheet) b) (w : Words b) where
@@ -49,7 +42,7 @@ module _ (sheet : List ℕ) (s : State) (t : List ℕ) (held : Held s) (c : Call
   form = board.in-form (nOf sheet) s small (held .wide) (c .form)
 
   room : s .records ≤ roomOf t
-  room = records-in (nOf sheet) s (roomOf t) (c .room)
+  room = board.form-with (nOf sheet) s (roomOf t) (c .room) .1
 
   pub sound : board.Sound (nOf sheet) (boardOf s)
   sound = record { small = small; wide = held .wide; form = form .board }
@@ -63,7 +56,7 @@ opened s s₁ t t₁ e = sym (ap (λ (r : trail.Ran). r .0 .state .depth) (accep
 
 acted-level : (sheet : List ℕ) (s s₁ : State) (t t₁ : List ℕ) (a b k : ℕ) → Took sheet s t 6 a b k s₁ t₁ → trail.levelStep s t ≡ trail.answered 0 s₁ t₁
 unfolding actOf
-acted-level sheet s s₁ t t₁ a b k e = unlift 0 (trail.levelStep s t) (acted sheet s t 6 a b e .1)
+acted-level sheet s s₁ t t₁ a b k e = unlift 0 (trail.levelStep s t) (acting sheet s t 6 a b e .1)
 
 took-back : (sheet : List ℕ) (s s′ : State) (t : List ℕ) (a b : ℕ) → callRefusal sheet s t ≡ 0 → trail.backStep (nOf sheet) s t ≡ trail.answered 0 s′ t → Took sheet s t 7 a b 0 s′ t
 unfolding actOf
@@ -71,7 +64,7 @@ took-back sheet s s′ t a b z e = call-yes sheet s t 7 a b z ∙ ap (stepped 0)
 
 pub steps-back : StepsBack
 steps-back sheet s s₁ s₂ t t₁ t₂ a b k c d held e steps last =
-    let u = acted sheet s t 6 a b e .0 in
+    let u = acting sheet s t 6 a b e .0 in
     let n = nOf sheet in
     let open-level = acted-level sheet s s₁ t t₁ a b k e in
     let up = opened s s₁ t t₁ open-level in

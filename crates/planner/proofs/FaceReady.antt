@@ -1,6 +1,6 @@
 -- A sheet that 1 to 4 do not refuse and a state in form are what the steps, settling and the verdict ask.
-use Prim.Native.Nat.{ℕ, _≤_}
-use mathlib.Core.Path.{_≡_, ap, _∙_}
+use Prim.Native.Nat.{ℕ}
+use mathlib.Core.Path.{_≡_, sym, ap, subst, _∙_}
 use mathlib.Core.Bool.{true}
 use mathlib.Core.List.{List}
 use native.Mathlib.Omega.{arith}
@@ -8,9 +8,9 @@ use Rattle.sheet.specs.Section.{nOf}
 use Rattle.sheet.specs.Place.{Laid}
 use Rattle.sheet.specs.declared.Layout.{Layout}
 use Rattle.day.specs.Refuse.{refusal14}
-use Rattle.board.specs.Board.{routeOf, setOf, openAt}
+use Rattle.board.specs.Board.{boardOf, routeOf, setOf, openAt}
 use Rattle.board.specs.Form.{inForm, formWith}
-use Rattle.board.specs.FormLaws.{in-form, form-with}
+use Rattle.board.specs.FormLaws.{Formed, Sound, in-form}
 use Rattle.board.specs.Held.{Held}
 use Rattle.board.specs.declared.State.{State}
 use Rattle.settle.specs.Ready.{Ready, nodes-most}
@@ -31,11 +31,14 @@ ready {sheet} {at} s z l h e =
       form = state-formed sheet s h z e;
     }
 
--- what the steps ask: the number of nodes is small, and the state is in form for it
-pub with-trail : {sheet : List ℕ} {at : Layout} (s : State) (room : ℕ) → Laid sheet at → formWith (nOf sheet) s room ≡ true
-    → (at .nodes ≤ 64) × (formWith (at .nodes) s room ≡ true)
-with-trail s room l e = (nodes-most l, ap (λ (n : ℕ). formWith n s room) (l .nodes) ∙ e)
+-- what the steps ask of the board
+pub sound : {sheet : List ℕ} {at : Layout} (s : State) → Laid sheet at → Held s → inForm (nOf sheet) s ≡ true → Sound (at .nodes) (boardOf s)
+sound {sheet} s l h e = record {
+  small = nodes-most l;
+  wide = h .wide;
+  form = subst (λ (n : ℕ). Formed n (boardOf s)) (sym (l .nodes)) (in-form (nOf sheet) s (l .fine .n-high) (h .wide) e .board);
+}
 
-pub alone : {sheet : List ℕ} {at : Layout} (s : State) (room : ℕ) → Laid sheet at → formWith (nOf sheet) s room ≡ true
-    → (at .nodes ≤ 64) × (inForm (at .nodes) s ≡ true)
-alone s room l e = let w = with-trail s room l e in (w .0, form-with _ _ _ (w .1) .0)
+-- stepping back asks for the levels and the records too
+pub with-trail : {sheet : List ℕ} {at : Layout} (s : State) (room : ℕ) → Laid sheet at → formWith (nOf sheet) s room ≡ true → formWith (at .nodes) s room ≡ true
+with-trail s room l e = ap (λ (n : ℕ). formWith n s room) (l .nodes) ∙ e

@@ -2,16 +2,18 @@
 use Prim.Native.Nat.{ℕ, _-_, _≤_, _<_}
 use mathlib.Core.Path.{_≡_, sym, ap, subst, _∙_}
 use mathlib.Core.Bool.{true, false, not}
+use mathlib.Core.List.{List}
 use mathlib.Core.Logic.{_↔_}
 use native.Mathlib.Omega.{arith}
-use lib.Dec.{T, leb, ltb}
+use lib.Dec.{T, ltb}
 use lib.Count.{ones}
 use lib.ListN.{getD, List·getD-eq-default}
-use borrow.Author.Tests.{leb-true, le-leb, ltb-true, ltb-false}
-use Rattle.laws.specs.Logic.{decided, and-true, true→T, false→N}
+use borrow.Author.Tests.{le-leb, ltb-true, ltb-false}
+use Rattle.laws.specs.Logic.{decided, true→T, false→N}
 use Rattle.laws.specs.Lists.{mem}
 use Rattle.laws.specs.Sum.{sum-lt}
 use Rattle.sheet.specs.Section.{nOf}
+use Rattle.day.specs.Refuse.{refusal14}
 use Rattle.day.specs.Tell.{dayOf, vanOf}
 use Rattle.day.specs.Asked.{proper, one-end, short-tables}
 use Rattle.bits.specs.Places.{has}
@@ -32,20 +34,16 @@ use Rattle.board.specs.Held.{Held}
 use Rattle.board.specs.declared.State.{State}
 use Rattle.trail.specs.Trail.{roomOf}
 use Rattle.trail.specs.StepBack.{move-keeps}
-use Rattle.planner.specs.Face.{planIn, countOf, judgeOf}
+use Rattle.planner.specs.Face.{planIn, actOf, stepOf, countOf, judgeOf}
 use Rattle.planner.specs.Promises.{FormKept, PlacingKeeps, ClosingKeeps, ExcludingKeeps, RequiringKeeps, SettlingStrikes, SettlingLosesNone, NoGapAlive, DeadNone}
 use Rattle.planner.specs.declared.Counted.{Counted}
 use Rattle.planner.specs.declared.Judged.{Judged}
-use Rattle.planner.proofs.Answers.{acted}
+use Rattle.planner.proofs.Answers.{call-made, call-yes, acting}
 use Rattle.planner.proofs.FaceLaws.{asked}
 use Rattle.planner.proofs.Plans.{state-formed, plan-formed, placed-plan, closed-plan, excluded-plan, required-plan, settled-plan}
 use Rattle.planner.proofs.Moves.{moved}
 
 -- ---- demand 1
-
-pub records-in : (n : ℕ) (s : State) (room : ℕ) → formWith n s room ≡ true → s .records ≤ room
-unfolding formWith
-records-in n s room e = leb-true (s .records) room (and-true (inForm n s) (leb (s .records) room) e .1)
 
 pub form-made : (n : ℕ) (s : State) (room : ℕ) → inForm n s ≡ true → s .records ≤ room → formWith n s room ≡ true
 unfolding formWith
@@ -53,10 +51,16 @@ form-made n s room e l = rw (e, le-leb (s .records) room l)
 
 pub form-kept : FormKept
 form-kept sheet s s′ t t′ kind a b k held wordy e =
-    let c = acted sheet s t kind a b e .0 in
+    let c = acting sheet s t kind a b e .0 in
     let small = c .fine .n-high in
-    let m = move-keeps (nOf sheet) s t s′ t′ small held (board.in-form (nOf sheet) s small (held .wide) (c .form)) (records-in (nOf sheet) s (roomOf t) (c .room)) wordy (moved sheet s t kind a b held e) in
+    let f = board.in-form (nOf sheet) s small (held .wide) (c .form) in
+    let m = move-keeps (nOf sheet) s t s′ t′ small held f (board.form-with (nOf sheet) s (roomOf t) (c .room) .1) wordy (moved sheet s t kind a b held e) in
     (form-made (nOf sheet) s′ (roomOf t′) (board.in-form-of (nOf sheet) s′ small (m .held .wide) (m .form)) (m .room), m .held, m .long)
+
+-- a step on a sheet that 1 to 4 do not refuse and a state in form acts
+pub step-acts : (sheet : List ℕ) (s : State) (t : List ℕ) (kind a b : ℕ) → refusal14 sheet ≡ 0 → formWith (nOf sheet) s (roomOf t) ≡ true
+    → stepOf sheet s t kind a b ≡ actOf sheet s t kind a b
+step-acts sheet s t kind a b z e = call-yes sheet s t kind a b (call-made sheet s t z e)
 
 -- ---- demand 2: the rounds that each step keeps
 
@@ -64,7 +68,7 @@ pub placing-keeps : PlacingKeeps
 placing-keeps sheet s s′ t t′ p x k held e R =
     let u = placed-plan sheet s t held p x e in
     subst (λ (a : Plan). Belongs (dayOf sheet) a R ↔ (Belongs (dayOf sheet) (planIn s) R × T (step.uses p x (planIn s .route) R))) (sym (u .0))
-    (placed-rounds (dayOf sheet) (planIn s) R p x (plan-formed held (acted sheet s t 1 p x e .0)) (u .1))
+    (placed-rounds (dayOf sheet) (planIn s) R p x (plan-formed held (acting sheet s t 1 p x e .0)) (u .1))
 
 pub closing-keeps : ClosingKeeps
 closing-keeps sheet s s′ t t′ p x k held e R =
@@ -82,7 +86,7 @@ requiring-keeps sheet s s′ t t′ x b k held e R =
 
 pub settling-strikes : SettlingStrikes
 settling-strikes sheet s s′ t t′ a b k held e =
-    let c = acted sheet s t 5 a b e .0 in
+    let c = acting sheet s t 5 a b e .0 in
     let u = settled-plan sheet s t held a b e in
     (u .0, u .1, rw (u .1) (at-most-two (vanOf sheet) (dayOf sheet) (one-end sheet (c .read)) (planIn s .route) (plan-formed held c .nodes) (planIn s .places)))
 

@@ -21,9 +21,9 @@ use Rattle.board.specs.declared.State.{State}
 use Rattle.trail.specs.Steps as trail
 use Rattle.trail.specs.Run as run
 use Rattle.settle.specs.Sets.{wordOf, setsOf, length-sets, places-sets}
-use Rattle.planner.specs.Face.{Ran, planIn, stepped, actOf, owedOf, settledSets, settlingRounds}
+use Rattle.planner.specs.Face.{Ran, planIn, acted, stepped, actOf, owedOf, settledSets, settlingRounds}
 use Rattle.planner.specs.Promises.{Took}
-use Rattle.planner.proofs.Answers.{Called, acted, either}
+use Rattle.planner.proofs.Answers.{Called, acting, either}
 use Rattle.planner.proofs.Plans.{places-small}
 
 -- ---- the sets that settling leaves are smaller, and words
@@ -51,11 +51,11 @@ module _ (sheet : List ℕ) (s : State) (t : List ℕ) (held : Held s) (c : Call
 
 -- ---- an accepted step is a move
 
-pub unlift : (j : ℕ) (ran : trail.Ran) {k : ℕ} {s′ : State} {t′ : List ℕ} → stepped j ran ≡ (record { answer = 0; rounds = k; state = s′ }, t′) → ran ≡ trail.answered 0 s′ t′
+pub unlift : (j : ℕ) (ran : trail.Ran) {k : ℕ} {s′ : State} {t′ : List ℕ} → stepped j ran ≡ acted 0 k s′ t′ → ran ≡ trail.answered 0 s′ t′
 unlift j ran e = λ i. (record { answer = e i .0 .answer; state = e i .0 .state }, e i .1)
 
 abbrev Moves : List ℕ → State → List ℕ → Ran → Type 0
-Moves sheet s t r = (k : ℕ) (s′ : State) (t′ : List ℕ) → r ≡ (record { answer = 0; rounds = k; state = s′ }, t′) → run.Move (nOf sheet) s t s′ t′
+Moves sheet s t r = (k : ℕ) (s′ : State) (t′ : List ℕ) → r ≡ acted 0 k s′ t′ → run.Move (nOf sheet) s t s′ t′
 
 act-moves : (sheet : List ℕ) (s : State) (t : List ℕ) (kind a b : ℕ) → Held s → Called sheet s t → Moves sheet s t (actOf sheet s t kind a b)
 unfolding actOf
@@ -69,4 +69,4 @@ act-moves sheet s t kind a b held c =
     (either (Moves sheet s t) (eqb kind 7) (λ k s′ t′ e. run.back (unlift 0 _ e)) (λ k s′ t′ e. absurd (eqb-false 11 0 refl (ap (λ (r : Ran). r .0 .answer) e)))))))))
 
 pub moved : (sheet : List ℕ) (s : State) (t : List ℕ) (kind a b : ℕ) {k : ℕ} {s′ : State} {t′ : List ℕ} → Held s → Took sheet s t kind a b k s′ t′ → run.Move (nOf sheet) s t s′ t′
-moved sheet s t kind a b held e = let u = acted sheet s t kind a b e in act-moves sheet s t kind a b held (u .0) _ _ _ (u .1)
+moved sheet s t kind a b held e = let u = acting sheet s t kind a b e in act-moves sheet s t kind a b held (u .0) _ _ _ (u .1)

@@ -24,10 +24,10 @@ use Rattle.trail.specs.Bound.{reached}
 use Rattle.trail.specs.Never.{records-room, place-17, exclude-17, require-17, settle-17, back-20}
 use Rattle.planner.specs.Face.{Ran, stepped, stepOf, actOf, callRefusal, owedOf, settledSets, settlingRounds}
 use Rattle.planner.specs.Promises.{Steps, NeverShort}
-use Rattle.planner.proofs.Answers.{called, call-yes, either, zero-both}
+use Rattle.planner.proofs.Answers.{called, call-made, call-yes, either, zero-both}
 use Rattle.planner.proofs.Moves.{settled-smaller}
 use Rattle.planner.proofs.Kept.{form-made}
-use Rattle.planner.proofs.Courses.{call-made, steps-runs}
+use Rattle.planner.proofs.Courses.{steps-runs}
 
 abbrev Avoids : ℕ → Ran → Type 0
 Avoids m r = r .0 .answer ≡ m → ⊥

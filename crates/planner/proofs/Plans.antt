@@ -30,9 +30,9 @@ use Rattle.trail.specs.StepLaws.{step-yes, step-zero, placeable, excludable, re
 use Rattle.settle.specs.Sets.{Small, places-sets}
 use Rattle.stands.proofs.Formed.{stands-formed}
 use Rattle.stands.proofs.Changed.{plan-ext, placed-stands, closed-stands, excluded-stands, required-stands}
-use Rattle.planner.specs.Face.{Ran, planIn, stepped, actOf, owedOf, settlingRounds}
+use Rattle.planner.specs.Face.{Ran, planIn, acted, stepped, actOf, owedOf, settlingRounds}
 use Rattle.planner.specs.Promises.{Took}
-use Rattle.planner.proofs.Answers.{Called, acted}
+use Rattle.planner.proofs.Answers.{Called, acting}
 
 -- the plan of a state in form is in form
 pub state-formed : (sheet : List ℕ) (s : State) → Held s → refusal14 sheet ≡ 0 → inForm (nOf sheet) s ≡ true → Formed (dayOf sheet) (planIn s)
@@ -51,7 +51,7 @@ module _ {sheet : List ℕ} {s : State} {t : List ℕ} (typed : Held s) (c : Cal
   plan-formed = state-formed sheet s typed (c .read) (c .form)
 
 -- what an accepted step of the board gives
-pub gave : (k c : ℕ) (s : State) (t : List ℕ) (ran : trail.Ran) {j : ℕ} {s′ : State} {t′ : List ℕ} → stepped k (trail.stepOf c s t ran) ≡ (record { answer = 0; rounds = j; state = s′ }, t′)
+pub gave : (k c : ℕ) (s : State) (t : List ℕ) (ran : trail.Ran) {j : ℕ} {s′ : State} {t′ : List ℕ} → stepped k (trail.stepOf c s t ran) ≡ acted 0 j s′ t′
     → (c ≡ 0) × (s′ ≡ ran .0 .state)
 gave k c s t ran e =
     let z = step-zero c s t ran (ap (λ (r : Ran). r .0 .answer) e) in
@@ -66,7 +66,7 @@ module _ (sheet : List ℕ) (s : State) (t : List ℕ) (typed : Held s) where
   pub placed-plan : {s′ : State} {t′ : List ℕ} {k : ℕ} (p x : ℕ) → Took sheet s t 1 p x k s′ t′ → (planIn s′ ≡ step.placed p x (planIn s)) × T (planIn s .places x p) × T (not (mem x (planIn s .route)))
   unfolding actOf trail.placeStep trail.recorded onRoute
   placed-plan p x e =
-      let a = acted sheet s t 1 p x e in
+      let a = acting sheet s t 1 p x e in
       let g = gave 0 _ s t _ (a .1) in
       let h = placeable (nOf sheet) (boardOf s) (s .records) (roomOf t) p x (g .0) in
       (ap planIn (g .1) ∙ placed-stands (nOf sheet) (boardOf s) p x (small typed (a .0)) (typed .wide) (inform typed (a .0)) (h .split), true→T _ (h .place), false→N _ (h .split .off))
@@ -75,7 +75,7 @@ module _ (sheet : List ℕ) (s : State) (t : List ℕ) (typed : Held s) where
   pub closed-plan : {s′ : State} {t′ : List ℕ} {k : ℕ} (p x : ℕ) → Took sheet s t 2 p x k s′ t′ → planIn s′ ≡ step.closed p x (planIn s)
   unfolding actOf trail.closeStep trail.recorded
   closed-plan p x e =
-      let a = acted sheet s t 2 p x e in
+      let a = acting sheet s t 2 p x e in
       let g = gave 0 _ s t _ (a .1) in
       let h = placeable (nOf sheet) (boardOf s) (s .records) (roomOf t) p x (g .0) in
       ap planIn (g .1) ∙ closed-stands (boardOf s) p x (stored (a .0) x (h .split .node))
@@ -94,7 +94,7 @@ module _ (sheet : List ℕ) (s : State) (t : List ℕ) (typed : Held s) where
   pub excluded-plan : {s′ : State} {t′ : List ℕ} {k : ℕ} (x c : ℕ) → Took sheet s t 3 x c k s′ t′ → (planIn s′ ≡ step.excluded x (planIn s)) × T (not (mem x (planIn s .route)))
   unfolding actOf trail.excludeStep trail.recorded onRoute
   excluded-plan x c e =
-      let a = acted sheet s t 3 x c e in
+      let a = acting sheet s t 3 x c e in
       let g = gave 0 _ s t _ (a .1) in
       let h = excludable (nOf sheet) (boardOf s) (s .records) (roomOf t) (owedOf sheet s x) x (g .0) .0 in (
         ap planIn (g .1) ∙ decided (eqb (setOf (boardOf s) x) 0)
@@ -112,7 +112,7 @@ module _ (sheet : List ℕ) (s : State) (t : List ℕ) (typed : Held s) where
   pub required-plan : {s′ : State} {t′ : List ℕ} {k : ℕ} (x c : ℕ) → Took sheet s t 4 x c k s′ t′ → (planIn s′ ≡ step.required x (planIn s)) × (inner (nOf sheet) x ≡ true)
   unfolding actOf trail.requireStep trail.recorded
   required-plan x c e =
-      let a = acted sheet s t 4 x c e in
+      let a = acting sheet s t 4 x c e in
       let g = gave 0 _ s t _ (a .1) in
       let h = requirable (nOf sheet) (boardOf s) (s .records) (roomOf t) x (g .0) .0 in (
         ap planIn (g .1) ∙ decided (has (s .marks) x)
@@ -132,7 +132,7 @@ module _ (sheet : List ℕ) (s : State) (t : List ℕ) (typed : Held s) where
   pub settled-plan : {s′ : State} {t′ : List ℕ} {k : ℕ} (a c : ℕ) → Took sheet s t 5 a c k s′ t′ → (planIn s′ ≡ settled (vanOf sheet) (dayOf sheet) (planIn s)) × (k ≡ rounds (vanOf sheet) (dayOf sheet) (planIn s .route) (planIn s .places))
   unfolding actOf trail.settleStep openAt setOf routeOf
   settled-plan a c e =
-      let u = acted sheet s t 5 a c e in
+      let u = acting sheet s t 5 a c e in
       let g = gave (settlingRounds sheet s) _ s t _ (u .1) in (
         ap planIn (g .1) ∙ plan-ext _ _ refl (places-sets (settle (vanOf sheet) (dayOf sheet) (planIn s .route) (planIn s .places)) (places-small (u .0))) (λ y. refl),
         sym (ap (λ (r : Ran). r .0 .rounds) (u .1)) ∙ ap (λ (n : ℕ). cond (eqb n 0) (settlingRounds sheet s) 0) (ap (λ (r : Ran). r .0 .answer) (u .1)),

@@ -25,7 +25,7 @@ use Rattle.trail.specs.Steps as trail
 use Rattle.trail.specs.Since.{Since, move-since}
 use Rattle.planner.specs.Face.{planIn, actOf, askRefusal, judgeOf, settlingRounds}
 use Rattle.planner.specs.Promises.{Took, Run, begin, place, exclude, require, settling, WorkedOut, RunsAlike}
-use Rattle.planner.proofs.Answers.{Called, acted}
+use Rattle.planner.proofs.Answers.{Called, acting}
 use Rattle.planner.proofs.Plans.{gave, state-formed, placed-plan, excluded-plan, required-plan, settled-plan}
 use Rattle.planner.proofs.Moves.{moved}
 use Rattle.planner.proofs.Courses.{here, sound}
@@ -39,29 +39,29 @@ either-depth false x y d p q = q
 module _ (sheet : List ℕ) (s : State) (t : List ℕ) {s′ : State} {t′ : List ℕ} {k : ℕ} where
   placed-depth : (p x : ℕ) → Took sheet s t 1 p x k s′ t′ → s′ .depth ≡ s .depth
   unfolding actOf trail.placeStep trail.recorded
-  placed-depth p x e = ap (λ (r : State). r .depth) (gave 0 _ s t _ (acted sheet s t 1 p x e .1) .1)
+  placed-depth p x e = ap (λ (r : State). r .depth) (gave 0 _ s t _ (acting sheet s t 1 p x e .1) .1)
 
   excluded-depth : (x b : ℕ) → Took sheet s t 3 x b k s′ t′ → s′ .depth ≡ s .depth
   unfolding actOf trail.excludeStep trail.recorded
-  excluded-depth x b e = ap (λ (r : State). r .depth) (gave 0 _ s t _ (acted sheet s t 3 x b e .1) .1) ∙ either-depth (eqb (setOf (boardOf s) x) 0) _ _ (s .depth) refl refl
+  excluded-depth x b e = ap (λ (r : State). r .depth) (gave 0 _ s t _ (acting sheet s t 3 x b e .1) .1) ∙ either-depth (eqb (setOf (boardOf s) x) 0) _ _ (s .depth) refl refl
 
   required-depth : (x b : ℕ) → Took sheet s t 4 x b k s′ t′ → s′ .depth ≡ s .depth
   unfolding actOf trail.requireStep trail.recorded
-  required-depth x b e = ap (λ (r : State). r .depth) (gave 0 _ s t _ (acted sheet s t 4 x b e .1) .1) ∙ either-depth (has (s .marks) x) _ _ (s .depth) refl refl
+  required-depth x b e = ap (λ (r : State). r .depth) (gave 0 _ s t _ (acting sheet s t 4 x b e .1) .1) ∙ either-depth (has (s .marks) x) _ _ (s .depth) refl refl
 
   settled-depth : (a b : ℕ) → Took sheet s t 5 a b k s′ t′ → s′ .depth ≡ s .depth
   unfolding actOf trail.settleStep
-  settled-depth a b e = ap (λ (r : State). r .depth) (gave (settlingRounds sheet s) _ s t _ (acted sheet s t 5 a b e .1) .1)
+  settled-depth a b e = ap (λ (r : State). r .depth) (gave (settlingRounds sheet s) _ s t _ (acting sheet s t 5 a b e .1) .1)
 
 -- ---- a run of the real steps is a run of the rules
 
 -- the run began with a call that was not refused
 called-start : {sheet : List ℕ} {s s₁ : State} {t t₁ X : List ℕ} → Run sheet s t s₁ t₁ X → Called sheet s₁ t₁ → Called sheet s t
 called-start begin c = c
-called-start {sheet} (place {s′ = q} {t′ = v} p x r e) c = called-start r (acted sheet q v 1 p x e .0)
-called-start {sheet} (exclude {s′ = q} {t′ = v} x b r e) c = called-start r (acted sheet q v 3 x b e .0)
-called-start {sheet} (require {s′ = q} {t′ = v} x b r e) c = called-start r (acted sheet q v 4 x b e .0)
-called-start {sheet} (settling {s′ = q} {t′ = v} a b k r e) c = called-start r (acted sheet q v 5 a b e .0)
+called-start {sheet} (place {s′ = q} {t′ = v} p x r e) c = called-start r (acting sheet q v 1 p x e .0)
+called-start {sheet} (exclude {s′ = q} {t′ = v} x b r e) c = called-start r (acting sheet q v 3 x b e .0)
+called-start {sheet} (require {s′ = q} {t′ = v} x b r e) c = called-start r (acting sheet q v 4 x b e .0)
+called-start {sheet} (settling {s′ = q} {t′ = v} a b k r e) c = called-start r (acting sheet q v 5 a b e .0)
 
 module _ (sheet : List ℕ) (s : State) (t : List ℕ) (held : Held s) (c : Called sheet s t) where
   abbrev After : State → List ℕ → Type 0
@@ -102,7 +102,7 @@ judged sheet s z e = rw (z, e)
 -- a run and the settling after it: the run of the rules, the plan at the end, and its verdict as it is asked
 module _ (sheet : List ℕ) (s s₁ s₂ : State) (t t₁ t₂ X : List ℕ) (a b k : ℕ) (z : refusal14 sheet ≡ 0) (held : Held s) (run : Run sheet s t s₁ t₁ X) (e : Took sheet s₁ t₁ 5 a b k s₂ t₂) where
   start : Called sheet s t
-  start = called-start run (acted sheet s₁ t₁ 5 a b e .0)
+  start = called-start run (acting sheet s₁ t₁ 5 a b e .0)
 
   pub ruled : rules.Run (vanOf sheet) (dayOf sheet) (planIn s) (planIn s₁) X
   ruled = course sheet s t held start run .0

@@ -55,6 +55,10 @@ Ran = Stepped × List ℕ
 abbrev pub refused : ℕ → State → List ℕ → Ran
 refused k s t = (record { answer = k; rounds = 0; state = s }, t)
 
+-- the outcome of a step by its parts
+abbrev pub acted : ℕ → ℕ → State → List ℕ → Ran
+acted k r s t = (record { answer = k; rounds = r; state = s }, t)
+
 -- a step of the board, with the rounds that it took if it was accepted
 abbrev pub stepped : ℕ → trail.Ran → Ran
 stepped k r = (record { answer = r .0 .answer; rounds = cond (eqb (r .0 .answer) 0) k 0; state = r .0 .state }, r .1)

@@ -1,21 +1,21 @@
 // What the planner does on a sheet that 1 to 4 do not refuse and a state in form, neither asked again.
 ghost use mathlib.Core.Path.{_≡_};
 ghost use mathlib.Core.Bool.{true};
-ghost use Prim.Native.Nat.{_<_};
+ghost use mathlib.Core.List.{List};
+ghost use Prim.Native.Nat.{ℕ, _<_, _≤_};
 ghost use Rattle.sheet.specs.Section.{nOf};
 ghost use Rattle.sheet.specs.Place.{Fine, Laid};
 ghost use Rattle.day.specs.Refuse.{refusal14};
 ghost use Rattle.day.specs.Tell.{dayOf, vanOf};
 ghost use Rattle.rules.specs.Verdict.{alive};
-ghost use Rattle.board.specs.Board.{placesOf};
-ghost use Rattle.board.specs.Form.{inForm, formWith};
+ghost use Rattle.board.specs.Board.{stateWith};
+ghost use Rattle.board.specs.Form.{formWith};
+ghost use Rattle.board.specs.Held.{Held};
 ghost use Rattle.trail.specs.Trail.{roomOf};
-ghost use Rattle.trail.specs.Steps.{settleStep};
-ghost use Rattle.settle.specs.Ready.{vanIn};
-ghost use Rattle.planner.specs.Face.{planIn, stepped, settlingRounds, settledSets, actOf};
+ghost use Rattle.settle.specs.Ready.{Ready, vanIn};
+ghost use Rattle.planner.specs.Face.{planIn, acted, actOf};
 use crate::KIND;
-use crate::Stepped;
-use board::State;
+use board::Figures;
 use settle::Van;
 use sheet::Layout;
 use trail::Outcome;
@@ -25,6 +25,13 @@ use trail::steps::exclude;
 use trail::steps::level;
 use trail::steps::place;
 use trail::steps::require;
+
+// The answer of a step, the rounds of settling that struck something, and the numbers of the state after it.
+pub struct Acted {
+    pub answer: usize,
+    pub rounds: usize,
+    pub after: Figures,
+}
 
 // The van of a sheet.
 fn van_of(sheet: &[u8]) -> Van
@@ -43,105 +50,118 @@ fn van_of(sheet: &[u8]) -> Van
 fn change(
     sheet: &[u8],
     at: Layout,
-    state: State,
+    route: &mut [usize; 64],
+    sets: &mut [u64; 64],
+    levels: &mut [usize; 64],
+    f: Figures,
     trail: &mut [u64],
     kind: usize,
     first: usize,
     second: usize,
 ) -> Outcome
-    requires { ⌜ (refusal14 (now sheet) ≡ 0) × Laid (now sheet) at × (formWith (nOf (now sheet)) state (roomOf (now trail)) ≡ true) × (kind ≡ 5 → ⊥) ⌝ }
-    ensures { λ r. ⌜ actOf (now (sheet .entry)) state (now (trail .entry)) kind first second ≡ (record { answer = r .answer; rounds = 0; state = r .state }, now (trail .exit)) ⌝ }
+    requires { ⌜ (refusal14 (now sheet) ≡ 0) × Laid (now sheet) at × (formWith (nOf (now sheet)) (stateWith (now route) (now sets) (now levels) f) (roomOf (now trail)) ≡ true) × Held (stateWith (now route) (now sets) (now levels) f) × (kind ≡ 5 → ⊥) ⌝ }
+    ensures { λ r. ⌜ actOf (now (sheet .entry)) (stateWith (now (route .entry)) (now (sets .entry)) (now (levels .entry)) f) (now (trail .entry)) kind first second ≡ acted (r .answer) 0 (stateWith (now (route .exit)) (now (sets .exit)) (now (levels .exit)) (r .after)) (now (trail .exit)) ⌝ }
 {
     let n = at.nodes;
     match kind {
-        1 => place(state, n, first, second, trail),
-        2 => close(state, n, first, second, trail),
+        1 => place(route, sets, f, n, first, second, trail),
+        2 => close(route, sets, f, n, first, second, trail),
         3 => {
-            let owed = settle::verdict::owed(
-                sheet,
-                at,
-                &state.route,
-                state.stops,
-                state.marks,
-                first,
-            );
-            exclude(state, n, owed, first, trail)
+            let owed = settle::verdict::owed(sheet, at, route, f.stops, f.marks, first);
+            exclude(route, sets, f, n, owed, first, trail)
         },
-        4 => require(state, n, first, trail),
-        6 => level(state),
-        7 => back(state, n, trail),
+        4 => require(route, f, n, first, trail),
+        6 => level(levels, f),
+        7 => back(route, sets, levels, f, n, trail),
         _ => Outcome {
             answer: KIND,
-            state: state,
+            after: f,
         },
     }
 }
 
-// Step 5: the sets that settling leaves, with their records.
-fn settling(sheet: &[u8], at: Layout, state: State, trail: &mut [u64]) -> Stepped
-    requires { ⌜ (refusal14 (now sheet) ≡ 0) × Laid (now sheet) at × (formWith (nOf (now sheet)) state (roomOf (now trail)) ≡ true) ⌝ }
-    ensures { λ r. ⌜ stepped (settlingRounds (now (sheet .entry)) state) (settleStep state (now (trail .entry)) (settledSets (now (sheet .entry)) state)) ≡ (r, now (trail .exit)) ⌝ }
+// Settling, with the rounds that struck something.
+fn settling(
+    sheet: &[u8],
+    at: Layout,
+    route: &[usize; 64],
+    sets: &mut [u64; 64],
+    f: Figures,
+    trail: &mut [u64],
+) -> Acted
+    requires { ⌜ Ready (now sheet) at (now route) (f .stops) (now sets) (f .marks) × (f .records ≤ roomOf (now trail)) ⌝ }
+    ensures { λ r. ⌜ ((levels : List ℕ) → actOf (now (sheet .entry)) (stateWith (now (route .entry)) (now (sets .entry)) levels f) (now (trail .entry)) 5 0 0 ≡ acted (r .answer) (r .rounds) (stateWith (now (route .entry)) (now (sets .exit)) levels (r .after)) (now (trail .exit))) ⌝ }
 {
     let van = van_of(sheet);
-    let old = state.sets;
-    let mut new = old;
-    let struck = settle::settling::settle(sheet, at, van, &state.route, state.stops, &mut new);
-    let o = trail::steps::settle(state, &new, trail);
+    let mut new = *sets;
+    let struck = settle::settling::settle(sheet, at, van, route, f.stops, sets, &mut new);
+    if struck == 0 {
+        return Acted {
+            answer: 0,
+            rounds: 0,
+            after: f,
+        };
+    }
+    let o = trail::steps::settle(sets, f, &new, trail);
     let rounds = if o.answer == 0 { struck } else { 0 };
-    let after = o.state;
-    Stepped {
+    let after = o.after;
+    Acted {
         answer: o.answer,
         rounds: rounds,
-        state: after,
+        after: after,
     }
 }
 
-// One step.
+// One step: the arrays and the trail are changed in place.
 pub fn act(
     sheet: &[u8],
     at: Layout,
-    state: State,
+    route: &mut [usize; 64],
+    sets: &mut [u64; 64],
+    levels: &mut [usize; 64],
+    f: Figures,
     trail: &mut [u64],
     kind: usize,
     first: usize,
     second: usize,
-) -> Stepped
-    requires { ⌜ (refusal14 (now sheet) ≡ 0) × Laid (now sheet) at × (formWith (nOf (now sheet)) state (roomOf (now trail)) ≡ true) ⌝ }
-    ensures { λ r. ⌜ actOf (now (sheet .entry)) state (now (trail .entry)) kind first second ≡ (r, now (trail .exit)) ⌝ }
+) -> Acted
+    requires { ⌜ (refusal14 (now sheet) ≡ 0) × Laid (now sheet) at × (formWith (nOf (now sheet)) (stateWith (now route) (now sets) (now levels) f) (roomOf (now trail)) ≡ true) × Held (stateWith (now route) (now sets) (now levels) f) ⌝ }
+    ensures { λ r. ⌜ actOf (now (sheet .entry)) (stateWith (now (route .entry)) (now (sets .entry)) (now (levels .entry)) f) (now (trail .entry)) kind first second ≡ acted (r .answer) (r .rounds) (stateWith (now (route .exit)) (now (sets .exit)) (now (levels .exit)) (r .after)) (now (trail .exit)) ⌝ }
 {
     if kind == 5 {
-        return settling(sheet, at, state, trail);
+        return settling(sheet, at, route, sets, f, trail);
     }
-    let o = change(sheet, at, state, trail, kind, first, second);
-    let after = o.state;
-    Stepped {
+    let o = change(
+        sheet,
+        at,
+        route,
+        sets,
+        levels,
+        f,
+        trail,
+        kind,
+        first,
+        second,
+    );
+    let after = o.after;
+    Acted {
         answer: o.answer,
         rounds: 0,
-        state: after,
+        after: after,
     }
-}
-
-// The open places in all.
-pub fn places_of(state: State) -> usize
-    ensures { λ r. ⌜ r ≡ placesOf (state .sets) 64 ⌝ }
-{
-    board::places::count(&state.sets)
 }
 
 // The verdict.
-pub fn alive(sheet: &[u8], at: Layout, state: State) -> bool
-    requires { ⌜ (refusal14 (now sheet) ≡ 0) × Laid (now sheet) at × (inForm (nOf (now sheet)) state ≡ true) ⌝ }
-    ensures { λ r. ⌜ r ≡ alive (vanOf (now (sheet .entry))) (dayOf (now (sheet .entry))) (planIn state) ⌝ }
+pub fn alive<'a>(
+    sheet: &[u8],
+    at: Layout,
+    route: &'a [usize; 64],
+    sets: &'a [u64; 64],
+    f: Figures,
+) -> bool
+    requires { ⌜ Ready (now sheet) at (now route) (f .stops) (now sets) (f .marks) ⌝ }
+    ensures { λ r. ⌜ ((levels : List ℕ) → r ≡ alive (vanOf (now (sheet .entry))) (dayOf (now (sheet .entry))) (planIn (stateWith (now (route .entry)) (now (sets .entry)) levels f))) ⌝ }
 {
     let van = van_of(sheet);
-    let sets = state.sets;
-    settle::verdict::alive(
-        sheet,
-        at,
-        van,
-        &state.route,
-        state.stops,
-        &sets,
-        state.marks,
-    )
+    settle::verdict::alive(sheet, at, van, route, f.stops, sets, f.marks)
 }

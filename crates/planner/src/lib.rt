@@ -3,11 +3,13 @@ pub mod known;
 
 ghost use mathlib.Core.Path.{_≡_};
 ghost use lib.ListN.{length};
-ghost use Rattle.board.specs.Board.{stateOf};
+ghost use Rattle.board.specs.Board.{stateWith};
 ghost use Rattle.day.specs.Section.{sectionOf};
-ghost use Rattle.planner.specs.Face.{openOf, askRefusal, countOf, judgeOf, stepOf};
+ghost use Rattle.planner.specs.Face.{openOf, askRefusal, callRefusal, countOf, judgeOf, stepOf};
+use board::Figures;
 use board::State;
 use board::form::in_form;
+use board::places::count;
 use day::refusal_1_to_4;
 use day::refusal_1_to_5;
 use sheet::layout_of;
@@ -67,27 +69,64 @@ pub fn section(sheet: &[u8], number: usize) -> &[u8]
     day::section(sheet, number)
 }
 
+// The numbers of a state beside its arrays.
+fn figures(stops: usize, marks: u64, depth: usize, records: usize) -> Figures
+    ensures { λ r. ⌜ r ≡ record { stops = stops; marks = marks; depth = depth; records = records } ⌝ }
+{
+    Figures {
+        stops: stops,
+        marks: marks,
+        depth: depth,
+        records: records,
+    }
+}
+
 // Why a call on a sheet and a state is refused, the trail's room apart, or 0.
 fn ask_refusal<'a>(
     sheet: &[u8],
     route: &'a [usize; 64],
-    stops: usize,
     sets: &'a [u64; 64],
-    marks: u64,
     levels: &'a [usize; 64],
-    depth: usize,
-    records: usize,
+    f: Figures,
 ) -> usize
     requires { ⌜ length (now route) ≡ 64 ⌝ }
-    ensures { λ r. ⌜ r ≡ askRefusal (now (sheet .entry)) (stateOf (now (route .entry)) stops (now (sets .entry)) marks (now (levels .entry)) depth records) ⌝ }
+    ensures { λ r. ⌜ r ≡ askRefusal (now (sheet .entry)) (stateWith (now (route .entry)) (now (sets .entry)) (now (levels .entry)) f) ⌝ }
 {
     let answer = refusal_1_to_4(sheet);
     if answer != 0 {
         return answer;
     }
     let at = layout_of(sheet);
-    let form = in_form(route, stops, sets, marks, levels, depth, records, at.nodes);
+    let form = in_form(
+        route,
+        f.stops,
+        sets,
+        f.marks,
+        levels,
+        f.depth,
+        f.records,
+        at.nodes,
+    );
     if form { 0 } else { FORM }
+}
+
+// Why a step on a sheet, a state and a trail is refused whatever its kind, or 0.
+fn call_refusal<'a>(
+    sheet: &[u8],
+    route: &'a [usize; 64],
+    sets: &'a [u64; 64],
+    levels: &'a [usize; 64],
+    f: Figures,
+    trail: &[u64],
+) -> usize
+    requires { ⌜ length (now route) ≡ 64 ⌝ }
+    ensures { λ r. ⌜ r ≡ callRefusal (now (sheet .entry)) (stateWith (now (route .entry)) (now (sets .entry)) (now (levels .entry)) f) (now (trail .entry)) ⌝ }
+{
+    let answer = ask_refusal(sheet, route, sets, levels, f);
+    if answer != 0 {
+        return answer;
+    }
+    if trail.len() / 2 < f.records { FORM } else { 0 }
 }
 
 // One step: the outcome, and the trail.
@@ -101,17 +140,8 @@ pub fn step(
 ) -> Stepped
     ensures { λ r. ⌜ stepOf (now (sheet .entry)) state (now (trail .entry)) kind first second ≡ (r, now (trail .exit)) ⌝ }
 {
-    let records = state.records;
-    let answer = ask_refusal(
-        sheet,
-        &state.route,
-        state.stops,
-        &state.sets,
-        state.marks,
-        &state.levels,
-        state.depth,
-        records,
-    );
+    let f = figures(state.stops, state.marks, state.depth, state.records);
+    let answer = call_refusal(sheet, &state.route, &state.sets, &state.levels, f, trail);
     if answer != 0 {
         return Stepped {
             answer: answer,
@@ -119,31 +149,44 @@ pub fn step(
             state: state,
         };
     }
-    if trail.len() / 2 < records {
-        return Stepped {
-            answer: FORM,
-            rounds: 0,
-            state: state,
-        };
-    }
     let at = layout_of(sheet);
-    known::act(sheet, at, state, trail, kind, first, second)
+    let mut route = state.route;
+    let mut sets = state.sets;
+    let mut levels = state.levels;
+    let o = known::act(
+        sheet,
+        at,
+        &mut route,
+        &mut sets,
+        &mut levels,
+        f,
+        trail,
+        kind,
+        first,
+        second,
+    );
+    let after = o.after;
+    Stepped {
+        answer: o.answer,
+        rounds: o.rounds,
+        state: State {
+            route: route,
+            stops: after.stops,
+            sets: sets,
+            marks: after.marks,
+            levels: levels,
+            depth: after.depth,
+            records: after.records,
+        },
+    }
 }
 
 // The open places of a state in all.
 pub fn open_places(sheet: &[u8], state: State) -> Counted
     ensures { λ r. ⌜ r ≡ countOf (now (sheet .entry)) state ⌝ }
 {
-    let answer = ask_refusal(
-        sheet,
-        &state.route,
-        state.stops,
-        &state.sets,
-        state.marks,
-        &state.levels,
-        state.depth,
-        state.records,
-    );
+    let f = figures(state.stops, state.marks, state.depth, state.records);
+    let answer = ask_refusal(sheet, &state.route, &state.sets, &state.levels, f);
     if answer != 0 {
         return Counted {
             answer: answer,
@@ -152,7 +195,7 @@ pub fn open_places(sheet: &[u8], state: State) -> Counted
     }
     Counted {
         answer: 0,
-        places: known::places_of(state),
+        places: count(&state.sets),
     }
 }
 
@@ -160,16 +203,8 @@ pub fn open_places(sheet: &[u8], state: State) -> Counted
 pub fn verdict(sheet: &[u8], state: State) -> Judged
     ensures { λ r. ⌜ r ≡ judgeOf (now (sheet .entry)) state ⌝ }
 {
-    let answer = ask_refusal(
-        sheet,
-        &state.route,
-        state.stops,
-        &state.sets,
-        state.marks,
-        &state.levels,
-        state.depth,
-        state.records,
-    );
+    let f = figures(state.stops, state.marks, state.depth, state.records);
+    let answer = ask_refusal(sheet, &state.route, &state.sets, &state.levels, f);
     if answer != 0 {
         return Judged {
             answer: answer,
@@ -179,6 +214,6 @@ pub fn verdict(sheet: &[u8], state: State) -> Judged
     let at = layout_of(sheet);
     Judged {
         answer: 0,
-        alive: known::alive(sheet, at, state),
+        alive: known::alive(sheet, at, &state.route, &state.sets, f),
     }
 }

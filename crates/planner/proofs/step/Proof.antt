@@ -1,54 +1,67 @@
 use mathlib.Core.Path.{_≡_, sym, _∙_}
 use Rattle.day.specs.Refuse.{zero13}
-use Rattle.trail.specs.Trail.{roomOf}
-use Rattle.planner.specs.Face.{askRefusal}
-use Rattle.planner.proofs.FaceLaws.{asked, asked-room, step-asked, step-full, step-acts}
+use Rattle.board.specs.declared.State.{State}
+use Rattle.board.proofs.Told.{told}
+use Rattle.planner.specs.Face.{callRefusal}
+use Rattle.planner.proofs.Answers.{called, call-yes}
+use Rattle.planner.proofs.FaceLaws.{whole, step-refused}
 use borrow.Author.Needs.{needs}
 use Rattle.planner.proofs.step.Statement.{statement}
 use Rattle.planner.proofs.step.Tie as tie
 
-zero : (c : tie.Else1) → let a = c .before .before .before .before .before .before .before .before .args in askRefusal (a .sheet .now) (a .t2) ≡ 0
-zero c = sym (c .before .ask-refusal .ensures) ∙ c .if1 .left
+asks : (c : tie.After-call-refusal) → let a = c .before .before .before .before .before .before .before .before .before .args in
+    c .call-refusal .result ≡ callRefusal (a .sheet .now) (a .t2) (a .trail .now)
+asks c =
+    let g = c .before .before .before .before .before .before in
+    let a = g .before .before .before .args in
+    whole (λ (s : State). callRefusal (a .sheet .now) s (a .trail .now)) _ (c .call-refusal .ensures) (g .figures .ensures)
 
-ask-refusal-requires : tie.Need-ask-refusal-requires
-ask-refusal-requires c κs = search needs
+zero : (c : tie.Else1) → let a = c .before .before .before .before .before .before .before .before .before .before .args in
+    callRefusal (a .sheet .now) (a .t2) (a .trail .now) ≡ 0
+zero c = sym (asks (c .before)) ∙ c .if1 .left
 
-returns : tie.Need-returns
-returns c = step-asked _ _ _ _ _ _ (c .before .ask-refusal .ensures) (c .if1 .taken)
+figures-requires : tie.Need-figures-requires
+figures-requires c κs = search needs
 
-returns-2 : tie.Need-returns-2
-unfolding roomOf
-returns-2 c = step-full _ _ _ _ _ _ (zero (c .before)) (c .if2 .taken)
-
-layout-of-requires : tie.Need-layout-of-requires
-layout-of-requires c κs = zero13 _ (asked _ _ (zero (c .before)) .0)
-
-act-requires : tie.Need-act-requires
-unfolding roomOf
-act-requires c κs =
-    let l = c .before in
-    let e = l .before .before in
-    let d = e .before .before .before .before .before .before .before .before in
-    (asked _ _ (zero e) .0, l .layout-of .ensures, asked-room _ _ (d .args .trail .now) (zero e) (l .before .if2 .left))
+call-refusal-requires : tie.Need-call-refusal-requires
+call-refusal-requires c κs = search needs
 
 same-length : tie.Need-same-length
 same-length c = search needs
 
-returns-3 : tie.Need-returns-3
-unfolding roomOf
-returns-3 c =
-    let a = c .before .before in
-    let e = a .before .before .before in
-    step-acts _ _ _ _ _ _ (zero (e .before)) (e .if2 .left) ∙ a .act .ensures
+returns : tie.Need-returns
+returns c = step-refused _ _ _ _ _ _ (asks (c .before)) (c .if1 .taken)
+
+layout-of-requires : tie.Need-layout-of-requires
+layout-of-requires c κs = zero13 _ (called _ _ _ (zero c) .read)
+
+act-requires : tie.Need-act-requires
+act-requires c κs =
+    let l = c .before .before .before .before .before .before .before in
+    let e = l .before in
+    let g = e .before .before .before .before .before .before .before in
+    let d = g .before .before .before in
+    let u = called _ _ _ (zero e) in
+    rw (g .figures .ensures) (u .read, l .layout-of .ensures, u .room, told (d .args .t2) _ (d .good .1 .0))
+
+same-length-2 : tie.Need-same-length-2
+same-length-2 c = search needs
+
+returns-2 : tie.Need-returns-2
+returns-2 c =
+    let a = c .before .before .before in
+    let e = a .before .before .before .before .before .before .before .before .before in
+    call-yes _ _ _ _ _ _ (zero e) ∙ rw (e .before .before .before .before .before .before .before .figures .ensures) at (a .act .ensures)
 
 pub step-spec : {M : Type 1} → statement M
 step-spec =
     tie.close
     (tie.spec
-    ask-refusal-requires
+    figures-requires
+    call-refusal-requires
+    same-length
     returns
-    returns-2
     layout-of-requires
     act-requires
-    same-length
-    returns-3)
+    same-length-2
+    returns-2)

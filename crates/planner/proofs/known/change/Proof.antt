@@ -1,38 +1,51 @@
 use mathlib.Core.Path.{sym}
+use native.Mathlib.Omega.{arith}
 use borrow.Author.Tests.{ne-eqb}
-use Rattle.board.specs.FormLaws.{form-with}
-use Rattle.board.specs.Board.{routeOf}
-use Rattle.board.proofs.Told.{told}
+use Rattle.board.specs.Board.{stateWith, boardOf, routeOf}
+use Rattle.board.specs.FormLaws.{Sound, form-with}
+use Rattle.board.specs.declared.State.{State}
 use Rattle.settle.proofs.Facts.{route-of}
 use Rattle.planner.specs.Face.{actOf}
-use Rattle.planner.proofs.FaceReady.{ready, alone, with-trail}
+use Rattle.planner.proofs.FaceReady.{ready, sound, with-trail}
 use Rattle.planner.proofs.FaceLaws.{plain}
 use borrow.Author.Needs.{needs}
 use Rattle.planner.proofs.known.change.Statement.{statement}
 use Rattle.planner.proofs.known.change.Tie as tie
 
+-- the state at entry
+abbrev state : tie.Start → State
+state d = stateWith (d .args .route .now) (d .args .sets .now) (d .args .levels .now) (d .args .f)
+
+fine : (d : tie.Start) → Sound (d .args .at .nodes) (boardOf (state d))
+fine d = sound (state d) (d .pre .1) (d .pre .3) (form-with _ _ _ (d .pre .2) .0)
+
 place-requires : tie.Need-place-requires
-place-requires c κs = let d = c .before .before .before .before in alone (d .args .t3) _ (d .pre .1) (d .pre .2)
+place-requires c κs = fine (c .before .before .before .before .before .before)
 
 close-requires : tie.Need-close-requires
-close-requires c κs = let d = c .before .before .before .before in alone (d .args .t3) _ (d .pre .1) (d .pre .2)
+close-requires c κs = fine (c .before .before .before .before .before .before)
 
 owed-requires : tie.Need-owed-requires
 owed-requires c κs =
-    let d = c .before .before .before .before .before in
-    (d .pre .1, route-of (ready (d .args .t3) (d .pre .0) (d .pre .1) (told (d .args .t3) _ (d .good .1 .1 .0)) (form-with _ _ _ (d .pre .2) .0)))
+    let d = c .before .before .before .before in
+    (d .pre .1, route-of (ready (state d) (d .pre .0) (d .pre .1) (d .pre .3) (form-with _ _ _ (d .pre .2) .0)))
 
 exclude-requires : tie.Need-exclude-requires
-exclude-requires c κs = let d = c .before .before .before .before .before .before .before in alone (d .args .t3) _ (d .pre .1) (d .pre .2)
+exclude-requires c κs = fine (c .before .before .before .before .before .before .before .before)
 
 require-requires : tie.Need-require-requires
-require-requires c κs = let d = c .before .before .before .before in alone (d .args .t3) _ (d .pre .1) (d .pre .2)
+require-requires c κs =
+    let f = fine (c .before .before .before .before .before) in
+    let r = f .form .route in
+    (f .small, f .wide .route, omega (arith, r .most, f .small), λ i h. omega (arith, r .below i h, f .small))
 
 level-requires : tie.Need-level-requires
-level-requires c κs = search needs
+level-requires c κs = c .before .before .before .before .pre .3 .levels
 
 back-requires : tie.Need-back-requires
-back-requires c κs = let d = c .before .before .before .before in with-trail (d .args .t3) _ (d .pre .1) (d .pre .2)
+back-requires c κs =
+    let d = c .before .before .before .before .before .before .before in
+    (fine d, d .pre .3 .levels, with-trail (state d) _ (d .pre .1) (d .pre .2))
 
 same-length : tie.Need-same-length
 same-length c = search needs
@@ -41,9 +54,9 @@ returns : tie.Need-returns
 unfolding actOf
 returns c =
     let k = c .before .before in
-    let m = k .before .before in
+    let m = k .before .before .before .before in
     let d = m .before .before .before in
-    rw (m .match .keys1) (plain (rw (d .pre .1 .nodes) at (k .place .ensures)))
+    rw (m .match .keys1) (plain (rw (d .pre .1 .nodes) at (k .place .ensures (d .args .levels .now))))
 
 same-length-2 : tie.Need-same-length-2
 same-length-2 c = search needs
@@ -52,9 +65,9 @@ returns-2 : tie.Need-returns-2
 unfolding actOf
 returns-2 c =
     let k = c .before .before in
-    let m = k .before .before in
+    let m = k .before .before .before .before in
     let d = m .before .before .before in
-    rw (m .match .keys2) (plain (rw (d .pre .1 .nodes) at (k .close .ensures)))
+    rw (m .match .keys2) (plain (rw (d .pre .1 .nodes) at (k .close .ensures (d .args .levels .now))))
 
 same-length-3 : tie.Need-same-length-3
 same-length-3 c = search needs
@@ -63,10 +76,10 @@ returns-3 : tie.Need-returns-3
 unfolding actOf routeOf
 returns-3 c =
     let k = c .before .before in
-    let o = k .before .before in
-    let m = o .before .before .before in
+    let o = k .before .before .before .before in
+    let m = o .before .before in
     let d = m .before .before .before in
-    rw (m .match .keys3, sym (o .owed .ensures)) (plain (rw (d .pre .1 .nodes) at (k .exclude .ensures)))
+    rw (m .match .keys3, sym (o .owed .ensures)) (plain (rw (d .pre .1 .nodes) at (k .exclude .ensures (d .args .levels .now))))
 
 same-length-4 : tie.Need-same-length-4
 same-length-4 c = search needs
@@ -75,13 +88,16 @@ returns-4 : tie.Need-returns-4
 unfolding actOf
 returns-4 c =
     let k = c .before .before in
-    let m = k .before .before in
+    let m = k .before .before .before in
     let d = m .before .before .before in
-    rw (m .match .keys4) (plain (rw (d .pre .1 .nodes) at (k .require .ensures)))
+    rw (m .match .keys4) (plain (rw (d .pre .1 .nodes) at (k .require .ensures (d .args .sets .now) (d .args .levels .now))))
 
 returns-5 : tie.Need-returns-5
 unfolding actOf
-returns-5 c = rw (c .before .match .keys5) (plain (c .level .ensures _))
+returns-5 c =
+    let m = c .before .before in
+    let a = m .before .before .before .args in
+    rw (m .match .keys5) (plain (c .level .ensures (a .route .now) (a .sets .now) (a .trail .now)))
 
 same-length-5 : tie.Need-same-length-5
 same-length-5 c = search needs
@@ -89,7 +105,7 @@ same-length-5 c = search needs
 returns-6 : tie.Need-returns-6
 unfolding actOf
 returns-6 c =
-    let m = c .before .before in
+    let m = c .before .before .before .before .before in
     let d = m .before .before .before in
     rw (m .match .keys6) (plain (rw (d .pre .1 .nodes) at (c .back .ensures)))
 
@@ -98,7 +114,7 @@ unfolding actOf
 returns-7 c =
     let x = c .match .rest in
     let d = c .before .before .before in
-    simp (ne-eqb _ _ (x .0 .0 .0 .0 .0 .1), ne-eqb _ _ (x .0 .0 .0 .0 .1), ne-eqb _ _ (x .0 .0 .0 .1), ne-eqb _ _ (x .0 .0 .1), ne-eqb _ _ (d .pre .3), ne-eqb _ _ (x .0 .1), ne-eqb _ _ (x .1))
+    simp (ne-eqb _ _ (x .0 .0 .0 .0 .0 .1), ne-eqb _ _ (x .0 .0 .0 .0 .1), ne-eqb _ _ (x .0 .0 .0 .1), ne-eqb _ _ (x .0 .0 .1), ne-eqb _ _ (d .pre .4), ne-eqb _ _ (x .0 .1), ne-eqb _ _ (x .1))
 
 pub change-spec : {M : Type 1} → statement M
 change-spec =
