@@ -1,2 +1,2 @@
--- Asks: what the face asks of a state, once the sheet is known.
-pub mod Asks
+-- Reach: what holds of a state that steps have led to from the fresh one.
+pub mod Reach

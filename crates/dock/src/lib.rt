@@ -1,95 +1,56 @@
 // The steps that a sheet asks for, run one by one on a sheet that was opened, and the line of each.
 ghost use mathlib.Core.Path.{_≡_};
-ghost use mathlib.Core.Bool.{cond};
-ghost use Prim.Native.Nat.{_+_, _≤_, _<_};
+ghost use mathlib.Core.Bool.{cond, true};
+ghost use mathlib.Core.List.{List};
+ghost use Prim.Native.Nat.{ℕ, _+_, _≤_, _<_};
 ghost use lib.ListN.{length};
+ghost use Rattle.sheet.specs.Section.{nOf};
 ghost use Rattle.sheet.specs.Place.{Laid};
 ghost use Rattle.day.specs.Refuse.{refusal14};
 ghost use Rattle.day.specs.Tell.{stepWord};
+ghost use Rattle.board.specs.Board.{stateWith};
+ghost use Rattle.board.specs.Form.{inForm};
+ghost use Rattle.settle.specs.Ready.{Ready};
 ghost use Rattle.listing.specs.Put.{Put};
-ghost use Rattle.planner.specs.Face.{stepOf, judgeOf};
-ghost use Rattle.dock.specs.Line.{lineOf};
-use board::State;
-use board::form::in_form;
+ghost use Rattle.planner.specs.Face.{stepOf, acted};
+ghost use Rattle.dock.specs.Line.{lineOf, Reached};
+use board::Figures;
+use board::places::count;
 use listing::Three;
 use listing::put_step;
-use planner::FORM;
-use planner::Stepped;
+use planner::known::Acted;
 use planner::known::act;
-use planner::known::places_of;
 use sheet::Layout;
 
-// One step: the sheet is known and not asked again, the state is.
-fn step(
+// The sheet's i-th step, from 0, on a state that was reached from the fresh one: neither sheet nor state is asked again.
+pub fn step_at(
     sheet: &[u8],
     at: Layout,
-    state: State,
+    i: usize,
+    route: &mut [usize; 64],
+    sets: &mut [u64; 64],
+    levels: &mut [usize; 64],
+    f: Figures,
     trail: &mut [u64],
-    kind: usize,
-    first: usize,
-    second: usize,
-) -> Stepped
-    requires { ⌜ (refusal14 (now sheet) ≡ 0) × Laid (now sheet) at ⌝ }
-    ensures { λ r. ⌜ stepOf (now (sheet .entry)) state (now (trail .entry)) kind first second ≡ (r, now (trail .exit)) ⌝ }
-{
-    let records = state.records;
-    let formed = in_form(
-        &state.route,
-        state.stops,
-        &state.sets,
-        state.marks,
-        &state.levels,
-        state.depth,
-        records,
-        at.nodes,
-    );
-    if !formed {
-        return Stepped {
-            answer: FORM,
-            rounds: 0,
-            state: state,
-        };
-    }
-    if trail.len() / 2 < records {
-        return Stepped {
-            answer: FORM,
-            rounds: 0,
-            state: state,
-        };
-    }
-    act(sheet, at, state, trail, kind, first, second)
-}
-
-// The sheet's i-th step, from 0.
-pub fn step_at(sheet: &[u8], at: Layout, i: usize, state: State, trail: &mut [u64]) -> Stepped
-    requires { ⌜ (refusal14 (now sheet) ≡ 0) × Laid (now sheet) at × (i < at .steps) ⌝ }
-    ensures { λ r. ⌜ stepOf (now (sheet .entry)) state (now (trail .entry)) (stepWord (now (sheet .entry)) i 0) (stepWord (now (sheet .entry)) i 1) (stepWord (now (sheet .entry)) i 2) ≡ (r, now (trail .exit)) ⌝ }
+) -> Acted
+    requires { ⌜ (refusal14 (now sheet) ≡ 0) × Laid (now sheet) at × (i < at .steps) × Reached (now sheet) (stateWith (now route) (now sets) (now levels) f) (now trail) ⌝ }
+    ensures { λ r. ⌜ (stepOf (now (sheet .entry)) (stateWith (now (route .entry)) (now (sets .entry)) (now (levels .entry)) f) (now (trail .entry)) (stepWord (now (sheet .entry)) i 0) (stepWord (now (sheet .entry)) i 1) (stepWord (now (sheet .entry)) i 2) ≡ acted (r .answer) (r .rounds) (stateWith (now (route .exit)) (now (sets .exit)) (now (levels .exit)) (r .after)) (now (trail .exit))) × Reached (now (sheet .entry)) (stateWith (now (route .exit)) (now (sets .exit)) (now (levels .exit)) (r .after)) (now (trail .exit)) ⌝ }
 {
     let kind = day::look::step_word(sheet, at, i, 0);
     let first = day::look::step_word(sheet, at, i, 1);
     let second = day::look::step_word(sheet, at, i, 2);
-    step(sheet, at, state, trail, kind, first, second)
-}
-
-// The verdict: the sheet is known and not asked again, the state is.
-fn alive(sheet: &[u8], at: Layout, state: State) -> bool
-    requires { ⌜ (refusal14 (now sheet) ≡ 0) × Laid (now sheet) at ⌝ }
-    ensures { λ r. ⌜ r ≡ judgeOf (now (sheet .entry)) state .alive ⌝ }
-{
-    let formed = in_form(
-        &state.route,
-        state.stops,
-        &state.sets,
-        state.marks,
-        &state.levels,
-        state.depth,
-        state.records,
-        at.nodes,
-    );
-    if !formed {
-        return false;
-    }
-    planner::known::alive(sheet, at, state)
+    act(
+        sheet,
+        at,
+        route,
+        sets,
+        levels,
+        f,
+        trail,
+        kind,
+        first,
+        second,
+    )
 }
 
 fn one_if(b: bool) -> u64
@@ -98,31 +59,79 @@ fn one_if(b: bool) -> u64
     if b { 1 } else { 0 }
 }
 
-// The line of the sheet's i-th step, which gave `s`.
-pub fn put_line(
+// The line of the sheet's i-th step, which gave `a` and left these arrays.
+pub fn put_line<'a>(
     sheet: &[u8],
     at: Layout,
     i: usize,
-    s: Stepped,
+    a: Acted,
+    route: &'a [usize; 64],
+    sets: &'a [u64; 64],
     out: &mut [u8],
     used: usize,
 ) -> usize
-    requires { ⌜ (refusal14 (now sheet) ≡ 0) × Laid (now sheet) at × (i < at .steps) × (used + 200 ≤ length (now out)) ⌝ }
-    ensures { λ r. ⌜ Put (now (out .entry)) used (lineOf (now (sheet .entry)) i s) r (now (out .exit)) ⌝ }
+    requires { ⌜ (refusal14 (now sheet) ≡ 0) × Laid (now sheet) at × (i < at .steps) × (used + 200 ≤ length (now out)) × Ready (now sheet) at (now route) (a .after .stops) (now sets) (a .after .marks) ⌝ }
+    ensures { λ r. ⌜ ((levels : List ℕ) → inForm (nOf (now (sheet .entry))) (stateWith (now (route .entry)) (now (sets .entry)) levels (a .after)) ≡ true → Put (now (out .entry)) used (lineOf (now (sheet .entry)) i (acted (a .answer) (a .rounds) (stateWith (now (route .entry)) (now (sets .entry)) levels (a .after)) (now (out .entry)) .0)) r (now (out .exit))) ⌝ }
 {
-    let state = s.state;
-    let records = state.records;
-    let places = places_of(state);
-    let alive = alive(sheet, at, state);
+    let after = a.after;
+    let places = count(sets);
+    let alive = planner::known::alive(sheet, at, route, sets, after);
     let head = Three {
         first: (i + 1) as u64,
-        second: s.answer as u64,
+        second: a.answer as u64,
         third: places as u64,
     };
     let tail = Three {
-        first: records as u64,
-        second: s.rounds as u64,
+        first: after.records as u64,
+        second: a.rounds as u64,
         third: one_if(alive),
     };
     put_step(out, used, head, tail)
+}
+
+// Where the lines have come to: the next step, how much of the buffer is used, and the numbers of the state.
+pub struct Part {
+    pub next: usize,
+    pub used: usize,
+    pub after: Figures,
+}
+
+// The lines of the steps from the i-th on, as many as the buffer surely has room for.
+pub fn put_lines(
+    sheet: &[u8],
+    at: Layout,
+    from: usize,
+    route: &mut [usize; 64],
+    sets: &mut [u64; 64],
+    levels: &mut [usize; 64],
+    f: Figures,
+    trail: &mut [u64],
+    out: &mut [u8],
+    start: usize,
+) -> Part
+    requires { ⌜ (refusal14 (now sheet) ≡ 0) × Laid (now sheet) at × (from ≤ at .steps) × (start ≤ length (now out)) × Reached (now sheet) (stateWith (now route) (now sets) (now levels) f) (now trail) ⌝ }
+    ensures { λ r. ⌜ (r .next ≤ at .steps) × (r .used ≤ length (now (out .exit))) × (length (now (out .exit)) ≡ length (now (out .entry))) × (from < at .steps → start + 200 ≤ length (now (out .entry)) → from < r .next) × Reached (now (sheet .entry)) (stateWith (now (route .exit)) (now (sets .exit)) (now (levels .exit)) (r .after)) (now (trail .exit)) ⌝ }
+{
+    let room = out.len();
+    let mut g = f;
+    let mut used = start;
+    let mut i = from;
+    while i < at.steps {
+        if room < used + 200 {
+            return Part {
+                next: i,
+                used: used,
+                after: g,
+            };
+        }
+        let a = step_at(sheet, at, i, route, sets, levels, g, trail);
+        used = put_line(sheet, at, i, a, route, sets, out, used);
+        g = a.after;
+        i += 1;
+    }
+    Part {
+        next: i,
+        used: used,
+        after: g,
+    }
 }

@@ -10,7 +10,7 @@ use native.Mathlib.Numerals.{add-one}
 use lib.ListN.{length, getD, take, length-append, length-take}
 use lib.Seq.{take-suc}
 use borrow.Author.Tests.{lt-ltb, le-ltb}
-use Rattle.listing.specs.Text.{digits, decimal, space, field, threeFields, stopText, stopsText}
+use Rattle.listing.specs.Text.{digits, decimal, space, newline, stepWord, answerWord, openWord, recordsWord, roundsWord, aliveWord, routeWord, field, threeFields, stepLine, stopText, stopsText, routeLine}
 use Rattle.listing.specs.Put.{Put, put-then, put-length}
 
 -- room for one digit more changes nothing where the number has no more digits
@@ -65,11 +65,24 @@ pub field-takes : {b c : List ℕ} {at next : ℕ} (name : List ℕ) (v after : 
 field-takes name v after p = (omega (arith, p .next-is, field-few name v after), put-length p)
 
 -- and three of them
+three-few : (a₁ : List ℕ) (v : ℕ) (a₂ : List ℕ) (w : ℕ) (a₃ : List ℕ) (u after : ℕ)
+    → length (threeFields a₁ v a₂ w a₃ u after) ≤ length a₁ + length a₂ + length a₃ + 66
+unfolding threeFields
+three-few a₁ v a₂ w a₃ u after =
+    omega (arith, length-append (field a₁ v space ++ field a₂ w space) (field a₃ u after), length-append (field a₁ v space) (field a₂ w space), field-few a₁ v space, field-few a₂ w space, field-few a₃ u after)
+
 pub three-takes : {d c : List ℕ} {at next : ℕ} (a₁ : List ℕ) (v : ℕ) (a₂ : List ℕ) (w : ℕ) (a₃ : List ℕ) (u after : ℕ) → Put d at (threeFields a₁ v a₂ w a₃ u after) next c
     → (next ≤ at + length a₁ + length a₂ + length a₃ + 66) × (length c ≡ length d)
-unfolding threeFields
-three-takes a₁ v a₂ w a₃ u after p =
-    (omega (arith, p .next-is, length-append (field a₁ v space ++ field a₂ w space) (field a₃ u after), length-append (field a₁ v space) (field a₂ w space), field-few a₁ v space, field-few a₂ w space, field-few a₃ u after), put-length p)
+three-takes a₁ v a₂ w a₃ u after p = (omega (arith, p .next-is, three-few a₁ v a₂ w a₃ u after), put-length p)
+
+-- the line of a step
+pub step-takes : {d c : List ℕ} {at next : ℕ} (i answer places records rounds alive : ℕ) → Put d at (stepLine i answer places records rounds alive) next c
+    → (next ≤ at + 200) × (length c ≡ length d)
+unfolding stepLine
+step-takes i answer places records rounds alive p =
+    let l = three-few stepWord i answerWord answer openWord places space in
+    let r = three-few recordsWord records roundsWord rounds aliveWord alive newline in
+    (omega (arith, p .next-is, l, r, length-append (threeFields stepWord i answerWord answer openWord places space) (threeFields recordsWord records roundsWord rounds aliveWord alive newline)), put-length p)
 
 -- the route line grows stop by stop, at most 21 bytes each
 stops-append : (l : List ℕ) (x : ℕ) → stopsText (l ++ (x ∷ [])) ≡ stopsText l ++ stopText x
@@ -99,3 +112,9 @@ stops-few (x ∷ l) = omega (arith, length-append (stopText x) (stopsText l), st
 
 pub stops-take : {b c : List ℕ} {at next : ℕ} (l : List ℕ) (k : ℕ) → Put b at (stopsText (take k l)) next c → (next ≤ at + 21 * k) × (length c ≡ length b)
 stops-take l k p = (omega (arith, p .next-is, stops-few (take k l), length-take k l), put-length p)
+
+-- the whole line of a route of at most 64 stops
+pub route-takes : {b c : List ℕ} {at next : ℕ} (l : List ℕ) (k : ℕ) → k ≤ 64 → Put b at (routeLine (take k l)) next c → (next ≤ at + 1350) × (length c ≡ length b)
+unfolding routeLine
+route-takes l k h p =
+    (omega (arith, p .next-is, length-append (routeWord ++ stopsText (take k l)) (newline ∷ []), length-append routeWord (stopsText (take k l)), stops-few (take k l), length-take k l), put-length p)

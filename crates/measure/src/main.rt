@@ -2,18 +2,20 @@
 ghost use mathlib.Core.Path.{_≡_};
 ghost use Prim.Native.Nat.{_≤_, _<_};
 ghost use lib.ListN.{length};
+ghost use Rattle.sheet.specs.Section.{nOf};
 ghost use Rattle.sheet.specs.Place.{Laid};
+ghost use Rattle.board.specs.Fresh.{freshState};
 ghost use Rattle.day.specs.Refuse.{refusal14};
+use board::Figures;
 use board::State;
-use dock::put_line;
-use dock::step_at;
+use board::places::count;
+use dock::put_lines;
 use libc::STDIN_FILENO;
 use libc::STDOUT_FILENO;
 use listing::put_number;
 use listing::put_refused;
 use listing::put_route;
 use planner::Stepped;
-use planner::known::places_of;
 use sheet::Layout;
 use std::num::wrapping_add_u64;
 
@@ -41,28 +43,31 @@ fn room(used: usize) -> usize
 
 // The lines of the steps and the route, into memory.
 fn run(sheet: &[u8], at: Layout, fresh: State, trail: &mut [u64], out: &mut [u8]) -> usize
-    requires { ⌜ (refusal14 (now sheet) ≡ 0) × Laid (now sheet) at × (length (now out) ≡ 240000) ⌝ }
+    requires { ⌜ (refusal14 (now sheet) ≡ 0) × Laid (now sheet) at × (length (now out) ≡ 240000) × (fresh ≡ freshState (nOf (now sheet))) ⌝ }
 {
-    let mut state = fresh;
-    let mut used = 0;
-    let mut i = 0;
-    while i < at.steps {
-        let s = step_at(sheet, at, i, state, trail);
-        used = put_line(sheet, at, i, s, out, used);
-        used = room(used);
-        state = s.state;
-        i += 1;
-    }
-    end(state, out, used)
-}
-
-fn end(state: State, out: &mut [u8], used: usize) -> usize
-    requires { ⌜ (used ≤ 230000) × (length (now out) ≡ 240000) ⌝ }
-{
-    if State::NODES < state.stops {
-        return used;
-    }
-    put_route(out, used, &state.route, state.stops)
+    let mut route = fresh.route;
+    let mut sets = fresh.sets;
+    let mut levels = fresh.levels;
+    let f = Figures {
+        stops: fresh.stops,
+        marks: fresh.marks,
+        depth: fresh.depth,
+        records: fresh.records,
+    };
+    let p = put_lines(
+        sheet,
+        at,
+        0,
+        &mut route,
+        &mut sets,
+        &mut levels,
+        f,
+        trail,
+        out,
+        0,
+    );
+    let after = p.after;
+    put_route(out, room(p.used), &route, after.stops)
 }
 
 fn list(sheet: &[u8], trail: &mut [u64], out: &mut [u8]) -> usize
@@ -96,7 +101,7 @@ fn sum_of(s: Stepped) -> u64 {
     let records = state.records as u64;
     let a = wrapping_add_u64(s.answer as u64, s.rounds as u64);
     let b = wrapping_add_u64(a, records);
-    let places = places_of(state);
+    let places = count(&state.sets);
     wrapping_add_u64(b, places as u64)
 }
 
@@ -168,7 +173,7 @@ fn diagonal(sheet: &[u8]) -> usize
     24 + a.len() + b.len()
 }
 
-// The sum over all times.
+// The sum over all times, of one of the operations 1 to 6 and 8.
 fn repeat(
     operation: usize,
     count: usize,
@@ -176,45 +181,40 @@ fn repeat(
     state: State,
     half: usize,
     trail: &mut [u64],
-    out: &mut [u8],
 ) -> u64
-    requires { ⌜ (2 ≤ half) × (length (now out) ≡ 240000) ⌝ }
+    requires { ⌜ 2 ≤ half ⌝ }
 {
     let spot = diagonal(sheet);
     let mut sum: u64 = 0;
     let mut i = 0;
     while i < count {
         mark(sheet, spot, i % 1000);
-        sum = wrapping_add_u64(sum, once(operation, sheet, state, half, trail, out));
+        sum = wrapping_add_u64(sum, ask(operation, sheet, state, trail, half));
         i += 1;
     }
     sum
 }
 
-fn once(
-    operation: usize,
-    sheet: &[u8],
-    state: State,
-    half: usize,
-    trail: &mut [u64],
-    out: &mut [u8],
-) -> u64
-    requires { ⌜ (2 ≤ half) × (length (now out) ≡ 240000) ⌝ }
+// The same of operation 7.
+fn repeat_listing(count: usize, sheet: &mut [u8], trail: &mut [u64], out: &mut [u8]) -> u64
+    requires { ⌜ length (now out) ≡ 240000 ⌝ }
 {
-    if operation == 7 {
-        return listing_of(sheet, trail, out);
+    let spot = diagonal(sheet);
+    let mut sum: u64 = 0;
+    let mut i = 0;
+    while i < count {
+        mark(sheet, spot, i % 1000);
+        sum = wrapping_add_u64(sum, listing_of(sheet, trail, out));
+        i += 1;
     }
-    ask(operation, sheet, state, trail, half)
+    sum
 }
 
-// Where the word of eight bytes at a place is a number below 2^32, that number.
+// The number of eight bytes at a place.
 fn number(bytes: &[u8], at: usize) -> usize
-    requires { ⌜ at ≤ 8 ⌝ }
+    requires { ⌜ (at ≤ 2) × (16 ≤ length (now bytes)) ⌝ }
 {
-    if bytes.len() < 16 {
-        return 0;
-    }
-    sheet::word(bytes, at / 4) as usize
+    sheet::word(bytes, at) as usize + 4294967296 * (sheet::word(bytes, at + 1) as usize)
 }
 
 // How many stops the state of an operation has, the end counted.
@@ -227,9 +227,7 @@ fn stops_of(operation: usize, n: usize) -> usize {
 }
 
 // The state that an operation starts from, made with one stop fewer to place than it has.
-fn start(operation: usize, sheet: &[u8], trail: &mut [u64], n: usize) -> State {
-    let opened = planner::open(sheet);
-    let fresh = opened.state;
+fn start(operation: usize, sheet: &[u8], fresh: State, trail: &mut [u64], n: usize) -> State {
     let stops = stops_of(operation, n);
     if stops < 2 {
         return fresh;
@@ -260,6 +258,15 @@ fn half_of(n: usize) -> usize
     if n < 4 { 2 } else { n / 2 }
 }
 
+// Whether there is no such operation, or it asks for a sheet that opens and this one is refused.
+fn cannot(operation: usize, refusal: usize) -> bool {
+    match operation {
+        1 | 7 => false,
+        2 | 3 | 4 | 5 | 6 | 8 => refusal != 0,
+        _ => true,
+    }
+}
+
 // One operation on a sheet; the listing alone for operation 0.
 fn measure(operation: usize, count: usize, sheet: &mut [u8]) {
     let mut trail = [0u64; 7936];
@@ -269,15 +276,18 @@ fn measure(operation: usize, count: usize, sheet: &mut [u8]) {
         write(&out, used);
         return;
     }
-    let n = planner::section(sheet, 2).len() / 12;
-    if 8 < operation {
+    let opened = planner::open(sheet);
+    if cannot(operation, opened.answer) {
         io::write_all(STDOUT_FILENO, b"cannot\n");
         return;
     }
-    let state = start(operation, sheet, &mut trail, n);
-    let half = half_of(n);
-    let sum = repeat(operation, count, sheet, state, half, &mut trail, &mut out);
-    tell(sum);
+    if operation == 7 {
+        tell(repeat_listing(count, sheet, &mut trail, &mut out));
+        return;
+    }
+    let n = planner::section(sheet, 2).len() / 12;
+    let state = start(operation, sheet, opened.state, &mut trail, n);
+    tell(repeat(operation, count, sheet, state, half_of(n), &mut trail));
 }
 
 fn main() {
@@ -288,6 +298,6 @@ fn main() {
         return;
     }
     let operation = number(&input, 0);
-    let count = number(&input, 8);
+    let count = number(&input, 2);
     measure(operation, count, &mut input[16..n]);
 }

@@ -1,13 +1,14 @@
 // The program `round`: a day sheet on standard input, the listing of its steps on standard output.
 ghost use mathlib.Core.Path.{_≡_};
-ghost use Prim.Native.Nat.{_+_, _≤_, _<_};
+ghost use Prim.Native.Nat.{_≤_, _<_};
 ghost use lib.ListN.{length};
+ghost use Rattle.sheet.specs.Section.{nOf};
 ghost use Rattle.sheet.specs.Place.{Laid};
+ghost use Rattle.board.specs.Fresh.{freshState};
 ghost use Rattle.day.specs.Refuse.{refusal14};
-ghost use Rattle.planner.specs.Face.{openOf};
+use board::Figures;
 use board::State;
-use dock::put_line;
-use dock::step_at;
+use dock::put_lines;
 use libc::STDIN_FILENO;
 use libc::STDOUT_FILENO;
 use listing::put_refused;
@@ -23,15 +24,15 @@ const TEXT: usize = 65536;
 const FULL: usize = 64000;
 
 // Writes the first bytes of the buffer.
-fn write(out: &[u8], used: usize) {
-    if out.len() < used {
-        return;
-    }
+fn write(out: &[u8], used: usize)
+    requires { ⌜ used ≤ length (now out) ⌝ }
+{
     io::write_all(STDOUT_FILENO, &out[..used]);
 }
 
 // Writes what the buffer holds if little room is left, and answers how much it then holds.
 fn room(out: &[u8], used: usize) -> usize
+    requires { ⌜ used ≤ length (now out) ⌝ }
     ensures { λ r. ⌜ r ≤ 64000 ⌝ }
 {
     if used <= FULL {
@@ -43,29 +44,37 @@ fn room(out: &[u8], used: usize) -> usize
 
 // The lines of the steps from the fresh state on, then the route.
 fn run(sheet: &[u8], at: Layout, fresh: State, trail: &mut [u64], out: &mut [u8])
-    requires { ⌜ (refusal14 (now sheet) ≡ 0) × Laid (now sheet) at × (length (now out) ≡ 65536) ⌝ }
+    requires { ⌜ (refusal14 (now sheet) ≡ 0) × Laid (now sheet) at × (length (now out) ≡ 65536) × (fresh ≡ freshState (nOf (now sheet))) ⌝ }
 {
-    let mut state = fresh;
+    let mut route = fresh.route;
+    let mut sets = fresh.sets;
+    let mut levels = fresh.levels;
+    let mut f = Figures {
+        stops: fresh.stops,
+        marks: fresh.marks,
+        depth: fresh.depth,
+        records: fresh.records,
+    };
     let mut used = 0;
     let mut i = 0;
     while i < at.steps {
-        let s = step_at(sheet, at, i, state, trail);
-        used = put_line(sheet, at, i, s, out, used);
-        used = room(out, used);
-        state = s.state;
-        i += 1;
+        let p = put_lines(
+            sheet,
+            at,
+            i,
+            &mut route,
+            &mut sets,
+            &mut levels,
+            f,
+            trail,
+            out,
+            used,
+        );
+        used = room(out, p.used);
+        f = p.after;
+        i = p.next;
     }
-    end(state, out, used);
-}
-
-// The line of the route, and the rest of the text written out.
-fn end(state: State, out: &mut [u8], used: usize)
-    requires { ⌜ (used ≤ 64000) × (length (now out) ≡ 65536) ⌝ }
-{
-    if State::NODES < state.stops {
-        return;
-    }
-    let all = put_route(out, used, &state.route, state.stops);
+    let all = put_route(out, used, &route, f.stops);
     write(out, all);
 }
 

@@ -1,17 +1,18 @@
 use mathlib.Core.Path.{sym}
 use Rattle.dock.specs.Line.{lineOf}
+use Rattle.dock.proofs.Reach.{judged}
 use borrow.Author.Needs.{needs}
 use Rattle.dock.proofs.put_line.Statement.{statement}
 use Rattle.dock.proofs.put_line.Tie as tie
 
-places-of-requires : tie.Need-places-of-requires
-places-of-requires c κs = search needs
+count-requires : tie.Need-count-requires
+count-requires c κs = search needs
 
 alive-requires : tie.Need-alive-requires
 alive-requires c κs = search needs
 
-add-t13 : tie.Need-add-t13
-add-t13 c = search needs
+add-t14 : tie.Need-add-t14
+add-t14 c = search needs
 
 one-if-requires : tie.Need-one-if-requires
 one-if-requires c κs = search needs
@@ -24,19 +25,20 @@ same-length c = search needs
 
 returns : tie.Need-returns
 unfolding lineOf
-returns c =
+returns c levels form =
     let p = c .before .before in
     let o = p .before .before in
     let a = o .before in
-    rw (sym (a .before .places-of .ensures), sym (a .alive .ensures), sym (o .one-if .ensures)) (p .put-step .ensures)
+    let d = a .before .before .before .before .before in
+    rw (judged _ _ (d .pre .0) form, sym (a .alive .ensures levels), sym (a .before .count .ensures .0), sym (o .one-if .ensures)) (p .put-step .ensures)
 
 pub put-line-spec : {M : Type 1} → statement M
 put-line-spec =
     tie.close
     (tie.spec
-    places-of-requires
+    count-requires
     alive-requires
-    add-t13
+    add-t14
     one-if-requires
     put-step-requires
     same-length

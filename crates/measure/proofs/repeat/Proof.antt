@@ -7,23 +7,23 @@ use Rattle.measure.proofs.repeat.Statement.{statement}
 use Rattle.measure.proofs.repeat.Tie as tie
 
 abbrev Inv-loop : tie.InvT-loop
-Inv-loop operation count sheet₀ state half trail₀ out₀ spot sum₀ i₀ sheet trail out sum i =
-    (i ≤ count) × (length sheet ≡ length sheet₀) × (length trail ≡ length trail₀) × (length out ≡ length out₀)
+Inv-loop operation count sheet₀ state half trail₀ spot sum₀ i₀ sheet trail sum i =
+    (i ≤ count) × (length sheet ≡ length sheet₀) × (length trail ≡ length trail₀)
 
 abbrev μ-loop : tie.MeasureT-loop
-μ-loop operation count sheet₀ state half trail₀ out₀ spot sum₀ i₀ sheet trail out sum i = count - i
+μ-loop operation count sheet₀ state half trail₀ spot sum₀ i₀ sheet trail sum i = count - i
 
 diagonal-requires : tie.Need-diagonal-requires Inv-loop μ-loop
 diagonal-requires c κs = search needs
 
 loop-holds : tie.Need-loop-holds Inv-loop μ-loop
-loop-holds c = (search needs, search needs, search needs, search needs)
+loop-holds c = (search needs, search needs, search needs)
 
 mark-requires : tie.Need-mark-requires Inv-loop μ-loop
 mark-requires c κs = search needs
 
-once-requires : tie.Need-once-requires Inv-loop μ-loop
-once-requires c κs = search needs
+ask-requires : tie.Need-ask-requires Inv-loop μ-loop
+ask-requires c κs = search needs
 
 wrapping-add-u64-requires : tie.Need-wrapping-add-u64-requires Inv-loop μ-loop
 wrapping-add-u64-requires c κs = search needs
@@ -35,16 +35,13 @@ loop-less : tie.Need-loop-less Inv-loop μ-loop
 loop-less c = search needs
 
 loop-again : tie.Need-loop-again Inv-loop μ-loop
-loop-again c = (omega arith, search needs, search needs, search needs)
+loop-again c = (omega arith, search needs, search needs)
 
 same-length : tie.Need-same-length Inv-loop μ-loop
 same-length c = search needs
 
 same-length-2 : tie.Need-same-length-2 Inv-loop μ-loop
 same-length-2 c = search needs
-
-same-length-3 : tie.Need-same-length-3 Inv-loop μ-loop
-same-length-3 c = search needs
 
 returns : tie.Need-returns Inv-loop μ-loop
 returns c = search needs
@@ -58,12 +55,11 @@ repeat-spec =
     diagonal-requires
     loop-holds
     mark-requires
-    once-requires
+    ask-requires
     wrapping-add-u64-requires
     add-i
     loop-less
     loop-again
     same-length
     same-length-2
-    same-length-3
     returns)

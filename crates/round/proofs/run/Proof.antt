@@ -1,45 +1,68 @@
-use borrow.Author.Needs.{needs}
-use native.Mathlib.Omega.{arith}
+use mathlib.Core.Path.{_≡_, refl, _∙_}
 use Prim.Native.Nat.{_-_, _≤_}
-use mathlib.Core.Path.{_≡_, _∙_}
+use native.Mathlib.Omega.{arith}
 use lib.ListN.{length}
-use Rattle.listing.specs.Put.{put-length}
+use Rattle.board.specs.Board.{stateWith}
+use Rattle.listing.specs.Laws.{route-takes}
+use Rattle.dock.specs.Line.{Reached}
+use Rattle.dock.proofs.Reach.{begun, held, few}
+use borrow.Author.Needs.{needs}
 use Rattle.round.proofs.run.Statement.{statement}
 use Rattle.round.proofs.run.Tie as tie
 
 abbrev Inv-loop : tie.InvT-loop
-Inv-loop sheet at trail₀ out₀ state₀ used₀ i₀ trail out state used i =
-    (i ≤ at .steps) × (used ≤ 64000) × (length out ≡ 65536) × (length trail ≡ length trail₀)
+Inv-loop sheet at trail₀ out₀ route₀ sets₀ levels₀ f₀ used₀ i₀ trail out route sets levels f used i =
+    (i ≤ at .steps) × (used ≤ 64000) × (length out ≡ 65536) × (length trail ≡ length trail₀) × Reached sheet (stateWith route sets levels f) trail
 
 abbrev μ-loop : tie.MeasureT-loop
-μ-loop sheet at trail₀ out₀ state₀ used₀ i₀ trail out state used i = at .steps - i
+μ-loop sheet at trail₀ out₀ route₀ sets₀ levels₀ f₀ used₀ i₀ trail out route sets levels f used i =
+    at .steps - i
 
 loop-holds : tie.Need-loop-holds Inv-loop μ-loop
-loop-holds c = (search needs, search needs, search needs, search needs)
+loop-holds c =
+    let d = c .before .before .before .before .before .before in
+    (omega arith, omega arith, d .pre .2, refl, begun _ (d .pre .3))
 
-step-at-requires : tie.Need-step-at-requires Inv-loop μ-loop
-step-at-requires c κs = search needs
-
-put-line-requires : tie.Need-put-line-requires Inv-loop μ-loop
-put-line-requires c κs = search needs
+put-lines-requires : tie.Need-put-lines-requires Inv-loop μ-loop
+put-lines-requires c κs =
+    let l = c .before .before .before .before .before .before .before in
+    let d = l .before .before .before .before .before .before .before in
+    let v = l .loop .inv in
+    (d .pre .0, d .pre .1, v .0, omega (arith, v .1, v .2), v .4)
 
 room-requires : tie.Need-room-requires Inv-loop μ-loop
-room-requires c κs = search needs
-
-add-i : tie.Need-add-i Inv-loop μ-loop
-add-i c = omega arith
+room-requires c κs = c .before .before .before .before .before .put-lines .ensures .1
 
 loop-less : tie.Need-loop-less Inv-loop μ-loop
-loop-less c = omega arith
+loop-less c =
+    let p = c .before .before .before .before .before .before .before in
+    let t = p .before .before .before .before .before .before in
+    let v = t .before .before .loop .inv in
+    omega (arith, p .put-lines .ensures .0, p .put-lines .ensures .3 (t .if1 .taken) (omega (arith, v .1, v .2)))
 
 loop-again : tie.Need-loop-again Inv-loop μ-loop
 loop-again c =
-    let line = c .before .before .before .before .before in
-    let top = line .before .before .before .before .before .before .before .before in
-    (omega arith, search needs, put-length (line .put-line .ensures) ∙ top .loop .inv .2, search needs)
+    let r = c .before in
+    let p = r .before .before .before .before .before .before in
+    let v = p .before .before .before .before .before .before .before .before .loop .inv in
+    let e = p .put-lines .ensures in
+    (e .0, r .room .ensures, e .2 ∙ v .2, search needs, e .4)
 
-end-requires : tie.Need-end-requires Inv-loop μ-loop
-end-requires c κs = search needs
+put-route-requires : tie.Need-put-route-requires Inv-loop μ-loop
+put-route-requires c κs =
+    let l = c .before .before .before .before in
+    let d = l .before .before .before .before .before .before .before in
+    let v = l .loop .inv in
+    (few (d .pre .0) (v .4), held (d .pre .0) (v .4) .wide .route, omega (arith, v .1, v .2))
+
+write-requires : tie.Need-write-requires Inv-loop μ-loop
+write-requires c κs =
+    let q = c .before .before .before in
+    let l = q .before .before .before .before .before in
+    let d = l .before .before .before .before .before .before .before in
+    let v = l .loop .inv in
+    let k = route-takes _ _ (few (d .pre .0) (v .4)) (q .put-route .ensures) in
+    omega (arith, k .0, k .1, v .1, v .2)
 
 same-length : tie.Need-same-length Inv-loop μ-loop
 same-length c = search needs
@@ -57,13 +80,12 @@ run-spec =
     Inv-loop
     μ-loop
     loop-holds
-    step-at-requires
-    put-line-requires
+    put-lines-requires
     room-requires
-    add-i
     loop-less
     loop-again
-    end-requires
+    put-route-requires
+    write-requires
     same-length
     same-length-2
     returns)

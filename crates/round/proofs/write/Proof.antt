@@ -4,19 +4,16 @@ use lib.ListN.{length-take}
 use Rattle.round.proofs.write.Statement.{statement}
 use Rattle.round.proofs.write.Tie as tie
 
-returns : tie.Need-returns
-returns c = search needs
-
 slice-aggregate-write-all : tie.Need-slice-aggregate-write-all
 slice-aggregate-write-all c =
-    let a = c .before .before .before .args in
+    let a = c .before .before .args in
     omega (arith, length-take (a .used) (a .out .now))
 
 write-all-requires : tie.Need-write-all-requires
 write-all-requires c κs = search needs
 
-returns-2 : tie.Need-returns-2
-returns-2 c = search needs
+returns : tie.Need-returns
+returns c = search needs
 
 pub write-spec : {M : Type 1} → statement M
-write-spec = tie.close (tie.spec returns slice-aggregate-write-all write-all-requires returns-2)
+write-spec = tie.close (tie.spec slice-aggregate-write-all write-all-requires returns)

@@ -1,0 +1,69 @@
+use borrow.Author.Needs.{needs}
+use native.Mathlib.Omega.{arith}
+use Prim.Native.Nat.{_-_, _≤_}
+use mathlib.Core.Path.{_≡_}
+use lib.ListN.{length}
+use Rattle.measure.proofs.repeat_listing.Statement.{statement}
+use Rattle.measure.proofs.repeat_listing.Tie as tie
+
+abbrev Inv-loop : tie.InvT-loop
+Inv-loop count sheet₀ trail₀ out₀ spot sum₀ i₀ sheet trail out sum i =
+    (i ≤ count) × (length sheet ≡ length sheet₀) × (length trail ≡ length trail₀) × (length out ≡ length out₀)
+
+abbrev μ-loop : tie.MeasureT-loop
+μ-loop count sheet₀ trail₀ out₀ spot sum₀ i₀ sheet trail out sum i = count - i
+
+diagonal-requires : tie.Need-diagonal-requires Inv-loop μ-loop
+diagonal-requires c κs = search needs
+
+loop-holds : tie.Need-loop-holds Inv-loop μ-loop
+loop-holds c = (search needs, search needs, search needs, search needs)
+
+mark-requires : tie.Need-mark-requires Inv-loop μ-loop
+mark-requires c κs = search needs
+
+listing-of-requires : tie.Need-listing-of-requires Inv-loop μ-loop
+listing-of-requires c κs = search needs
+
+wrapping-add-u64-requires : tie.Need-wrapping-add-u64-requires Inv-loop μ-loop
+wrapping-add-u64-requires c κs = search needs
+
+add-i : tie.Need-add-i Inv-loop μ-loop
+add-i c = search needs
+
+loop-less : tie.Need-loop-less Inv-loop μ-loop
+loop-less c = search needs
+
+loop-again : tie.Need-loop-again Inv-loop μ-loop
+loop-again c = (omega arith, search needs, search needs, search needs)
+
+same-length : tie.Need-same-length Inv-loop μ-loop
+same-length c = search needs
+
+same-length-2 : tie.Need-same-length-2 Inv-loop μ-loop
+same-length-2 c = search needs
+
+same-length-3 : tie.Need-same-length-3 Inv-loop μ-loop
+same-length-3 c = search needs
+
+returns : tie.Need-returns Inv-loop μ-loop
+returns c = search needs
+
+pub repeat-listing-spec : {M : Type 1} → statement M
+repeat-listing-spec =
+    tie.close
+    (tie.spec
+    Inv-loop
+    μ-loop
+    diagonal-requires
+    loop-holds
+    mark-requires
+    listing-of-requires
+    wrapping-add-u64-requires
+    add-i
+    loop-less
+    loop-again
+    same-length
+    same-length-2
+    same-length-3
+    returns)
