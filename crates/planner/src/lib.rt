@@ -12,6 +12,7 @@ use board::form::in_form;
 use board::places::count;
 use day::refusal_1_to_4;
 use day::refusal_1_to_5;
+use known::act;
 use sheet::layout_of;
 
 // The number of a step of unknown kind.
@@ -153,7 +154,7 @@ pub fn step(
     let mut route = state.route;
     let mut sets = state.sets;
     let mut levels = state.levels;
-    let o = known::act(
+    let o = act(
         sheet,
         at,
         &mut route,

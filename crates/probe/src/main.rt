@@ -223,6 +223,17 @@ fn one_if(b: bool) -> usize {
     if b { 1 } else { 0 }
 }
 
+// What a case is told: the four numbers, and the state.
+fn tell(answer: usize, rounds: usize, places: usize, alive: usize, state: State) -> Told {
+    Told {
+        answer: answer,
+        rounds: rounds,
+        places: places,
+        alive: alive,
+        state: state,
+    }
+}
+
 // A question about a sheet and a state.
 fn ask(sheet: &[u8], case: Case, trail: &mut [u64]) -> Told {
     let state = case.state;
@@ -230,45 +241,21 @@ fn ask(sheet: &[u8], case: Case, trail: &mut [u64]) -> Told {
     match question {
         0 => {
             let o = planner::open(sheet);
-            let state = o.state;
-            Told {
-                answer: o.answer,
-                rounds: 0,
-                places: 0,
-                alive: 0,
-                state: state,
-            }
+            let opened = o.state;
+            tell(o.answer, 0, 0, 0, opened)
         },
         1 => {
             let s = planner::step(sheet, state, trail, case.kind, case.first, case.second);
-            let state = s.state;
-            Told {
-                answer: s.answer,
-                rounds: s.rounds,
-                places: 0,
-                alive: 0,
-                state: state,
-            }
+            let after = s.state;
+            tell(s.answer, s.rounds, 0, 0, after)
         },
         2 => {
             let p = planner::open_places(sheet, state);
-            Told {
-                answer: p.answer,
-                rounds: 0,
-                places: p.places,
-                alive: 0,
-                state: state,
-            }
+            tell(p.answer, 0, p.places, 0, state)
         },
         _ => {
             let v = planner::verdict(sheet, state);
-            Told {
-                answer: v.answer,
-                rounds: 0,
-                places: 0,
-                alive: one_if(v.alive),
-                state: state,
-            }
+            tell(v.answer, 0, 0, one_if(v.alive), state)
         },
     }
 }
