@@ -15,7 +15,7 @@ use Rattle.bits.specs.Places.{has, with, minus}
 use Rattle.bits.specs.Members.{has-none, has-low, with-yes, with-same, with-other, with-fits}
 use Rattle.bits.specs.Masks.{has-minus, minus-fits}
 use Rattle.along.specs.declared.walks.Ride.{Ride}
-use Rattle.along.specs.Walks.{Kept, kept-none, kept-pass, kept-join, fitsAt, metBehind, metAhead, walkUp, walkDown, Legs, headOf, Heads, peak}
+use Rattle.along.specs.Walks.{Kept, kept-none, kept-pass, kept-join, fitsAt, metBehind, metAhead, walkUp, walkDown, through, upFlag, downFlag, ridesUp, ridesDown, Legs, headOf, Heads, peak}
 
 -- ---- from leg to leg
 
@@ -397,3 +397,20 @@ back-less f m {i} {j} {k} c x u =
   where
     here : k ≡ j → ltb 0 j ≡ true → k < i
     here e d = let d' = ltb-true 0 j d in absurd (roomy (f (j - 1)) (m (j - 1)) (x .at d') (rw e at (u .at (rw (sym e) at d'))))
+
+-- ---- where the fullest leg has room, a ride through is on every leg, and nothing is struck
+
+module _ {l h : List ℕ} {n load cap highest : ℕ} (g : Legs l h n load) (e : highest ≡ peak h n) (a : highest + load ≤ cap) where
+  roomy-legs : Fails (full h (through cap load)) 0 n
+  roomy-legs = under-room (through cap load) 0 (legs-under g e (omega arith)) a
+
+  pub through-up : {w : ℕ} → Kept l 0 n (ridesUp l h (through cap load)) w w
+  unfolding upFlag walkUp
+  through-up =
+      kept-pass (stretch-all (up-stretch (room h (through cap load)) (behind l (through cap load)) true 0 n) (or-true (behind l (through cap load) 0)) roomy-legs)
+
+  pub through-down : {w : ℕ} → Kept l 0 n (ridesDown l h (through cap load) n) w w
+  unfolding downFlag
+  through-down = kept-pass (λ i b c. stretch-all (down-stretch (room h (through cap load)) (ahead l (through cap load)) true n n 0 (omega arith))
+      (ap (λ (t : Bool). ahead l (through cap load) (n - 1) || t) (down-last (room h (through cap load)) (ahead l (through cap load)) true n (omega arith)) ∙ or-true (ahead l (through cap load) (n - 1)))
+      roomy-legs i b c)

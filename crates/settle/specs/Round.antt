@@ -49,15 +49,19 @@ kepts-one {l} {legs} {g} {ws} {v} x n h k = record { long = length-set ws x v �
     go y false e = let q = eqb-false x y e in
         rw (getD-set-other ws x y v 0 (λ z. q (sym z))) (kept-all (λ i. ap (λ (c : Bool). not c || g i) e))
 
+-- where it leaves the node's word as it is, no word is touched
+pub kepts-still : {l : List ℕ} {legs : ℕ} {g : ℕ → Bool} {ws : List ℕ} (x : ℕ) → length ws ≡ 64 → Kept l 0 legs g (getD ws x 0) (getD ws x 0)
+    → Kepts l legs (λ y i. not (eqb x y) || g i) ws ws
+kepts-still {l} {legs} {g} {ws} x n k = record { long = n; at = λ y. go y (eqb x y) refl }
+  where
+    go : (y : ℕ) (c : Bool) → eqb x y ≡ c → Kept l 0 legs (λ i. not (eqb x y) || g i) (getD ws y 0) (getD ws y 0)
+    go y true e = let q = eqb-true x y e in rw (← q) (kept-same (λ i a b. ap (λ (c : Bool). not c || g i) (sym (eq-eqb x x refl))) k)
+    go y false e = kept-all (λ i. ap (λ (c : Bool). not c || g i) e)
+
 -- where the node has no place, no word is touched
 pub kepts-empty : {l : List ℕ} {legs : ℕ} (g : ℕ → Bool) {ws : List ℕ} (x : ℕ) → length ws ≡ 64 → getD ws x 0 ≡ 0
     → Kepts l legs (λ y i. not (eqb x y) || g i) ws ws
-kepts-empty {l} {legs} g {ws} x n z = record { long = n; at = λ y. go y (eqb x y) refl }
-  where
-    go : (y : ℕ) (c : Bool) → eqb x y ≡ c → Kept l 0 legs (λ i. not (eqb x y) || g i) (getD ws y 0) (getD ws y 0)
-    go y true e = let q : getD ws y 0 ≡ 0 = ap (λ (k : ℕ). getD ws k 0) (sym (eqb-true x y e)) ∙ z in
-        subst (λ (v : ℕ). Kept l 0 legs (λ i. not (eqb x y) || g i) (getD ws y 0) v) (sym q) (kept-zero q)
-    go y false e = kept-all (λ i. ap (λ (c : Bool). not c || g i) e)
+kepts-empty {l} {legs} g {ws} x n z = kepts-still x n (subst (λ (v : ℕ). Kept l 0 legs g (getD ws x 0) v) (sym z) (kept-zero z))
 
 pub kepts-both : {l : List ℕ} {legs : ℕ} {f g : ℕ → ℕ → Bool} {ws us vs : List ℕ} → Kepts l legs f ws us → Kepts l legs g us vs
     → Kepts l legs (λ y i. f y i && g y i) ws vs

@@ -58,7 +58,7 @@ fn strike_transfer(
     }
 }
 
-// A clean job against the places of its node. A node with no place needs no walk.
+// A clean job against the places of its node. Where the fullest leg has room nothing is struck, and a node with no place needs no walk.
 fn strike_clean(
     node: usize,
     load: usize,
@@ -73,6 +73,9 @@ fn strike_clean(
     requires { ⌜ (node < 64) × (length (now new) ≡ 64) × Walked (now route) (now heads) (now h) highest legs load ⌝ }
     ensures { λ _. ⌜ Kepts (now (route .entry)) legs (cleanOk node load (now (route .entry)) (now (h .entry)) capacity) (now (new .entry)) (now (new .exit)) ⌝ }
 {
+    if highest + load <= capacity {
+        return;
+    }
     let w = new[node];
     if w != 0 {
         let ride = Ride::through(capacity, load);
@@ -95,6 +98,9 @@ fn strike_soiled(
     requires { ⌜ (node < 64) × (length (now new) ≡ 64) × Walked (now route) (now heads) (now h) highest legs load ⌝ }
     ensures { λ _. ⌜ Kepts (now (route .entry)) legs (soiledOk node load (now (route .entry)) (now (h .entry)) legs capacity) (now (new .entry)) (now (new .exit)) ⌝ }
 {
+    if highest + load <= capacity {
+        return;
+    }
     let w = new[node];
     if w != 0 {
         let ride = Ride::through(capacity, load);
