@@ -4,14 +4,16 @@ pub mod known;
 ghost use mathlib.Core.Path.{_≡_};
 ghost use lib.ListN.{length};
 ghost use Rattle.board.specs.Board.{stateWith};
+ghost use Rattle.board.specs.Held.{Held};
 ghost use Rattle.day.specs.Section.{sectionOf};
-ghost use Rattle.planner.specs.Face.{openOf, askRefusal, callRefusal, countOf, judgeOf, stepOf};
+ghost use Rattle.planner.specs.Face.{openOf, askRefusal, callRefusal, countOf, judgeOf, acted, stepOf};
 use board::Figures;
 use board::State;
 use board::form::in_form;
 use board::places::count;
 use day::refusal_1_to_4;
 use day::refusal_1_to_5;
+use known::Acted;
 use known::act;
 use sheet::layout_of;
 
@@ -130,6 +132,44 @@ fn call_refusal<'a>(
     if trail.len() / 2 < f.records { FORM } else { 0 }
 }
 
+// One step on a state in arrays: refused whatever its kind, or done in place.
+fn step_in(
+    sheet: &[u8],
+    route: &mut [usize; 64],
+    sets: &mut [u64; 64],
+    levels: &mut [usize; 64],
+    f: Figures,
+    trail: &mut [u64],
+    kind: usize,
+    first: usize,
+    second: usize,
+) -> Acted
+    requires { ⌜ Held (stateWith (now route) (now sets) (now levels) f) ⌝ }
+    ensures { λ r. ⌜ stepOf (now (sheet .entry)) (stateWith (now (route .entry)) (now (sets .entry)) (now (levels .entry)) f) (now (trail .entry)) kind first second ≡ acted (r .answer) (r .rounds) (stateWith (now (route .exit)) (now (sets .exit)) (now (levels .exit)) (r .after)) (now (trail .exit)) ⌝ }
+{
+    let answer = call_refusal(sheet, route, sets, levels, f, trail);
+    if answer != 0 {
+        return Acted {
+            answer: answer,
+            rounds: 0,
+            after: f,
+        };
+    }
+    let at = layout_of(sheet);
+    act(
+        sheet,
+        at,
+        route,
+        sets,
+        levels,
+        f,
+        trail,
+        kind,
+        first,
+        second,
+    )
+}
+
 // One step: the outcome, and the trail.
 pub fn step(
     sheet: &[u8],
@@ -142,21 +182,11 @@ pub fn step(
     ensures { λ r. ⌜ stepOf (now (sheet .entry)) state (now (trail .entry)) kind first second ≡ (r, now (trail .exit)) ⌝ }
 {
     let f = figures(state.stops, state.marks, state.depth, state.records);
-    let answer = call_refusal(sheet, &state.route, &state.sets, &state.levels, f, trail);
-    if answer != 0 {
-        return Stepped {
-            answer: answer,
-            rounds: 0,
-            state: state,
-        };
-    }
-    let at = layout_of(sheet);
     let mut route = state.route;
     let mut sets = state.sets;
     let mut levels = state.levels;
-    let o = act(
+    let o = step_in(
         sheet,
-        at,
         &mut route,
         &mut sets,
         &mut levels,
