@@ -172,25 +172,10 @@ low-has (suc k) w z f =
     (λ e. rw (zeros-even k w e) (has-same w (w / 2) _ _ (digit-suc w (trailingZeros k (w / 2))) ∙ low-has k (w / 2) (omega arith) (half-fits k w f)))
     (λ e. rw (zeros-odd k w e) (has-digit w 0 (digit-zero w ∙ e)))
 
-low-first : (k w q : ℕ) → q < trailingZeros k w → has w q ≡ false
-unfolding trailingZeros
-low-first zero w q l = absurd (omega arith)
-low-first (suc k) w zero l =
-    by-lowest w (λ e. not-digit w 0 (digit-zero w ∙ e)) (λ e. absurd (let l' : 0 < 0 = rw (zeros-odd k w e) at l in omega arith))
-low-first (suc k) w (suc q) l =
-    by-lowest w
-    (λ e. let l' : suc q < suc (trailingZeros k (w / 2)) = rw (zeros-even k w e) at l in
-    has-same w (w / 2) (suc q) q (digit-suc w q) ∙ low-first k (w / 2) q (omega arith))
-    (λ e. absurd (let l' : suc q < 0 = rw (zeros-odd k w e) at l in omega arith))
-
--- it is a member, and none below it is
+-- it is a member
 pub lowest-has : (w : ℕ) → 0 < w → w < 2 ^ 64 → has w (lowest w) ≡ true
 unfolding lowest
 lowest-has w z f = low-has 64 w z f
-
-pub lowest-first : (w q : ℕ) → q < lowest w → has w q ≡ false
-unfolding lowest
-lowest-first w q l = low-first 64 w q l
 
 rest-low : (k w : ℕ) → 0 < w → w < 2 ^ k → bitAnd w (w - 1) ≡ w - 2 ^ trailingZeros k w
 rest-low zero w z f = absurd (omega arith)

@@ -1,6 +1,6 @@
 -- The fresh state is in form.
 use mathlib.Core.Path.{_≡_, refl, ap, sym, _∙_}
-use mathlib.Core.Bool.{Bool, true, false, cond, _&&_}
+use mathlib.Core.Bool.{Bool, true, false, cond}
 use Prim.Native.Nat.{ℕ, _-_, _≤_, _<_, _^_}
 use native.Mathlib.Omega.{arith}
 use lib.ListN.{getD, set, replicate, length-set, getD-replicate}
@@ -9,9 +9,9 @@ use lib.Dec.{eqb}
 use borrow.Author.Tests.{eqb-true, eqb-false}
 use Rattle.laws.specs.Logic.{decided}
 use Rattle.laws.specs.Table.{length-tab, getD-tab}
-use Rattle.bits.specs.Places.{has, within}
+use Rattle.bits.specs.Places.{within}
 use Rattle.bits.specs.Members.{has-none, has-first, within-make}
-use Rattle.board.specs.Board.{Board, board, stateOf, boardOf, onRoute, legsOf, setOf, openAt, inner}
+use Rattle.board.specs.Board.{Board, board, stateOf, onRoute, legsOf, setOf, inner}
 use Rattle.board.specs.Fresh.{freshState, freshSet, freshSets, fresh-is}
 use Rattle.board.specs.Form.{setOk, markOk, inForm}
 use Rattle.board.specs.FormLaws.{Routed, Formed, Wide, InForm, inner-in, off-make, leg-make, in-form-of}
@@ -94,13 +94,3 @@ module _ (n : ℕ) (two : 2 ≤ n) (small : n ≤ 64) where
 -- the fresh state is in form
 pub fresh-in-form : (n : ℕ) → 2 ≤ n → n ≤ 64 → inForm n (freshState n) ≡ true
 fresh-in-form n two small = rw (fresh-is n two small) (in-form-of n (freshOf n) small (fresh-wide n two small) (fresh-inform n two small))
-
--- and its places are leg 0 of every node but the ends
-pub fresh-open : (n : ℕ) → 2 ≤ n → n ≤ 64 → (y q : ℕ) → y < 64 → openAt (boardOf (freshState n)) y q ≡ (inner n y && eqb q 0)
-unfolding openAt freshSet
-fresh-open n two small y q l =
-    rw (fresh-is n two small, fresh-set n two small y l) (go (inner n y))
-  where
-    go : (t : Bool) → has (cond t 1 0) q ≡ (t && eqb q 0)
-    go true = has-first q
-    go false = has-none q

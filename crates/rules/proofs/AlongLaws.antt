@@ -3,7 +3,7 @@
 use mathlib.Core.Path.{_≡_, refl, sym, ap, _∙_}
 use Prim.Native.Nat.{ℕ, zero, suc, _+_, _-_, _≤_, _<_, max}
 use native.Mathlib.Omega.{arith}
-use mathlib.Core.Bool.{Bool, true, false, not, _&&_, _||_, and-comm, and-true, or-comm, or-assoc}
+use mathlib.Core.Bool.{Bool, true, false, not, _&&_, _||_, and-comm, and-true}
 use mathlib.Core.List.{List, [], _∷_, _++_}
 use mathlib.Core.Logic.{⊎-elim}
 use lib.Dec.{T, T-not, leb, eqb, eqb-refl, eqb→eq, leb→le, le→leb}
@@ -148,16 +148,6 @@ module _ (v : Van) (d : Day) (g : ℕ → ℕ → Bool) (w : ℕ) (l : List ℕ)
       && (g (getD l (suc i) 0) (hd (drop-cons l (suc (suc i)) 0 h u)) || reachBack v d g w (behind l (suc i)) (sym (drop-cons l (suc i) 0 (omega arith)) u))
 
 -- ---- which stops
-
-mem-snoc : (x k : ℕ) (A : List ℕ) → mem x (A ++ (k ∷ [])) ≡ (mem x A || eqb k x)
-mem-snoc x k [] = or-comm (eqb k x) false
-mem-snoc x k (y ∷ A) = ap (λ (b : Bool). eqb y x || b) (mem-snoc x k A) ∙ sym (or-assoc (eqb y x) (mem x A) (eqb k x))
-
-pub mem-take-next : (x : ℕ) (l : List ℕ) (i : ℕ) → i < length l → mem x (take (suc i) l) ≡ (mem x (take i l) || eqb (getD l i 0) x)
-mem-take-next x l i h = rw (take-suc l i 0 h) (mem-snoc x (getD l i 0) (take i l))
-
-pub mem-drop-next : (x : ℕ) (l : List ℕ) (i : ℕ) → i < length l → mem x (drop i l) ≡ (eqb (getD l i 0) x || mem x (drop (suc i) l))
-mem-drop-next x l i h = rw (drop-cons l i 0 h)
 
 pub mem-at : (l : List ℕ) (i : ℕ) → i < length l → T (mem (getD l i 0) l)
 mem-at [] i h = absurd (omega arith)

@@ -25,9 +25,6 @@ leZ-le (negsuc a) h f = f
 pub in-time-sooner : (d : Day) (x : ℕ) {t t′ : ℕ} → t ≤ t′ → T (inTime d x t′) → T (inTime d x t)
 in-time-sooner d x = leZ-le (lastMoment d x)
 
-pub in-time-latest : (d : Day) (x t : ℕ) → T (inTime d x t) ↔ (t ≤ d .latest x)
-in-time-latest d x t = (leb→le t (d .latest x), le→leb t (d .latest x))
-
 -- ---- L as a test in ℕ
 
 -- a start of t at k is in time, and so are the starts at the stops B ahead if the van never waits
