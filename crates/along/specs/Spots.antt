@@ -36,6 +36,9 @@ spot-in [] x h = absurd (omega arith)
 spot-in (y ∷ a) zero h = refl
 spot-in (y ∷ a) (suc x) h = spot-in a x (omega arith)
 
+pub spot-node : (a : List ℕ) (x : ℕ) → length a ≡ 64 → x < 64 → getD a x 0 ≡ getD a x 64
+spot-node a x n h = spot-in a x (omega arith)
+
 pub spot-past : (a : List ℕ) (x : ℕ) → length a ≡ 64 → 64 ≤ x → 64 ≡ getD a x 64
 spot-past a x n h = sym (List·getD-eq-default a 64 {n = x} (omega arith))
 

@@ -6,24 +6,24 @@ ghost use Rattle.laws.specs.Sum.{sumBelow};
 ghost use Rattle.laws.specs.Table.{Filled};
 ghost use Rattle.rules.specs.Along.{loadAt};
 ghost use Rattle.sheet.specs.Place.{Laid};
+ghost use Rattle.day.specs.Seen.{Placed};
 ghost use Rattle.day.specs.Tell.{dayOf};
 ghost use Rattle.along.specs.Route.{Route};
 ghost use Rattle.along.specs.Spots.{Spots, loadOf};
 ghost use Rattle.along.specs.Loads.{stowFirst, stowOn, stowOff, running};
-use crate::spots::spot;
 use rules::Job;
 use sheet::Layout;
 
 // One job's load: `on` and `off` have what comes aboard and goes off at each stop; the answer is what is aboard from the start. Nothing where
 // a node of the job is off the route, or a transfer in wrong order.
 pub fn stow(job: Job, at: &[usize; 64], on: &mut [usize; 64], off: &mut [usize; 64]) -> usize
-    requires { ⌜ (length (now at) ≡ 64) × (length (now on) ≡ 64) × (length (now off) ≡ 64) × (loadOf job < 4294967296) ⌝ }
+    requires { ⌜ Placed job × (length (now at) ≡ 64) × (length (now on) ≡ 64) × (length (now off) ≡ 64) × (loadOf job < 4294967296) ⌝ }
     requires { ⌜ ((i : ℕ) → getD (now on) i 0 < 1099511627776) × ((i : ℕ) → getD (now off) i 0 < 1099511627776) ⌝ }
     ensures { λ r. ⌜ (r ≡ stowFirst job (now (at .entry))) × (now (on .exit) ≡ stowOn job (now (at .entry)) (now (on .entry))) × (now (off .exit) ≡ stowOff job (now (at .entry)) (now (off .entry))) ⌝ }
 {
     match job {
         Job::Clean { node, load } => {
-            let k = spot(at, node);
+            let k = at[node];
             if 64 <= k {
                 return 0;
             }
@@ -31,15 +31,15 @@ pub fn stow(job: Job, at: &[usize; 64], on: &mut [usize; 64], off: &mut [usize; 
             load
         },
         Job::Soiled { node, load } => {
-            let k = spot(at, node);
+            let k = at[node];
             if k < 64 {
                 on[k] += load;
             }
             0
         },
         Job::Transfer { from, to, load } => {
-            let a = spot(at, from);
-            let b = spot(at, to);
+            let a = at[from];
+            let b = at[to];
             if (a < b) & (b < 64) {
                 on[a] += load;
                 off[b] += load;

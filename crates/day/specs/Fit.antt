@@ -1,6 +1,6 @@
 -- What the refusals give: the jobs of an accepted sheet, by cases.
 use Prim.Native.Nat.{ℕ, _+_, _-_, _*_, _<_, _≤_}
-use mathlib.Core.Path.{_≡_, sym, _∙_}
+use mathlib.Core.Path.{_≡_, sym, ap, _∙_, subst}
 use mathlib.Core.Bool.{true, not, _&&_, _||_, or-false}
 use mathlib.Core.List.{List, [], _∷_}
 use native.Mathlib.Omega.{arith}
@@ -11,7 +11,8 @@ use Rattle.laws.specs.Below.{below-at}
 use Rattle.sheet.specs.Word.{wordAt}
 use Rattle.sheet.specs.Rule.{isInner, jobOk, jobAtOk}
 use Rattle.sheet.specs.Section.{nOf, mOf, jobsAt}
-use Rattle.sheet.specs.Place.{Fine}
+use Rattle.sheet.specs.Place.{Fine, Laid}
+use Rattle.sheet.specs.declared.Layout.{Layout}
 use Rattle.rules.specs.declared.Job.{Job}
 use Rattle.rules.specs.declared.Job.the-variants.{Clean, Soiled, Transfer}
 use Rattle.day.specs.Jobs.{jobOf, jobAt, jobIn, wordsOf, loadOk, jobFine}
@@ -65,3 +66,7 @@ module _ (s : List ℕ) (f : Fine s) (i : ℕ) (h : i < mOf s) where
 
   pub placed-job : Placed (jobIn s i)
   placed-job = placed (nOf s) (jobIn s i) (f .n-high) fine-job
+
+-- the nodes of a job that is read by the layout have a place in a word
+pub placed-read : {s : List ℕ} {at : Layout} → Laid s at → (i : ℕ) → i < at .jobs → {j : Job} → j ≡ jobIn s i → Placed j
+placed-read {s} p i h e = subst Placed (sym e) (placed-job s (p .fine) i (omega (arith, ap (λ (l : Layout). l .jobs) (p .is))))

@@ -26,7 +26,7 @@ use Rattle.rules.specs.declared.Job.{Job}
 use Rattle.sheet.specs.Place.{Laid}
 use Rattle.day.specs.Jobs.{jobIn}
 use Rattle.day.specs.Seen.{Placed}
-use Rattle.day.specs.Fit.{placed-job}
+use Rattle.day.specs.Fit.{placed-read}
 use Rattle.day.specs.Tell.{dayOf}
 use Rattle.along.specs.Route.{Route, node-at, low, job-low}
 use Rattle.along.specs.Times.{start-low}
@@ -35,7 +35,7 @@ use Rattle.along.specs.Loads.{load-at-low}
 use Rattle.along.specs.Walks.{Legs}
 use Rattle.settle.specs.Sets.{placesOf, setsOf, Small, word-ext, length-sets, places-sets}
 use Rattle.settle.specs.Round.{Timed, Spotted, Named, Walked, walked-load}
-use Rattle.settle.specs.Ready.{Ready, Read, nodes-are, nodes-most, jobs-are}
+use Rattle.settle.specs.Ready.{Ready, Read, nodes-are, nodes-most}
 
 some-stops : (k : ℕ) → 1 ≤ k → (tail : List ℕ) → T (endsWith k (0 ∷ tail)) → 1 ≤ length tail
 some-stops k h [] t = absurd (omega (arith, eqb→eq 0 k t))
@@ -123,7 +123,7 @@ pub asked : {s : List ℕ} {at : Layout} → Laid s at → {l heads h : List ℕ
     → j ≡ jobIn s i
     → Placed j × Walked l heads h highest legs (loadOf j)
 asked {s} p w i h e =
-    (subst Placed (sym e) (placed-job s (p .fine) i (omega (arith, jobs-are p))), walked-load (subst (λ (j : Job). loadOf j < 4294967296) (sym e) (job-low s i)) w)
+    (placed-read p i h e, walked-load (subst (λ (j : Job). loadOf j < 4294967296) (sym e) (job-low s i)) w)
 
 -- the words after a round are as ready as those before
 pub ready-round : {s : List ℕ} {at : Layout} {l : List ℕ} {n : ℕ} {ws : List ℕ} {marks : ℕ} (v : Van) → Ready s at l n ws marks → {vs : List ℕ}

@@ -4,6 +4,7 @@ use native.Mathlib.Omega.{arith}
 use Rattle.sheet.specs.declared.Layout.{Layout}
 use Rattle.sheet.specs.Section.{mOf}
 use Rattle.day.specs.Jobs.{jobIn}
+use Rattle.day.specs.Fit.{placed-read}
 use Rattle.along.specs.Spots.{loadOf}
 use Rattle.along.specs.Route.{job-low}
 use Rattle.along.specs.Loads.{Stowed, stowed-none, stowed-more, stowed-run, stowed-loads, first-low}
@@ -25,10 +26,12 @@ job-requires c κs = (c .before .before .before .pre .0, omega arith)
 stow-requires : tie.Need-stow-requires Inv-loop μ-loop
 stow-requires c κs =
     let p = c .before .before .before .before .before .before .pre in
+    let j = c .before .before .before .before .loop .j in
     let v = c .before .before .before .before .loop .inv .1 in
     let e = ap (λ (l : Layout). l .jobs) (p .0 .is) in
-    let w = job-low (c .before .before .before .before .before .before .args .s .now) (c .before .before .before .before .loop .j) in (
-      (p .2 .long, v .wide, v .long, omega (arith, ap loadOf (c .before .before .job .ensures), w)),
+    let q = c .before .before .job .ensures in
+    let w = job-low (c .before .before .before .before .before .before .args .s .now) j in (
+      (placed-read (p .0) j (omega arith) q, p .2 .long, v .wide, v .long, omega (arith, ap loadOf q, w)),
       (λ i. omega (arith, v .comes i, p .0 .fine .m-high), λ i. omega (arith, v .goes i, p .0 .fine .m-high)),
     )
 

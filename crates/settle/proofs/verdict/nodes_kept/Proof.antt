@@ -4,6 +4,7 @@ use native.Mathlib.Omega.{arith}
 use borrow.Author.Tests.{not-true, not-false}
 use Rattle.laws.specs.Below.{allBelow, below-none, flag-goes, flag-done}
 use Rattle.day.specs.Jobs.{jobIn}
+use Rattle.day.specs.Fit.{placed-read}
 use Rattle.along.specs.Spots.{loadOf}
 use Rattle.along.specs.Route.{job-low}
 use Rattle.along.specs.Loads.{Stowed, stowed-none, stowed-run}
@@ -48,7 +49,8 @@ stow-requires c κs =
     let q = c .before .before .before .job in
     let w : loadOf (q .result) < 4294967296 = omega (arith, ap loadOf (q .ensures), job-low (o .args .s .now) (l .j)) in
     let a = c .before .before .before .before .before .before .before .before .before .spots2 .ensures in
-    ((a .long, v .wide, v .long, w), (λ i. omega (arith, v .comes i), λ i. omega (arith, v .goes i)))
+    let h = placed-read (o .pre .laid) (l .j) (omega arith) (q .ensures) in
+    ((h, a .long, v .wide, v .long, w), (λ i. omega (arith, v .comes i), λ i. omega (arith, v .goes i)))
 
 add-first : tie.Need-add-first Inv-loop μ-loop
 add-first c =
