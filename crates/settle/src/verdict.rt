@@ -11,6 +11,7 @@ ghost use Rattle.rules.specs.Time.{onTime};
 ghost use Rattle.rules.specs.Verdict.{partnered, owed, alive};
 ghost use Rattle.sheet.specs.Place.{Laid};
 ghost use Rattle.day.specs.Jobs.{jobIn};
+ghost use Rattle.day.specs.Seen.{Placed};
 ghost use Rattle.day.specs.Tell.{dayOf};
 ghost use Rattle.along.specs.Route.{Route};
 ghost use Rattle.settle.specs.Sets.{planFrom};
@@ -109,19 +110,19 @@ fn marks_kept(spots: &[usize; 64], sets: &[u64; 64], marks: u64) -> bool
 
 // Of a transfer, one end stands if the other is marked or on the route, and the second node does not stand before the first.
 fn job_kept(job: Job, spots: &[usize; 64], sets: &[u64; 64], marks: u64) -> bool
-    requires { ⌜ (length (now spots) ≡ 64) × (length (now sets) ≡ 64) ⌝ }
+    requires { ⌜ Placed job × (length (now spots) ≡ 64) × (length (now sets) ≡ 64) ⌝ }
     ensures { λ r. ⌜ r ≡ jobOk (now (spots .entry)) (now (sets .entry)) marks job ⌝ }
 {
     match job {
         Job::Clean { node: _, load: _ } => true,
         Job::Soiled { node: _, load: _ } => true,
         Job::Transfer { from, to, load: _ } => {
-            let a = spot(spots, from);
-            let b = spot(spots, to);
-            let first = bits::has(marks, from) | (a < 64);
-            let second = bits::has(marks, to) | (b < 64);
-            let after = (b < 64) | is_open(sets, to);
-            let before = (a < 64) | is_open(sets, from);
+            let a = spots[from];
+            let b = spots[to];
+            let first = bits::holds(marks, from) | (a < 64);
+            let second = bits::holds(marks, to) | (b < 64);
+            let after = (b < 64) | (bits::count(sets[to]) != 0);
+            let before = (a < 64) | (bits::count(sets[from]) != 0);
             (!first | after) & (!second | before) & !((b < a) & (a < 64))
         },
     }

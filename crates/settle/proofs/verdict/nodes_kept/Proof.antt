@@ -64,7 +64,9 @@ add-first c =
 job-kept-requires : tie.Need-job-kept-requires Inv-loop μ-loop
 job-kept-requires c κs =
     let q = c .before .before .before .before .before .before .before .before .before .before .before in
-    (q .spots2 .ensures .long, q .before .before .before .pre .sized)
+    let p = q .before .before .before .pre in
+    let j = c .before .before .before .before .before .before .before .loop .j in
+    (placed-read (p .laid) j (omega arith) (c .before .before .before .before .before .job .ensures), q .spots2 .ensures .long, p .sized)
 
 add-j : tie.Need-add-j Inv-loop μ-loop
 add-j c = omega arith
