@@ -5,10 +5,11 @@ use mathlib.Core.Bool.{Bool, true, false, not, _&&_, _||_, and-comm, and-assoc}
 use mathlib.Core.List.{List, [], _∷_}
 use native.Mathlib.Omega.{arith}
 use lib.Dec.{leb}
+use borrow.Author.Tests.{le-leb, lt-leb}
 use lib.ListN.{getD, take, length, length-take}
 use lib.Seq.{getD-take}
 use Rattle.laws.specs.Lists.{mem, all, any}
-use Rattle.laws.specs.Below.{allBelow, below-same, below-both}
+use Rattle.laws.specs.Below.{allBelow, below-none, below-next, below-fails, below-same, below-both}
 use Rattle.laws.specs.Table.{tab, Filled}
 use Rattle.bits.specs.Places.{has}
 use Rattle.rules.specs.Day.{Day, Van, inner}
@@ -22,17 +23,18 @@ use Rattle.rules.specs.Asked.{Proper, Formed}
 use Rattle.rules.specs.Verdict.{partnered, owed, hasPlace, wrongWay, alive}
 use Rattle.rules.specs.Along.{startAt, loadAt}
 use Rattle.rules.specs.declared.Job.{Job}
-use Rattle.rules.proofs.AlongLaws.{atLeg, on-time-all, every-all}
+use Rattle.rules.proofs.AlongLaws.{atLeg, arrives, on-time-all, every-all}
 use Rattle.sheet.specs.declared.Layout.{Layout}
 use Rattle.day.specs.Jobs.{jobIn}
 use Rattle.day.specs.Tell.{dayOf}
 use Rattle.day.specs.Asked.{proper}
 use Rattle.along.specs.Spots.{Spots, loadOf}
+use Rattle.along.specs.Times.{start-first, start-turn, length-first, length-turn}
 use Rattle.along.specs.Route.{job-low}
 use Rattle.along.specs.Loads.{Stowed, stowFirst, stowOn, stowOff, running, stowed-more, stowed-loads}
 use Rattle.settle.specs.Sets.{planFrom}
 use Rattle.settle.specs.Ready.{Ready, jobs-are}
-use Rattle.settle.specs.Verdict.{onSpot, called, markOk, endsOk, orderOk, jobOk, ofJob, nodesOk}
+use Rattle.settle.specs.Verdict.{onSpot, called, markOk, endsOk, orderOk, jobOk, ofJob, roadOk, nodesOk}
 use Rattle.settle.proofs.Rounds.{below-tab}
 use Rattle.settle.proofs.Order.{on-is, order-is}
 use Rattle.settle.proofs.Owed.{owed-is}
@@ -45,20 +47,58 @@ any-all f (x ∷ l) = go (f x) ∙ ap (λ (b : Bool). f x || b) (any-all f l)
     go true = refl
     go false = refl
 
--- ---- the windows, stop by stop
+-- ---- windows and metres, stop by stop
 
 -- the k-th start of m is not too late
-abbrev pub startOk : Day → List ℕ → ℕ → Bool
+abbrev startOk : Day → List ℕ → ℕ → Bool
 startOk d m k = inTime d (getD m k 0) (startAt d m k)
 
-pub start-told : (d : Day) (l : List ℕ) (n i : ℕ) {t w : ℕ} → i < n → t ≡ startAt d (take n l) i → w ≡ d .latest (getD l i 0)
-    → startOk d (take n l) i ≡ leb t w
-start-told d l n i h e f = λ u. leb (sym e u) ((ap (d .latest) (getD-take n l i 0 h) ∙ sym f) u)
+-- the van stands at the i-th of the first n stops of l, which is p, at the time t and after so many metres; no start so far is too late
+pub record Rode (d : Day) (l : List ℕ) (n i p t total : ℕ) : Type 0 where
+  pub at : p ≡ getD l i 0
+  pub start : t ≡ startAt d (take n l) i
+  pub ok : allBelow (i + 1) (startOk d (take n l)) ≡ true
+  pub metres : total ≡ driven d (take (i + 1) l)
 
-pub windows-told : (d : Day) (l : List ℕ) (n : ℕ) → n ≤ length l → onTime d [] (take n l) ≡ allBelow n (startOk d (take n l))
-windows-told d l n h =
-    let e : length (take n l) ≡ n = simp length-take (omega arith) in
-    on-time-all d (take n l) ∙ ap (λ (q : ℕ). allBelow q (startOk d (take n l))) e
+module _ (d : Day) (l : List ℕ) (n : ℕ) (most : n ≤ length l) where
+  start-told : (i : ℕ) {t w : ℕ} → i < n → t ≡ startAt d (take n l) i → w ≡ d .latest (getD l i 0) → startOk d (take n l) i ≡ leb t w
+  start-told i h e f = λ u. leb (sym e u) ((ap (d .latest) (getD-take n l i 0 h) ∙ sym f) u)
+
+  windows-told : onTime d [] (take n l) ≡ allBelow n (startOk d (take n l))
+  windows-told =
+      let e : length (take n l) ≡ n = simp length-take (omega arith) in
+      on-time-all d (take n l) ∙ ap (λ (q : ℕ). allBelow q (startOk d (take n l))) e
+
+  -- at the first stop, whose earliest is not after its latest
+  pub rode-first : {t : ℕ} → 0 < n → t ≡ d .earliest (getD l 0 0) → t ≤ d .latest (getD l 0 0) → Rode d l n 0 (getD l 0 0) t 0
+  rode-first {t} h e g =
+      let f = e ∙ start-first d l n h in record {
+        at = refl;
+        start = f;
+        ok = below-next 0 (startOk d (take n l)) (below-none _) (start-told 0 h f refl ∙ le-leb t (d .latest (getD l 0 0)) g);
+        metres = length-first d l;
+      }
+
+  -- the next stop, where it is t and the latest is w
+  module _ {i p s total t w : ℕ} (r : Rode d l n i p s total) (h : i + 1 < n) (e : t ≡ arrives d s p (getD l (i + 1) 0)) (f : w ≡ d .latest (getD l (i + 1) 0)) where
+    start : t ≡ startAt d (take n l) (i + 1)
+    start = e ∙ ap (λ (q : ℕ). arrives d s q (getD l (i + 1) 0)) (r .at) ∙ start-turn d l n i h (r .start)
+
+    pub rode-late : (limit : ℕ) → w < t → false ≡ roadOk limit d (take n l)
+    unfolding roadOk
+    rode-late limit g = rw (windows-told, below-fails n (i + 1) (startOk d (take n l)) h (start-told (i + 1) h start f ∙ lt-leb t w g))
+
+    pub rode-next : {m : ℕ} → t ≤ w → m ≡ d .metres p (getD l (i + 1) 0) → Rode d l n (i + 1) (getD l (i + 1) 0) t (total + m)
+    rode-next {m} g k = record {
+      at = refl;
+      start = start;
+      ok = below-next (i + 1) (startOk d (take n l)) (r .ok) (start-told (i + 1) h start f ∙ le-leb t w g);
+      metres = ap (λ (q : ℕ). total + q) (k ∙ ap (λ (q : ℕ). d .metres q (getD l (i + 1) 0)) (r .at)) ∙ length-turn d l i (omega arith) (r .metres);
+    }
+
+  pub rode-all : {i p t total : ℕ} → Rode d l n i p t total → i + 1 ≡ n → (limit : ℕ) → leb total limit ≡ roadOk limit d (take n l)
+  unfolding roadOk
+  rode-all r e limit = let a = rw e at (r .ok) in let b = rw e at (r .metres) in rw (windows-told, a, b)
 
 module _ (d : Day) (g : ℕ → Job) (jobs : ℕ) (told : d .jobs ≡ tab jobs g) (l : List ℕ) (n : ℕ) (long : length l ≡ 64) (most : n ≤ 64) {k : ℕ}
     (nodes : Distinct k (take n l)) (spots : List ℕ) (at : Spots l n spots) where
@@ -155,16 +195,15 @@ module _ {s : List ℕ} {at : Layout} {l : List ℕ} {n : ℕ} {ws : List ℕ} {
 
 -- ---- the whole
 
--- the verdict from its three parts, in the order in which the code asks
-pub alive-told : (v : Van) (d : Day) (a : Plan) {t q r : Bool} → t ≡ onTime d [] (a .route) → q ≡ leb (driven d (a .route)) (v .limit) → r ≡ nodesOk v d a
-    → (t && (q && r)) ≡ alive v d a
-unfolding nodesOk alive
-alive-told v d a t q r =
-    (λ u. t u && (q u && r u))
+-- the verdict from its two parts, in the order in which the code asks
+pub alive-told : (v : Van) (d : Day) (a : Plan) {q r : Bool} → q ≡ roadOk (v .limit) d (a .route) → r ≡ nodesOk v d a → (q && r) ≡ alive v d a
+unfolding roadOk nodesOk alive
+alive-told v d a q r =
+    (λ u. q u && r u)
     ∙ turn (all (λ x. not (owed d (a .route) (a .marks) x) || hasPlace a x) (inner d)) (onTime d [] (a .route)) (leb (driven d (a .route)) (v .limit))
     (everyLeg (carries v d) (a .route)) (all (λ j. not (wrongWay (a .route) j)) (d .jobs))
   where
-    turn : (o t q b c : Bool) → (t && (q && ((o && b) && c))) ≡ ((((o && t) && q) && b) && c)
+    turn : (o t q b c : Bool) → ((t && q) && ((o && b) && c)) ≡ ((((o && t) && q) && b) && c)
     turn true true q b c = sym (and-assoc q b c)
     turn true false q b c = refl
     turn false true true b c = refl

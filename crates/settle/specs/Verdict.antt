@@ -1,13 +1,15 @@
 -- The verdict's parts from arrays: who is called for, who stands, which transfers are in order. `on` says which nodes are on the route.
 use Prim.Native.Nat.{ℕ}
 use mathlib.Core.Bool.{Bool, true, not, _&&_, _||_}
-use mathlib.Core.List.{List}
-use lib.Dec.{ltb, eqb}
+use mathlib.Core.List.{List, []}
+use lib.Dec.{leb, ltb, eqb}
 use lib.ListN.{getD}
 use Rattle.laws.specs.Lists.{all}
 use Rattle.bits.specs.Places.{has}
 use Rattle.rules.specs.Day.{Day, Van, inner}
 use Rattle.rules.specs.Leg.{everyLeg}
+use Rattle.rules.specs.Time.{onTime}
+use Rattle.rules.specs.Metres.{driven}
 use Rattle.rules.specs.Load.{carries}
 use Rattle.rules.specs.Plan.{Plan}
 use Rattle.rules.specs.Verdict.{owed, hasPlace, wrongWay}
@@ -49,6 +51,10 @@ jobOk a ws marks j = endsOk (onSpot a) ws marks j && orderOk a j
 -- a test of the k-th job
 abbrev pub ofJob : (Job → Bool) → (ℕ → Job) → ℕ → Bool
 ofJob f g k = f (g k)
+
+-- windows and metres: no start of the route is too late, and it is within the limit
+unfoldable pub roadOk : ℕ → Day → List ℕ → Bool
+roadOk limit d l = onTime d [] l && leb (driven d l) limit
 
 -- the verdict but for windows and metres: who is owed has a place, no leg is above the capacity, no transfer is in wrong order
 unfoldable pub nodesOk : Van → Day → Plan → Bool

@@ -1,13 +1,11 @@
 // Who is owed, and the verdict of a state.
 ghost use mathlib.Core.Path.{_≡_};
 ghost use mathlib.Core.Bool.{not};
-ghost use mathlib.Core.List.{[]};
 ghost use Prim.Native.Nat.{_≤_};
 ghost use lib.ListN.{getD, length, take};
 ghost use lib.Dec.{eqb, leb};
 ghost use Rattle.laws.specs.Below.{allBelow};
 ghost use Rattle.bits.specs.Places.{has};
-ghost use Rattle.rules.specs.Time.{onTime};
 ghost use Rattle.rules.specs.Verdict.{partnered, owed, alive};
 ghost use Rattle.sheet.specs.Place.{Laid};
 ghost use Rattle.day.specs.Jobs.{jobIn};
@@ -16,7 +14,7 @@ ghost use Rattle.day.specs.Tell.{dayOf};
 ghost use Rattle.along.specs.Route.{Route};
 ghost use Rattle.settle.specs.Sets.{planFrom};
 ghost use Rattle.settle.specs.Ready.{Ready, vanIn};
-ghost use Rattle.settle.specs.Verdict.{onSpot, called, standing, markOk, jobOk, nodesOk};
+ghost use Rattle.settle.specs.Verdict.{onSpot, called, standing, markOk, jobOk, roadOk, nodesOk};
 use crate::Van;
 use crate::round::places;
 use along::spots::spot;
@@ -128,24 +126,27 @@ fn job_kept(job: Job, spots: &[usize; 64], sets: &[u64; 64], marks: u64) -> bool
     }
 }
 
-// No start is too late. The first need not be asked: it is its node's earliest, which is after the latest on no sheet.
-fn in_windows(s: &[u8], at: Layout, route: &[usize; 64], stops: usize) -> bool
+// Windows and metres in one pass along the route: no start is too late, and the legs are together within the limit. The first start need not
+// be asked: it is its node's earliest, which is after the latest on no sheet.
+fn on_the_road(s: &[u8], at: Layout, limit: usize, route: &[usize; 64], stops: usize) -> bool
     requires { ⌜ Laid (now s) at × Route (at .nodes) (now route) stops ⌝ }
-    ensures { λ r. ⌜ r ≡ onTime (dayOf (now (s .entry))) [] (take stops (now (route .entry))) ⌝ }
+    ensures { λ r. ⌜ r ≡ roadOk limit (dayOf (now (s .entry))) (take stops (now (route .entry))) ⌝ }
 {
-    let z = route[0];
-    let mut t = day::look::earliest(s, at, z);
+    let mut p = route[0];
+    let mut t = day::look::earliest(s, at, p);
+    let mut total = 0;
     let mut i = 0;
     while i + 1 < stops {
-        let p = route[i];
         i += 1;
         let x = route[i];
         t = along::times::arrive(s, at, t, p, x);
         if day::look::latest(s, at, x) < t {
             return false;
         }
+        total += day::look::metres(s, at, p, x);
+        p = x;
     }
-    true
+    total <= limit
 }
 
 // No leg is above the capacity.
@@ -228,10 +229,7 @@ pub fn alive<'a>(
     requires { ⌜ Ready (now s) at (now route) stops (now sets) marks ⌝ }
     ensures { λ r. ⌜ r ≡ alive (vanIn van) (dayOf (now (s .entry))) (planFrom (now (route .entry)) stops (now (sets .entry)) marks) ⌝ }
 {
-    if !in_windows(s, at, route, stops) {
-        return false;
-    }
-    if van.limit < along::times::length(s, at, route, stops) {
+    if !on_the_road(s, at, van.limit, route, stops) {
         return false;
     }
     nodes_kept(s, at, van, route, stops, sets, marks)
