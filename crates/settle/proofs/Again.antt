@@ -1,23 +1,30 @@
 -- The rounds of settling and its ways out, from a caller that is ready.
-use mathlib.Core.Path.{_≡_, sym, ap, _∙_}
+use mathlib.Core.Path.{_≡_, sym, ap, _∙_, subst}
 use Prim.Native.Nat.{ℕ, _-_}
-use mathlib.Core.Bool.{true, false}
+use mathlib.Core.Bool.{Bool, true, false}
 use mathlib.Core.List.{List}
-use lib.ListN.{take, length}
+use lib.Dec.{T, eqb, ltb}
+use lib.ListN.{getD, take, length}
+use borrow.Author.Tests.{eqb-true, ltb-true, ltb-false}
+use Rattle.laws.specs.Logic.{decided}
+use Rattle.laws.specs.Below.{allBelow, below-at}
 use Rattle.laws.specs.Table.{tab, Filled}
+use Rattle.bits.specs.Places.{has}
+use Rattle.bits.specs.Members.{has-none}
 use Rattle.rules.specs.Day.{Van}
 use Rattle.rules.specs.Settle.{round}
 use Rattle.rules.specs.Along.{loadAt}
+use Rattle.rules.proofs.Left.{_⊆_}
 use Rattle.sheet.specs.declared.Layout.{Layout}
 use Rattle.day.specs.Asked.{one-end}
 use Rattle.day.specs.Jobs.{jobIn}
 use Rattle.day.specs.Tell.{dayOf}
 use Rattle.settle.specs.Sets.{placesOf, setsOf}
-use Rattle.settle.specs.Round.{Kepts, pairOk, jobsOk}
+use Rattle.settle.specs.Round.{Kepts, past, pairOk, jobsOk}
 use Rattle.settle.specs.Ready.{Ready, Settles, jobs-are}
 use Rattle.settle.proofs.Facts.{two-stops, few-nodes, some-nodes, places-seen, places-small, ready-round}
 use Rattle.settle.proofs.Rounds.{again-sets}
-use Rattle.settle.proofs.Struck.{sameSets, round-open, settle-none, settle-once, settle-again}
+use Rattle.settle.proofs.Struck.{sameSets, sets-same, round-open, round-still, settle-none, settle-once, settle-again}
 
 module _ {s : List ℕ} {at : Layout} {l : List ℕ} {n : ℕ} {ws : List ℕ} (v : Van) (r : Ready s at l n ws 0) {first : List ℕ}
     (f : first ≡ setsOf (round v (dayOf s) (take n l) (placesOf ws))) where
@@ -44,3 +51,15 @@ module _ {s : List ℕ} {at : Layout} {l : List ℕ} {n : ℕ} {ws : List ℕ} (
 
     pub two-left : sameSets ws first ≡ false → sameSets first second ≡ false → Settles v (dayOf s) (take n l) ws 2 second
     two-left = settle-again v (dayOf s) (one-end s (r .clear)) (take n l) (r .form .nodes) (some-nodes r) ws (r .sized) (places-seen r) (places-small r) f again-round
+
+-- no node has a place: no round strikes
+pub none-open : {s : List ℕ} {at : Layout} {l : List ℕ} {n : ℕ} {ws : List ℕ} (v : Van) → Ready s at l n ws 0 → allBelow 64 (λ i. eqb (getD ws i 0) 0) ≡ true
+    → {vs : List ℕ} → vs ≡ ws → Settles v (dayOf s) (take n l) ws 0 vs
+none-open {s} {at} {l} {n} {ws} v r z {vs} e =
+    none-left v r (e ∙ round-still v (dayOf s) (one-end s (r .clear)) (take n l) (r .form .nodes) (some-nodes r) ws (r .sized) (places-seen r) (places-small r) none) (sets-same ws vs (sym e))
+  where
+    empty : (x : ℕ) → getD ws x 0 ≡ 0
+    empty x = decided (ltb x 64) (λ t. eqb-true (getD ws x 0) 0 (below-at 64 x (λ i. eqb (getD ws i 0) 0) z (ltb-true x 64 t))) (λ t. past ws x (r .sized) (ltb-false x 64 t))
+
+    none : placesOf ws ⊆ round v (dayOf s) (take n l) (placesOf ws)
+    none x p t = absurd (subst (λ (b : Bool). T b) (ap (λ (w : ℕ). has w p) (empty x) ∙ has-none p) t)

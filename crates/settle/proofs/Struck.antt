@@ -63,6 +63,11 @@ module _ (v : Van) (d : Day) (one : OneEnd (d .jobs)) (rt : List ℕ) (nodes : D
     pub round-open : placesOf (setsOf (round v d rt o)) ≡ round v d rt o
     round-open = λ u x p. places-sets (round v d rt o) round-small x p u
 
+    -- a round that leaves every place leaves the words
+    pub round-still : o ⊆ round v d rt o → ws ≡ setsOf (round v d rt o)
+    round-still less = sets-ext ws (round v d rt o) long (λ x p. T-ext (o x p) (round v d rt o x p) (less x p) (round-less v d rt o x p))
+        (λ x p k. decided (round v d rt o x p) (λ u. absurd (omega (arith, round-small x p (true→T _ u) .1))) (λ u. u))
+
     -- they are the words before exactly if the round strikes nothing
     pub struck-is : strikes v d rt o ≡ not (sameSets ws (setsOf (round v d rt o)))
     struck-is = decided (sameSets ws (setsOf (round v d rt o))) (λ s. quiet s ∙ ap not (sym s)) (λ s. loud s ∙ ap not (sym s))
@@ -73,15 +78,10 @@ module _ (v : Van) (d : Day) (one : OneEnd (d .jobs)) (rt : List ℕ) (nodes : D
             (not-T (strikes v d rt o) (calm v d rt o (λ x p t. subst (λ (f : Places). T (f x p)) (ap placesOf (same-sets ws (setsOf (round v d rt o)) long (length-sets (round v d rt o)) s) ∙ round-open) t)))
 
         loud : sameSets ws (setsOf (round v d rt o)) ≡ false → strikes v d rt o ≡ true
-        loud s = decided (strikes v d rt o) (λ t. t) (λ t. absurd (false-true (sym s ∙ sets-same ws (setsOf (round v d rt o)) (still t))))
+        loud s = decided (strikes v d rt o) (λ t. t) (λ t. absurd (false-true (sym s ∙ sets-same ws (setsOf (round v d rt o)) (round-still (calm-less o seen t)))))
           where
             false-true : false ≡ true → ⊥
             false-true e = true→T false e
-
-            still : strikes v d rt o ≡ false → ws ≡ setsOf (round v d rt o)
-            still t = sets-ext ws (round v d rt o) long
-                (λ x p. T-ext (o x p) (round v d rt o x p) (calm-less o seen t x p) (round-less v d rt o x p))
-                (λ x p k. decided (round v d rt o x p) (λ u. absurd (omega (arith, round-small x p (true→T _ u) .1))) (λ u. u))
 
   -- ---- how often it strikes
 

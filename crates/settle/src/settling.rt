@@ -37,6 +37,20 @@ fn same(a: &[u64; 64], b: &[u64; 64]) -> bool
     is
 }
 
+// Whether no node has a place: the words or-ed up are 0, which looks at each of them without a branch.
+fn none_open(sets: &[u64; 64]) -> bool
+    requires { ⌜ length (now sets) ≡ 64 ⌝ }
+    ensures { λ r. ⌜ r ≡ allBelow 64 (λ i. eqb (getD (now (sets .entry)) i 0) 0) ⌝ }
+{
+    let mut all: u64 = 0;
+    let mut i = 0;
+    while i < 64 {
+        all = all | sets[i];
+        i += 1;
+    }
+    all == 0
+}
+
 // Counts the round that has been made, which has left `new` of `old`, and makes the further one where it struck something.
 fn finish(
     s: &[u8],
@@ -114,7 +128,8 @@ fn rounds(
     finish(s, at, van, route, stops, old, new, &head, h, most)
 }
 
-// Settles the sets of a state in form, of which `new` is a copy at first: the number of rounds that struck something.
+// Settles the sets of a state in form, of which `new` is a copy at first: the number of rounds that struck something. Where no node has a place,
+// none can strike, and nothing of the route is looked at.
 pub fn settle(
     s: &[u8],
     at: Layout,
@@ -127,6 +142,9 @@ pub fn settle(
     requires { ⌜ Ready (now s) at (now route) stops (now old) 0 × (now new ≡ now old) × (van .limit < 1099511627776) ⌝ }
     ensures { λ r. ⌜ Settles (vanIn van) (dayOf (now (s .entry))) (take stops (now (route .entry))) (now (old .entry)) r (now (new .exit)) ⌝ }
 {
+    if none_open(old) {
+        return 0;
+    }
     let mut e = [0usize; 64];
     let mut l = [0i64; 64];
     let mut spot = [64usize; 64];

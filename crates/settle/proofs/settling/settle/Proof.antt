@@ -1,32 +1,41 @@
-use mathlib.Core.Path.{refl}
+use mathlib.Core.Path.{refl, sym, _∙_}
+use Rattle.settle.specs.Ready.{vanIn}
 use Rattle.settle.proofs.Facts.{route-of, near-nodes}
+use Rattle.settle.proofs.Again.{none-open}
 use Rattle.settle.proofs.settling.settle.Statement.{statement}
 use Rattle.settle.proofs.settling.settle.Tie as tie
 
+none-open-requires : tie.Need-none-open-requires
+none-open-requires c κs = c .before .pre .0 .sized
+
+returns : tie.Need-returns
+returns c =
+    let b = c .before .before .before in none-open (vanIn (b .args .van)) (b .pre .0) (sym (c .before .none-open .ensures) ∙ c .if1 .taken) (b .pre .1)
+
 starts-requires : tie.Need-starts-requires
-starts-requires c κs = let r = c .before .before .pre .0 in (r .laid, route-of r, refl)
+starts-requires c κs = let r = c .before .before .before .before .pre .0 in (r .laid, route-of r, refl)
 
 lasts-requires : tie.Need-lasts-requires
-lasts-requires c κs = let r = c .before .before .before .before .pre .0 in (r .laid, route-of r, refl)
+lasts-requires c κs = let r = c .before .before .before .before .before .before .pre .0 in (r .laid, route-of r, refl)
 
 spots-requires : tie.Need-spots-requires
-spots-requires c κs = let r = c .before .before .before .before .before .before .pre .0 in (r .long, r .most, near-nodes r, refl)
+spots-requires c κs = let r = c .before .before .before .before .before .before .before .before .pre .0 in (r .long, r .most, near-nodes r, refl)
 
 loads-requires : tie.Need-loads-requires
 loads-requires c κs =
-    let r = c .before .before .before .before .before .before .before .before .before .pre .0 in (r .laid, route-of r, c .before .before .spots .ensures, refl)
+    let r = c .before .before .before .before .before .before .before .before .before .before .before .pre .0 in (r .laid, route-of r, c .before .before .spots .ensures, refl)
 
 rounds-requires : tie.Need-rounds-requires
 rounds-requires c κs =
     let h = c .before .before .before .before .before in
     let l = h .before .before .before .before .before in
-    let p = l .before .before .before .before .before .pre in
+    let p = l .before .before .before .before .before .before .before .pre in
     ((p .0, record { starts = l .before .before .starts .ensures; lasts = l .lasts .ensures; loads = h .loads .ensures }, p .2), (p .1, h .before .before .before .spots .ensures))
 
-returns : tie.Need-returns
-returns c = c .rounds .ensures
+returns-2 : tie.Need-returns-2
+returns-2 c = c .rounds .ensures
 
 pub settle-spec : {M : Type 1} → statement M
 settle-spec =
     tie.close
-    (tie.spec starts-requires lasts-requires spots-requires loads-requires rounds-requires returns)
+    (tie.spec none-open-requires returns starts-requires lasts-requires spots-requires loads-requires rounds-requires returns-2)
