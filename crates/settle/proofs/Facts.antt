@@ -1,6 +1,6 @@
 -- What a caller that is ready gives the functions inside.
 use mathlib.Core.Path.{_≡_, sym, ap, _∙_, subst}
-use Prim.Native.Nat.{ℕ, _-_, _<_, _≤_}
+use Prim.Native.Nat.{ℕ, _+_, _-_, _<_, _≤_}
 use mathlib.Core.Bool.{Bool}
 use mathlib.Core.List.{List, [], _∷_}
 use native.Mathlib.Omega.{arith}
@@ -28,13 +28,12 @@ use Rattle.day.specs.Jobs.{jobIn}
 use Rattle.day.specs.Seen.{Placed}
 use Rattle.day.specs.Fit.{placed-read}
 use Rattle.day.specs.Tell.{dayOf}
-use Rattle.along.specs.Route.{Route, node-at, low, job-low}
-use Rattle.along.specs.Times.{start-low}
+use Rattle.along.specs.Route.{Route, node-at, job-low}
 use Rattle.along.specs.Spots.{Spots, loadOf, node-low, spot-in, spot-found}
 use Rattle.along.specs.Loads.{load-at-low}
 use Rattle.along.specs.Walks.{Legs}
 use Rattle.settle.specs.Sets.{placesOf, setsOf, Small, word-ext, length-sets, places-sets}
-use Rattle.settle.specs.Round.{Timed, Spotted, Named, Walked, walked-load}
+use Rattle.settle.specs.Round.{Spotted, Named, Walked, walked-load}
 use Rattle.settle.specs.Ready.{Ready, Read, nodes-are, nodes-most}
 
 some-stops : (k : ℕ) → 1 ≤ k → (tail : List ℕ) → T (endsWith k (0 ∷ tail)) → 1 ≤ length tail
@@ -58,6 +57,10 @@ module _ {s : List ℕ} {at : Layout} {l : List ℕ} {n : ℕ} {ws : List ℕ} {
   two-stops =
       let t = some-stops (dayOf s .n - 1) (omega (arith, some-nodes)) (r .form .tail) (subst (λ (k : List ℕ). T (endsWith (dayOf s .n - 1) k)) (r .form .starts) (r .form .ends)) in
       omega (arith, size, ap length (r .form .starts))
+
+  -- one stop more than legs
+  pub legs-stops : n - 1 + 1 ≡ n
+  legs-stops = omega (arith, two-stops)
 
   pub route-of : Route (at .nodes) l n
   route-of = record { long = r .long; some = two-stops; most = r .most; nodes = rw (nodes-are (r .laid)) (r .form .nodes) }
@@ -97,15 +100,7 @@ module _ {s : List ℕ} {at : Layout} {l : List ℕ} {n : ℕ} {ws : List ℕ} {
           (omega (arith, f), ap (λ (i : ℕ). getD l i 0) f ∙ e);
     }
 
-  module _ {e : List ℕ} {z : List ℤ} {h : List ℕ} (read : Read (dayOf s) l n e z h) where
-    pub timed : (limit : ℕ) → limit < 1099511627776 → Timed (at .nodes) l e (n - 1) limit
-    timed limit b = record {
-      few = omega (arith, two-stops, r .most);
-      nodes = λ i k. node-at route-of i (omega (arith, two-stops));
-      times = λ i k. omega (arith, read .starts .at i (omega arith), start-low (dayOf s) (low s) m i (omega (arith, r .most)));
-      bound = b;
-    }
-
+  module _ {z : List ℤ} {h : List ℕ} (read : Read (dayOf s) l n z h) where
     pub legs : Legs l h (n - 1) 0
     legs = record {
       long = r .long;

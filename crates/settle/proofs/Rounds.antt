@@ -20,9 +20,9 @@ use Rattle.rules.specs.Rounds.{Distinct}
 use Rattle.rules.specs.Tests.{cleanFits, soiledFits, meetsPartner, hasSupport, window, short, clean, soiled, partnerPlaced, neitherPlaced, stays}
 use Rattle.rules.specs.Settle.{round}
 use Rattle.rules.specs.Metres.{driven}
-use Rattle.rules.specs.Along.{behind, startAt, lastAt, loadAt}
+use Rattle.rules.specs.Along.{behind, lastAt, loadAt}
 use Rattle.rules.specs.declared.Job.{Job}
-use Rattle.rules.proofs.AlongLaws.{atLeg, window-at, short-at, on-leg, leg-index}
+use Rattle.rules.proofs.AlongLaws.{atLeg, behind-take, window-at, short-at, on-leg, leg-index}
 use Rattle.rules.proofs.Twice.{restays}
 use Rattle.rules.proofs.Left.{stays-e, round-less, round-leg, round-left}
 use Rattle.along.specs.Spots.{node-low}
@@ -130,12 +130,11 @@ module _ (v : Van) (d : Day) (g : ℕ → Job) (jobs : ℕ) (told : d .jobs ≡ 
 
     -- ---- the first round: all tests
 
-    module _ (e : List ℕ) (z : List ℤ) (total : ℕ) (starts : Filled 64 (startAt d m) 0 n e) (lasts : Filled 64 (lastAt d m) (pos 0) n z)
-        (metres : total ≡ driven d m) where
-      stands-is : (x i : ℕ) → i < n - 1 → standsAt d (v .limit) l e z total x i ≡ (atLeg (window v d m o x) m i && atLeg (short v d m o x) m i)
+    module _ (z : List ℤ) (lasts : Filled 64 (lastAt d m) (pos 0) n z) where
+      stands-is : (x i : ℕ) → i < n - 1 → standsAt d (v .limit) l z (driven d m) x i ≡ (atLeg (window v d m o x) m i && atLeg (short v d m o x) m i)
       unfolding stands
       stands-is x i k =
-          rw (add-one i, starts .at i (omega arith), lasts .at (suc i) (omega arith), metres, ← getD-take n l i 0 (omega arith), ← getD-take n l (suc i) 0 (omega arith))
+          rw (add-one i, lasts .at (suc i) (omega arith), ← behind-take l n i (omega arith), ← getD-take n l i 0 (omega arith), ← getD-take n l (suc i) 0 (omega arith))
           (λ u. sym (window-at v d m o x m i (omega (arith, size))) u && sym (short-at v d m o x m i (omega (arith, size))) u)
 
       six : (a b c s p q : Bool) → ((a && b) && ((c && s) && (p && q))) ≡ (a && (b && (c && (s && (p && (q && true))))))
@@ -145,14 +144,14 @@ module _ (v : Van) (d : Day) (g : ℕ → Job) (jobs : ℕ) (told : d .jobs ≡ 
       six true false c s p q = refl
       six false b c s p q = refl
 
-      place-is : Tells (placeOk d g jobs (v .capacity) (v .limit) old l e z h (n - 1) total)
+      place-is : Tells (placeOk d g jobs (v .capacity) (v .limit) old l z h (n - 1) (driven d m))
       unfolding stays
       place-is x i k t =
           (λ u. stands-is x i k u && loads-is x i k u)
           ∙ six (atLeg (window v d m o x) m i) (atLeg (short v d m o x) m i) (atLeg (clean v d m o x) m i) (atLeg (soiled v d m o x) m i)
           (atLeg (partnerPlaced v d m o x) m i) (atLeg (neitherPlaced v d m o x) m i)
 
-      pub round-sets : (new : List ℕ) → Kepts l (n - 1) (placeOk d g jobs (v .capacity) (v .limit) old l e z h (n - 1) total) old new
+      pub round-sets : (new : List ℕ) → Kepts l (n - 1) (placeOk d g jobs (v .capacity) (v .limit) old l z h (n - 1) (driven d m)) old new
           → new ≡ setsOf (round v d m o)
       round-sets = left-sets _ place-is
 

@@ -1,4 +1,4 @@
--- What settling and the verdict ask of their caller, E, L and H of a route in arrays, and what settling gives.
+-- What settling and the verdict ask of their caller, L and H of a route in arrays, and what settling gives.
 use mathlib.Core.Path.{_≡_, ap}
 use Prim.Native.Nat.{ℕ, _-_, _≤_}
 use mathlib.Core.List.{List}
@@ -10,7 +10,7 @@ use Rattle.rules.specs.Day.{Day}
 use Rattle.rules.specs.Day as rules
 use Rattle.rules.specs.Settle.{settle, rounds}
 use Rattle.rules.specs.Asked.{Formed}
-use Rattle.rules.specs.Along.{startAt, lastAt, loadAt}
+use Rattle.rules.specs.Along.{lastAt, loadAt}
 use Rattle.sheet.specs.Section.{mOf}
 use Rattle.sheet.specs.Place.{Laid}
 use Rattle.sheet.specs.declared.Layout.{Layout}
@@ -32,9 +32,8 @@ pub record Ready (s : List ℕ) (at : Layout) (l : List ℕ) (n : ℕ) (ws : Lis
   pub most : n ≤ 64
   pub form : Formed (dayOf s) (planFrom l n ws marks)
 
--- E, L and H of the first n entries of l
-pub record Read (d : Day) (l : List ℕ) (n : ℕ) (e : List ℕ) (z : List ℤ) (h : List ℕ) : Type 0 where
-  pub starts : Filled 64 (startAt d (take n l)) 0 n e
+-- L and H of the first n entries of l
+pub record Read (d : Day) (l : List ℕ) (n : ℕ) (z : List ℤ) (h : List ℕ) : Type 0 where
   pub lasts : Filled 64 (lastAt d (take n l)) (pos 0) n z
   pub loads : Filled 64 (loadAt d (take n l)) 0 (n - 1) h
 

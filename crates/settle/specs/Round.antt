@@ -18,13 +18,15 @@ use Rattle.laws.specs.Below.{allBelow}
 use Rattle.laws.specs.Table.{Filled}
 use Rattle.rules.specs.Day.{Day}
 use Rattle.rules.specs.Time.{inTime}
+use Rattle.rules.specs.Along.{startAt}
 use Rattle.rules.specs.declared.Job.{Job}
 use Rattle.rules.specs.declared.Job.the-variants.{Clean, Soiled, Transfer}
 use Rattle.rules.proofs.AlongLaws.{arrives}
 use Rattle.bits.specs.Places.{has, without, lowest}
 use Rattle.bits.specs.Members.{has-none, without-yes, without-same, without-other, without-part}
 use Rattle.bits.specs.Masks.{lowest-has}
-use Rattle.along.specs.Times.{Low}
+use Rattle.along.specs.Times.{Low, start-low}
+use Rattle.along.specs.Route.{Route, node-at}
 use Rattle.along.specs.Walks.{struck, struck-has, Kept, kept-same, kept-both, kept-all, kept-zero, Legs, Heads, peak, through, between, ridesUp, ridesDown}
 
 -- each word of vs keeps of the word of ws the places that pass f
@@ -184,9 +186,9 @@ inMetres d limit x p k total = leb (total + d .metres p x + d .metres x k) (limi
 unfoldable pub stands : Day → ℕ → ℕ → ℕ → ℕ → ℕ → ℤ → ℕ → Bool
 stands d limit x p k t z total = inWindow d x p k t z && inMetres d limit x p k total
 
--- the place of x in the i-th leg, with E and L in arrays
-abbrev pub standsAt : Day → ℕ → List ℕ → List ℕ → List ℤ → ℕ → ℕ → ℕ → Bool
-standsAt d limit l e z total x i = stands d limit x (getD l i 0) (getD l (i + 1) 0) (getD e i 0) (getD z (i + 1) (pos 0)) total
+-- the place of x in the i-th leg, with L in an array
+abbrev pub standsAt : Day → ℕ → List ℕ → List ℤ → ℕ → ℕ → ℕ → Bool
+standsAt d limit l z total x i = stands d limit x (getD l i 0) (getD l (i + 1) 0) (startAt d l i) (getD z (i + 1) (pos 0)) total
 
 -- ---- the same from what no node changes: when p is left, and how long the route may be with the leg still counted
 
@@ -204,24 +206,24 @@ fitsIn d x p k u z m total = windowFrom d x p k u z && leb (total + d .metres p 
 abbrev pub fitsLeg : Day → List ℕ → List ℕ → List ℤ → List ℕ → ℕ → ℕ → ℕ → ℕ → Bool
 fitsLeg d l leave z most total x p i = fitsIn d x p (getD l (i + 1) 0) (getD leave i 0) (getD z (i + 1) (pos 0)) (getD most i 0) total
 
-abbrev pub leftAt : Day → List ℕ → List ℕ → ℕ → ℕ
-leftAt d l e i = getD e i 0 + d .service (getD l i 0)
+abbrev pub leftAt : Day → List ℕ → ℕ → ℕ
+leftAt d l i = startAt d l i + d .service (getD l i 0)
 
 abbrev pub mostAt : Day → ℕ → List ℕ → ℕ → ℕ
 mostAt d limit l i = limit + d .metres (getD l i 0) (getD l (i + 1) 0)
 
-pub fits-stands : (d : Day) (limit : ℕ) (l e : List ℕ) (z : List ℤ) (total x : ℕ) {leave most : List ℕ} {legs : ℕ} → Filled 64 (leftAt d l e) 0 legs leave
-    → Filled 64 (mostAt d limit l) 0 legs most
-    → (i : ℕ) → i < legs → fitsLeg d l leave z most total x (getD l i 0) i ≡ standsAt d limit l e z total x i
-unfolding fitsIn stands
-fits-stands d limit l e z total x a b i h = rw (a .at i h, b .at i h)
+-- a walk from leg to leg: when the i-th is left, and the start at its other end
+pub left-told : (d : Day) (l : List ℕ) (i : ℕ) {p t b : ℕ} → p ≡ getD l i 0 → t ≡ startAt d l i → b ≡ d .service p → t + b ≡ leftAt d l i
+left-told d l i e f g = λ u. f u + (g ∙ ap (d .service) e) u
 
--- what these tables ask: nodes of a day of k, a route of `legs` legs, and numbers far from the end of 64 bits
-pub record Timed (k : ℕ) (l e : List ℕ) (legs limit : ℕ) : Type 0 where
-  pub few : legs < 64
-  pub nodes : (i : ℕ) → i ≤ legs → getD l i 0 < k
-  pub times : (i : ℕ) → i < legs → getD e i 0 < 1099511627776
-  pub bound : limit < 1099511627776
+pub reach-turn : (d : Day) (l : List ℕ) (i : ℕ) {p t r : ℕ} → p ≡ getD l i 0 → t ≡ leftAt d l i → r ≡ reached d t p (getD l (i + 1) 0) → r ≡ startAt d l (i + 1)
+reach-turn d l i e f g = g ∙ (λ u. reached d (f u) (e u) (getD l (i + 1) 0)) ∙ rw (add-one i) refl
+
+pub fits-stands : (d : Day) (limit : ℕ) (l : List ℕ) (z : List ℤ) (total x : ℕ) {leave most : List ℕ} {legs : ℕ} → Filled 64 (leftAt d l) 0 legs leave
+    → Filled 64 (mostAt d limit l) 0 legs most
+    → (i : ℕ) → i < legs → fitsLeg d l leave z most total x (getD l i 0) i ≡ standsAt d limit l z total x i
+unfolding fitsIn stands
+fits-stands d limit l z total x a b i h = rw (a .at i h, b .at i h)
 
 -- the place p of a node on its leg i
 pub record PlaceAt (k : ℕ) (l leave : List ℕ) (p i : ℕ) : Type 0 where
@@ -240,19 +242,19 @@ pub least-place : {k : ℕ} {l leave at : List ℕ} {w left r : ℕ} {f : ℕ �
 least-place {left = left} a s n h {p} e = a .place p (s .part p (rw e (true→T _ (lowest-has left (omega arith) h))))
 
 -- the tables of a route are those of each word whose places are its legs, and what they leave of it stands
-module _ (d : Day) (limit : ℕ) (l e : List ℕ) {leave : List ℕ} {legs : ℕ} (left : Filled 64 (leftAt d l e) 0 legs leave) {at : List ℕ} {w : ℕ} (named : Named l at legs w) where
-  pub places-at : {k : ℕ} → Low d → Timed k l e legs limit → PlacesAt k l leave at w
-  places-at a t = record {
-    place = λ p h. let n = named .leg p h in record {
-      node = omega (arith, t .nodes (getD at p 0) (omega (arith, n .0)), n .1);
-      few = omega (arith, t .few, n .0);
-      next = t .nodes (getD at p 0 + 1) (omega (arith, n .0));
-      time = omega (arith, left .at (getD at p 0) (n .0), t .times (getD at p 0) (n .0), a .service (getD l (getD at p 0) 0));
+module _ (d : Day) (limit : ℕ) (l : List ℕ) {leave : List ℕ} {legs : ℕ} (left : Filled 64 (leftAt d l) 0 legs leave) {at : List ℕ} {w : ℕ} (named : Named l at legs w) where
+  pub places-at : {k : ℕ} → Low d → Route k l (legs + 1) → PlacesAt k l leave at w
+  places-at a r = record {
+    place = λ p h. let n = named .leg p h in let i = getD at p 0 in record {
+      node = omega (arith, node-at r i (omega (arith, n .0)), n .1);
+      few = omega (arith, r .most, n .0);
+      next = node-at r (i + 1) (omega (arith, n .0));
+      time = omega (arith, left .at i (n .0), start-low d a l i (omega (arith, r .most, n .0)), a .service (getD l i 0));
     };
   }
 
   pub stand-kept : (z : List ℤ) (total x : ℕ) {most : List ℕ} {r : ℕ} → Filled 64 (mostAt d limit l) 0 legs most → Spotted l at legs
-      → Sifted (λ p. fitsLeg d l leave z most total x p (getD at p 0)) w r → Kept l 0 legs (standsAt d limit l e z total x) w r
+      → Sifted (λ p. fitsLeg d l leave z most total x p (getD at p 0)) w r → Kept l 0 legs (standsAt d limit l z total x) w r
   stand-kept z total x {most} b s a = sifted-kept s named (record {
     at = λ q. (
       λ t. let o = a .at q .0 t in (o .0, subst (λ (c : Bool). T c) (here q (o .0)) (o .1)),
@@ -260,9 +262,9 @@ module _ (d : Day) (limit : ℕ) (l e : List ℕ) {leave : List ℕ} {legs : ℕ
     );
   })
     where
-      here : (q : ℕ) → T (has w q) → fitsLeg d l leave z most total x q (getD at q 0) ≡ standsAt d limit l e z total x (getD at q 0)
+      here : (q : ℕ) → T (has w q) → fitsLeg d l leave z most total x q (getD at q 0) ≡ standsAt d limit l z total x (getD at q 0)
       here q t = let n = named .leg q t in
-          ap (λ (p : ℕ). fitsLeg d l leave z most total x p (getD at q 0)) (sym (n .1)) ∙ fits-stands d limit l e z total x left b (getD at q 0) (n .0)
+          ap (λ (p : ℕ). fitsLeg d l leave z most total x p (getD at q 0)) (sym (n .1)) ∙ fits-stands d limit l z total x left b (getD at q 0) (n .0)
 
 -- ---- the load tests by the case of the job
 
@@ -310,5 +312,5 @@ unfolding jobsOk allBelow
 jobs-more f g j {q} e a b = rw (add-one j) (kepts-same (λ y i n. λ u. allBelow j (λ k. f (g k) y i) && f (e u) y i) (kepts-both a b))
 
 -- both: what a round leaves, from arrays
-abbrev pub placeOk : Day → (ℕ → Job) → ℕ → ℕ → ℕ → List ℕ → List ℕ → List ℕ → List ℤ → List ℕ → ℕ → ℕ → ℕ → ℕ → Bool
-placeOk d g m cap limit old l e z h legs total y i = standsAt d limit l e z total y i && jobsOk (loadOk old l h legs cap) g m y i
+abbrev pub placeOk : Day → (ℕ → Job) → ℕ → ℕ → ℕ → List ℕ → List ℕ → List ℤ → List ℕ → ℕ → ℕ → ℕ → ℕ → Bool
+placeOk d g m cap limit old l z h legs total y i = standsAt d limit l z total y i && jobsOk (loadOk old l h legs cap) g m y i

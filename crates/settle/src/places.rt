@@ -1,12 +1,14 @@
 // The tests of a place that read the route only: window and metres.
 ghost use mathlib.Core.Path.{_≡_};
 ghost use Prim.Native.Nat.{_+_, _<_, _≤_};
-ghost use lib.ListN.{getD, length};
+ghost use lib.ListN.{getD, take, length};
 ghost use Rattle.laws.specs.Table.{Filled};
+ghost use Rattle.rules.specs.Metres.{driven};
 ghost use Rattle.sheet.specs.Place.{Laid};
 ghost use Rattle.day.specs.Tell.{dayOf};
+ghost use Rattle.along.specs.Route.{Route};
 ghost use Rattle.along.specs.Walks.{struck};
-ghost use Rattle.settle.specs.Round.{reached, windowFrom, fitsIn, fitsLeg, leftAt, mostAt, Sifted, PlaceAt, PlacesAt, Timed};
+ghost use Rattle.settle.specs.Round.{reached, windowFrom, fitsIn, fitsLeg, leftAt, mostAt, Sifted, PlaceAt, PlacesAt};
 use along::times::in_time;
 use along::times::last_moment;
 use day::look::earliest;
@@ -87,28 +89,36 @@ fn tried(
     }
 }
 
-// Of each leg: when its stop is left, and how long the route may be with the leg still counted. No node is in these, so they are found once for all.
+// Of each leg: when its stop is left, and how long the route may be with the leg still counted; and the metres of them all. No node is in
+// these, so they are found once for all, in one walk that has E at hand.
 pub fn legs_of(
     s: &[u8],
     at: Layout,
     limit: usize,
     route: &[usize; 64],
-    e: &[usize; 64],
     legs: usize,
     leave: &mut [usize; 64],
     most: &mut [usize; 64],
-)
-    requires { ⌜ Laid (now s) at × Timed (at .nodes) (now route) (now e) legs limit × (length (now leave) ≡ 64) × (length (now most) ≡ 64) ⌝ }
-    ensures { λ _. ⌜ Filled 64 (leftAt (dayOf (now (s .entry))) (now (route .entry)) (now (e .entry))) 0 legs (now (leave .exit)) × Filled 64 (mostAt (dayOf (now (s .entry))) limit (now (route .entry))) 0 legs (now (most .exit)) ⌝ }
+) -> usize
+    requires { ⌜ Laid (now s) at × Route (at .nodes) (now route) (legs + 1) × (limit < 1099511627776) × (length (now leave) ≡ 64) × (length (now most) ≡ 64) ⌝ }
+    ensures { λ r. ⌜ Filled 64 (leftAt (dayOf (now (s .entry))) (now (route .entry))) 0 legs (now (leave .exit)) × Filled 64 (mostAt (dayOf (now (s .entry))) limit (now (route .entry))) 0 legs (now (most .exit)) × (r ≡ driven (dayOf (now (s .entry))) (take (legs + 1) (now (route .entry)))) × (r < 1099511627776) ⌝ }
 {
+    let mut total = 0;
+    let mut p = route[0];
+    let mut t = earliest(s, at, p);
     let mut i = 0;
     while i < legs {
-        let p = route[i];
         let k = route[i + 1];
-        leave[i] = e[i] + service(s, at, p);
-        most[i] = limit + metres(s, at, p, k);
+        let d = metres(s, at, p, k);
+        let left = t + service(s, at, p);
+        leave[i] = left;
+        most[i] = limit + d;
+        total += d;
+        t = reach(s, at, left, p, k);
+        p = k;
         i += 1;
     }
+    total
 }
 
 // The places of x that window and metres leave; `spots` has the leg of each.

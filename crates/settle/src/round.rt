@@ -1,20 +1,21 @@
 // One round of settling: what stays open against the places at its beginning.
 ghost use mathlib.Core.Path.{_≡_};
-ghost use Prim.Native.Nat.{ℕ, _-_, _<_, _≤_};
+ghost use Prim.Native.Nat.{ℕ, _+_, _-_, _<_, _≤_};
 ghost use lib.ListN.{getD, take, length};
 ghost use Rattle.sheet.specs.Place.{Laid};
 ghost use Rattle.day.specs.Jobs.{jobIn};
 ghost use Rattle.day.specs.Seen.{Placed};
 ghost use Rattle.day.specs.Tell.{dayOf};
+ghost use Rattle.along.specs.Route.{Route};
 ghost use Rattle.along.specs.Spots.{Spots, loadOf};
+ghost use Rattle.rules.specs.Metres.{driven};
 ghost use Rattle.rules.specs.Settle.{round};
 ghost use Rattle.settle.specs.Sets.{placesOf, setsOf};
 ghost use Rattle.settle.specs.Ready.{Ready, Read, vanIn};
-ghost use Rattle.settle.specs.Round.{Kepts, Timed, Spotted, Named, standsAt, Walked, cleanOk, soiledOk, transferOk, pairOk, loadOk, jobsOk};
+ghost use Rattle.settle.specs.Round.{Kepts, Spotted, Named, standsAt, Walked, cleanOk, soiledOk, transferOk, pairOk, loadOk, jobsOk};
 use crate::Van;
 use crate::places::legs_of;
 use crate::places::stand;
-use along::times::length;
 use along::walks::Ride;
 use along::walks::backward;
 use along::walks::forward;
@@ -214,18 +215,16 @@ fn stand_all(
     new: &mut [u64; 64],
     route: &[usize; 64],
     spots: &[usize; 64],
-    e: &[usize; 64],
     l: &[i64; 64],
     legs: usize,
-    total: usize,
 )
     requires { ⌜ Laid (now s) at × (length (now old) ≡ 64) × (now new ≡ now old) × ((y : ℕ) → at .nodes ≤ y → getD (now old) y 0 ≡ 0) × ((y : ℕ) → Named (now route) (now spots) legs (getD (now old) y 0)) ⌝ }
-    requires { ⌜ Timed (at .nodes) (now route) (now e) legs limit × Spotted (now route) (now spots) legs × (total < 1099511627776) ⌝ }
-    ensures { λ _. ⌜ Kepts (now (route .entry)) legs (standsAt (dayOf (now (s .entry))) limit (now (route .entry)) (now (e .entry)) (now (l .entry)) total) (now (old .entry)) (now (new .exit)) ⌝ }
+    requires { ⌜ Route (at .nodes) (now route) (legs + 1) × Spotted (now route) (now spots) legs × (limit < 1099511627776) ⌝ }
+    ensures { λ _. ⌜ Kepts (now (route .entry)) legs (standsAt (dayOf (now (s .entry))) limit (now (route .entry)) (now (l .entry)) (driven (dayOf (now (s .entry))) (take (legs + 1) (now (route .entry))))) (now (old .entry)) (now (new .exit)) ⌝ }
 {
     let mut leave = [0usize; 64];
     let mut most = [0usize; 64];
-    legs_of(s, at, limit, route, e, legs, &mut leave, &mut most);
+    let total = legs_of(s, at, limit, route, legs, &mut leave, &mut most);
     let n = at.nodes;
     let mut x = 0;
     while x < n {
@@ -245,19 +244,17 @@ pub fn round(
     route: &[usize; 64],
     stops: usize,
     spots: &[usize; 64],
-    e: &[usize; 64],
     l: &[i64; 64],
     heads: &[u64; 64],
     h: &[usize; 64],
     highest: usize,
 )
-    requires { ⌜ Ready (now s) at (now route) stops (now old) 0 × Read (dayOf (now s)) (now route) stops (now e) (now l) (now h) × (van .limit < 1099511627776) ⌝ }
+    requires { ⌜ Ready (now s) at (now route) stops (now old) 0 × Read (dayOf (now s)) (now route) stops (now l) (now h) × (van .limit < 1099511627776) ⌝ }
     requires { ⌜ (now new ≡ now old) × Spots (now route) stops (now spots) × Walked (now route) (now heads) (now h) highest (stops - 1) 0 ⌝ }
     ensures { λ _. ⌜ now (new .exit) ≡ setsOf (round (vanIn van) (dayOf (now (s .entry))) (take stops (now (route .entry))) (placesOf (now (old .entry)))) ⌝ }
 {
     let legs = stops - 1;
-    let total = length(s, at, route, stops);
-    stand_all(s, at, van.limit, old, new, route, spots, e, l, legs, total);
+    stand_all(s, at, van.limit, old, new, route, spots, l, legs);
     strike_jobs(
         s,
         at,

@@ -18,7 +18,6 @@ use crate::round::round;
 use along::loads::loads;
 use along::spots::spots;
 use along::times::lasts;
-use along::times::starts;
 use along::walks::heads;
 use along::walks::highest;
 use sheet::Layout;
@@ -88,7 +87,7 @@ fn finish(
     if same(&first, new) { 1 } else { 2 }
 }
 
-// The rounds, with E, L, H and the spots at hand.
+// The rounds, with L, H and the spots at hand.
 fn rounds(
     s: &[u8],
     at: Layout,
@@ -98,11 +97,10 @@ fn rounds(
     old: &[u64; 64],
     new: &mut [u64; 64],
     spots: &[usize; 64],
-    e: &[usize; 64],
     l: &[i64; 64],
     h: &[usize; 64],
 ) -> usize
-    requires { ⌜ Ready (now s) at (now route) stops (now old) 0 × Read (dayOf (now s)) (now route) stops (now e) (now l) (now h) × (van .limit < 1099511627776) ⌝ }
+    requires { ⌜ Ready (now s) at (now route) stops (now old) 0 × Read (dayOf (now s)) (now route) stops (now l) (now h) × (van .limit < 1099511627776) ⌝ }
     requires { ⌜ (now new ≡ now old) × Spots (now route) stops (now spots) ⌝ }
     ensures { λ r. ⌜ Settles (vanIn van) (dayOf (now (s .entry))) (take stops (now (route .entry))) (now (old .entry)) r (now (new .exit)) ⌝ }
 {
@@ -110,21 +108,7 @@ fn rounds(
     let mut head = [0u64; 64];
     heads(route, legs, &mut head);
     let most = highest(h, legs);
-    round(
-        s,
-        at,
-        van,
-        old,
-        new,
-        route,
-        stops,
-        spots,
-        e,
-        l,
-        &head,
-        h,
-        most,
-    );
+    round(s, at, van, old, new, route, stops, spots, l, &head, h, most);
     finish(s, at, van, route, stops, old, new, &head, h, most)
 }
 
@@ -145,13 +129,11 @@ pub fn settle(
     if none_open(old) {
         return 0;
     }
-    let mut e = [0usize; 64];
     let mut l = [0i64; 64];
     let mut spot = [64usize; 64];
     let mut h = [0usize; 64];
-    starts(s, at, route, stops, &mut e);
     lasts(s, at, route, stops, &mut l);
     spots(route, stops, &mut spot);
     loads(s, at, route, stops, &spot, &mut h);
-    rounds(s, at, van, route, stops, old, new, &spot, &e, &l, &h)
+    rounds(s, at, van, route, stops, old, new, &spot, &l, &h)
 }

@@ -1,92 +1,131 @@
-use mathlib.Core.Path.{_≡_, ap}
+use mathlib.Core.Path.{_≡_, refl, ap, _∙_}
 use Prim.Native.Nat.{ℕ, _+_, _-_, _≤_}
 use native.Mathlib.Omega.{arith}
-use lib.ListN.{getD}
+use lib.ListN.{getD, take}
 use Rattle.laws.specs.Table.{Filled, filled-none, filled-more}
+use Rattle.rules.specs.Along.{startAt}
+use Rattle.rules.specs.Metres.{driven}
 use Rattle.day.specs.Tell.{dayOf}
-use Rattle.settle.specs.Round.{leftAt, mostAt}
+use Rattle.along.specs.Route.{node-at, low}
+use Rattle.along.specs.Times.{start-low, length-first, length-turn, length-low}
+use Rattle.settle.specs.Round.{leftAt, mostAt, left-told, reach-turn}
 use Rattle.settle.proofs.places.legs_of.Statement.{statement}
 use Rattle.settle.proofs.places.legs_of.Tie as tie
 
 abbrev Inv-loop : tie.InvT-loop
-Inv-loop s at limit route e legs leave₀ most₀ i₀ leave most i =
-    (i ≤ legs) × Filled 64 (leftAt (dayOf s) route e) 0 i leave × Filled 64 (mostAt (dayOf s) limit route) 0 i most
+Inv-loop s at limit route legs leave₀ most₀ total₀ p₀ t₀ i₀ leave most total p t i =
+    (i ≤ legs) × (p ≡ getD route i 0) × (t ≡ startAt (dayOf s) route i) × (total ≡ driven (dayOf s) (take (i + 1) route))
+    × Filled 64 (leftAt (dayOf s) route) 0 i leave × Filled 64 (mostAt (dayOf s) limit route) 0 i most
 
 abbrev μ-loop : tie.MeasureT-loop
-μ-loop s at limit route e legs leave₀ most₀ i₀ leave most i = legs - i
-
-loop-holds : tie.Need-loop-holds Inv-loop μ-loop
-loop-holds c = (omega arith, filled-none _ _ _ _ (c .before .pre .2), filled-none _ _ _ _ (c .before .pre .3))
-
-mul-p : tie.Need-mul-p Inv-loop μ-loop
-mul-p c = omega (arith, c .before .before .before .pre .1 .few)
+μ-loop s at limit route legs leave₀ most₀ total₀ p₀ t₀ i₀ leave most total p t i = legs - i
 
 element-copy-out-p : tie.Need-element-copy-out-p Inv-loop μ-loop
-element-copy-out-p c = omega (arith, c .before .before .before .pre .1 .few)
+element-copy-out-p c = omega arith
+
+earliest-requires : tie.Need-earliest-requires Inv-loop μ-loop
+earliest-requires c κs = let q = c .before .before .pre in (q .0, node-at (q .1) 0 (omega arith))
+
+loop-holds : tie.Need-loop-holds Inv-loop μ-loop
+loop-holds c =
+    let b = c .before .before .before in (
+      omega arith,
+      refl,
+      c .earliest .ensures .is,
+      length-first (dayOf (b .args .s .now)) (b .args .route .now),
+      filled-none _ _ _ _ (b .pre .3),
+      filled-none _ _ _ _ (b .pre .4),
+    )
 
 add-k : tie.Need-add-k Inv-loop μ-loop
-add-k c = omega (arith, c .before .before .before .before .pre .1 .few)
+add-k c = omega (arith, c .before .before .before .before .before .pre .1 .most)
 
 mul-k : tie.Need-mul-k Inv-loop μ-loop
-mul-k c = omega (arith, c .before .before .before .before .pre .1 .few)
+mul-k c = omega (arith, c .before .before .before .before .before .pre .1 .most)
 
 element-copy-out-k : tie.Need-element-copy-out-k Inv-loop μ-loop
-element-copy-out-k c = omega (arith, c .before .before .before .before .pre .1 .few)
-
-mul-leave : tie.Need-mul-leave Inv-loop μ-loop
-mul-leave c = omega (arith, c .before .before .before .before .before .pre .1 .few)
-
-element-copy-out-leave : tie.Need-element-copy-out-leave Inv-loop μ-loop
-element-copy-out-leave c = omega (arith, c .before .before .before .before .before .pre .1 .few)
-
-service-requires : tie.Need-service-requires Inv-loop μ-loop
-service-requires c κs =
-    let q = c .before .before .before .before .before .before .pre in (q .0, q .1 .nodes (c .before .before .before .before .loop .i) (omega arith))
-
-add-leave : tie.Need-add-leave Inv-loop μ-loop
-add-leave c =
-    let l = c .before .before .before .before .before in omega (arith, c .service .ensures .low, l .before .before .pre .1 .times (l .loop .i) (omega arith))
-
-mul-leave-2 : tie.Need-mul-leave-2 Inv-loop μ-loop
-mul-leave-2 c = omega (arith, c .before .before .before .before .before .before .before .pre .1 .few)
-
-element-write-leave : tie.Need-element-write-leave Inv-loop μ-loop
-element-write-leave c = omega (arith, c .before .before .before .before .before .before .before .pre .1 .few)
+element-copy-out-k c = omega (arith, c .before .before .before .before .before .pre .1 .most)
 
 metres-requires : tie.Need-metres-requires Inv-loop μ-loop
 metres-requires c κs =
-    let q = c .before .before .before .before .before .before .before .pre in
-    let i = c .before .before .before .before .before .loop .i in (q .0, q .1 .nodes i (omega arith), q .1 .nodes (i + 1) (omega arith))
+    let l = c .before .before in
+    let q = l .before .before .before .before .pre in
+    (q .0, rw (l .loop .inv .1) (node-at (q .1) (l .loop .i) (omega arith)), node-at (q .1) (l .loop .i + 1) (omega arith))
+
+service-requires : tie.Need-service-requires Inv-loop μ-loop
+service-requires c κs =
+    let l = c .before .before .before in
+    let q = l .before .before .before .before .pre in
+    (q .0, rw (l .loop .inv .1) (node-at (q .1) (l .loop .i) (omega arith)))
+
+add-left : tie.Need-add-left Inv-loop μ-loop
+add-left c =
+    let l = c .before .before .before .before in
+    let b = l .before .before .before .before in
+    omega (arith, c .service .ensures .low, l .loop .inv .2, start-low (dayOf (b .args .s .now)) (low (b .args .s .now)) (b .args .route .now) (l .loop .i) (omega (arith, b .pre .1 .most)))
+
+mul-leave : tie.Need-mul-leave Inv-loop μ-loop
+mul-leave c = omega (arith, c .before .before .before .before .before .before .before .before .pre .1 .most)
+
+element-write-leave : tie.Need-element-write-leave Inv-loop μ-loop
+element-write-leave c = omega (arith, c .before .before .before .before .before .before .before .before .pre .1 .most)
 
 add-most : tie.Need-add-most Inv-loop μ-loop
-add-most c = omega (arith, c .metres .ensures .low, c .before .before .before .before .before .before .before .before .pre .1 .bound)
+add-most c = omega (arith, c .before .metres .ensures .low, c .before .before .before .before .before .before .before .before .pre .2)
 
 mul-most : tie.Need-mul-most Inv-loop μ-loop
-mul-most c = omega (arith, c .before .before .before .before .before .before .before .before .pre .1 .few)
+mul-most c = omega (arith, c .before .before .before .before .before .before .before .before .pre .1 .most)
 
 element-write-most : tie.Need-element-write-most Inv-loop μ-loop
-element-write-most c = omega (arith, c .before .before .before .before .before .before .before .before .pre .1 .few)
+element-write-most c = omega (arith, c .before .before .before .before .before .before .before .before .pre .1 .most)
+
+add-total : tie.Need-add-total Inv-loop μ-loop
+add-total c =
+    let l = c .before .before .before .before in
+    let b = l .before .before .before .before in
+    omega (arith, c .before .metres .ensures .low, l .loop .inv .3, length-low (dayOf (b .args .s .now)) (low (b .args .s .now)) (b .args .route .now) (l .loop .i + 1) (omega (arith, b .pre .1 .most)))
+
+reach-requires : tie.Need-reach-requires Inv-loop μ-loop
+reach-requires c κs =
+    let l = c .before .before .before .before in
+    let b = l .before .before .before .before in (
+      b .pre .0,
+      rw (l .loop .inv .1) (node-at (b .pre .1) (l .loop .i) (omega arith)),
+      node-at (b .pre .1) (l .loop .i + 1) (omega arith),
+      omega (arith, c .service .ensures .low, l .loop .inv .2, start-low (dayOf (b .args .s .now)) (low (b .args .s .now)) (b .args .route .now) (l .loop .i) (omega (arith, b .pre .1 .most))),
+    )
 
 add-i : tie.Need-add-i Inv-loop μ-loop
-add-i c = omega (arith, c .before .before .before .before .before .before .before .before .pre .1 .few)
+add-i c = omega (arith, c .before .before .before .before .before .before .before .before .before .pre .1 .most)
 
 loop-less : tie.Need-loop-less Inv-loop μ-loop
 loop-less c = omega arith
 
 loop-again : tie.Need-loop-again Inv-loop μ-loop
 loop-again c =
-    let a = c .before .before .before .before .before .before .before .before .args in
-    let q = c .before .before .before .before .before .before .before .before .pre in
-    let v = c .before .before .before .before .before .before .loop .inv in
-    let i = c .before .before .before .before .before .before .loop .i in (
+    let l = c .before .before .before .before .before in
+    let b = l .before .before .before .before in
+    let d = dayOf (b .args .s .now) in
+    let r = b .args .route .now in
+    let i = l .loop .i in
+    let v = l .loop .inv in
+    let m = c .before .before .metres .ensures .is ∙ ap (λ (q : ℕ). d .metres q (getD r (i + 1) 0)) (v .1) in
+    let e = left-told d r i (v .1) (v .2) (c .before .service .ensures .is) in (
       omega arith,
-      filled-more _ (v .1) (omega (arith, q .1 .few)) (ap (λ (k : ℕ). getD (a .e .now) i 0 + k) (c .before .service .ensures .is)),
-      filled-more _ (v .2) (omega (arith, q .1 .few)) (ap (λ (k : ℕ). a .limit + k) (c .metres .ensures .is)),
+      refl,
+      reach-turn d r i (v .1) e (c .reach .ensures .0),
+      ap (λ (k : ℕ). l .loop .total + k) m ∙ length-turn d r i (omega (arith, b .pre .1 .long, b .pre .1 .most)) (v .3),
+      filled-more _ (v .4) (omega (arith, b .pre .1 .most)) e,
+      filled-more _ (v .5) (omega (arith, b .pre .1 .most)) (ap (λ (k : ℕ). b .args .limit + k) m),
     )
 
 returns : tie.Need-returns Inv-loop μ-loop
 returns c =
-    let v = c .before .loop .inv in let e : c .before .loop .i ≡ c .before .before .before .args .legs = omega arith in (rw e at (v .1), rw e at (v .2))
+    let v = c .before .loop .inv in
+    let b = c .before .before .before .before .before in
+    let e : c .before .loop .i ≡ b .args .legs = omega arith in
+    let t = rw e at (v .3) in
+    (rw e at (v .4), rw e at (v .5), t, omega (arith, t, length-low (dayOf (b .args .s .now)) (low (b .args .s .now)) (b .args .route .now) (b .args .legs + 1) (b .pre .1 .most)))
 
 pub legs-of-spec : {M : Type 1} → statement M
 legs-of-spec =
@@ -94,22 +133,22 @@ legs-of-spec =
     (tie.spec
     Inv-loop
     μ-loop
-    loop-holds
-    mul-p
     element-copy-out-p
+    earliest-requires
+    loop-holds
     add-k
     mul-k
     element-copy-out-k
-    mul-leave
-    element-copy-out-leave
-    service-requires
-    add-leave
-    mul-leave-2
-    element-write-leave
     metres-requires
+    service-requires
+    add-left
+    mul-leave
+    element-write-leave
     add-most
     mul-most
     element-write-most
+    add-total
+    reach-requires
     add-i
     loop-less
     loop-again

@@ -6,7 +6,7 @@ use Rattle.day.specs.Jobs.{jobIn}
 use Rattle.day.specs.Tell.{dayOf}
 use Rattle.settle.specs.Round.{kepts-both}
 use Rattle.settle.specs.Ready.{vanIn, jobs-are}
-use Rattle.settle.proofs.Facts.{two-stops, route-of, few-nodes, past-nodes, spotted, named, timed}
+use Rattle.settle.proofs.Facts.{two-stops, legs-stops, route-of, few-nodes, past-nodes, spotted, named}
 use Rattle.settle.proofs.Rounds.{round-sets}
 use Rattle.settle.proofs.round.round.Statement.{statement}
 use Rattle.settle.proofs.round.round.Tie as tie
@@ -14,32 +14,26 @@ use Rattle.settle.proofs.round.round.Tie as tie
 sub-legs : tie.Need-sub-legs
 sub-legs c = omega (arith, two-stops (c .before .pre .0 .0))
 
-length-requires : tie.Need-length-requires
-length-requires c κs = let r = c .before .pre .0 .0 in (r .laid, route-of r)
-
 stand-all-requires : tie.Need-stand-all-requires
 stand-all-requires c κs =
-    let p = c .before .before .before .pre in
-    let r = p .0 .0 in (
-      (r .laid, r .sized, p .1 .0, past-nodes r, named r (p .1 .1)),
-      (timed r (p .0 .1) _ (p .0 .2), spotted r (p .1 .1), c .before .length .ensures .1),
-    )
+    let p = c .before .before .pre in
+    let r = p .0 .0 in
+    ((r .laid, r .sized, p .1 .0, past-nodes r, named r (p .1 .1)), (rw (legs-stops r) (route-of r), spotted r (p .1 .1), p .0 .2))
 
 strike-jobs-requires : tie.Need-strike-jobs-requires
 strike-jobs-requires c κs =
-    let p = c .before .before .before .before .before .pre in (p .0 .0 .laid, p .0 .0 .sized, c .before .stand-all .ensures .long, p .1 .2)
+    let p = c .before .before .before .before .pre in (p .0 .0 .laid, p .0 .0 .sized, c .before .stand-all .ensures .long, p .1 .2)
 
 returns : tie.Need-returns
 returns c =
-    let b = c .before .before .before .before .before .before in
+    let b = c .before .before .before .before .before in
     let a = b .args in
     let r = b .pre .0 .0 in
     let e = b .pre .0 .1 in
     round-sets (vanIn (a .van)) (dayOf (a .s .now)) (jobIn (a .s .now)) (a .at .jobs) (ap (λ (k : ℕ). tab k (jobIn (a .s .now))) (sym (jobs-are (r .laid))))
     (a .route .now) (a .stops) (r .long) (two-stops r) (r .most) (few-nodes r) (r .form .nodes) (a .h .now) (e .loads) (a .old .now) (r .form .off)
-    (r .form .leg) (a .e .now) (a .l .now) _ (e .starts) (e .lasts) (c .before .before .before .before .length .ensures .0) _
-    (kepts-both (c .before .before .stand-all .ensures) (c .strike-jobs .ensures))
+    (r .form .leg) (a .l .now) (e .lasts) _ (kepts-both (rw (legs-stops r) at (c .before .before .stand-all .ensures)) (c .strike-jobs .ensures))
 
 pub round-spec : {M : Type 1} → statement M
 round-spec =
-    tie.close (tie.spec sub-legs length-requires stand-all-requires strike-jobs-requires returns)
+    tie.close (tie.spec sub-legs stand-all-requires strike-jobs-requires returns)

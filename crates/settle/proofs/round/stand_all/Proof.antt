@@ -1,27 +1,24 @@
 use mathlib.Core.Path.{refl}
 use Prim.Native.Nat.{_-_, _≤_}
 use native.Mathlib.Omega.{arith}
-use Rattle.laws.specs.Table.{Filled}
 use Rattle.day.specs.Tell.{dayOf}
 use Rattle.along.specs.Route.{low}
-use Rattle.settle.specs.Round.{Upto, upto-none, upto-more, upto-all, leftAt, mostAt, standsAt, places-at, stand-kept}
+use Rattle.settle.specs.Round.{Upto, upto-none, upto-more, upto-all, standsAt, places-at, stand-kept}
 use Rattle.settle.specs.Ready.{nodes-most}
 use Rattle.settle.proofs.round.stand_all.Statement.{statement}
 use Rattle.settle.proofs.round.stand_all.Tie as tie
 
 abbrev Inv-loop : tie.InvT-loop
-Inv-loop s at limit old new₀ route spots e l legs total leave most n x₀ new x =
-    (x ≤ n) × Filled 64 (leftAt (dayOf s) route e) 0 legs leave × Filled 64 (mostAt (dayOf s) limit route) 0 legs most
-    × Upto route legs (standsAt (dayOf s) limit route e l total) old x new
+Inv-loop s at limit old new₀ route spots l legs leave most total n x₀ new x = (x ≤ n) × Upto route legs (standsAt (dayOf s) limit route l total) old x new
 
 abbrev μ-loop : tie.MeasureT-loop
-μ-loop s at limit old new₀ route spots e l legs total leave most n x₀ new x = n - x
+μ-loop s at limit old new₀ route spots l legs leave most total n x₀ new x = n - x
 
 legs-of-requires : tie.Need-legs-of-requires Inv-loop μ-loop
-legs-of-requires c κs = let p = c .before .before .before .pre in (p .0 .0, p .1 .0, refl, refl)
+legs-of-requires c κs = let p = c .before .before .before .pre in (p .0 .0, p .1 .0, p .1 .2, refl, refl)
 
 loop-holds : tie.Need-loop-holds Inv-loop μ-loop
-loop-holds c = let p = c .before .before .before .before .pre in (omega arith, c .legs-of .ensures .0, c .legs-of .ensures .1, upto-none (p .0 .1) (p .0 .2))
+loop-holds c = let p = c .before .before .before .before .pre in (omega arith, upto-none (p .0 .1) (p .0 .2))
 
 mul-w : tie.Need-mul-w Inv-loop μ-loop
 mul-w c = omega (arith, nodes-most (c .before .before .before .before .before .before .pre .0 .0))
@@ -31,11 +28,12 @@ element-copy-out-w c = omega (arith, nodes-most (c .before .before .before .befo
 
 stand-requires : tie.Need-stand-requires Inv-loop μ-loop
 stand-requires c κs =
-    let a = c .before .before .before .before .before .before .before .before .before .args in
-    let p = c .before .before .before .before .before .before .before .before .before .pre in
-    let v = c .before .before .before .before .loop .inv in
-    let t = places-at (dayOf (a .s .now)) (a .limit) (a .route .now) (a .e .now) (v .1) (p .0 .4 _) (low (a .s .now)) (p .1 .0) in
-    (p .0 .0, c .before .before .before .loop-test .taken, t, p .1 .2)
+    let l = c .before .before .before .before .before in
+    let b = l .before .before .before .before in
+    let a = b .args in
+    let e = l .legs-of .ensures in
+    let t = places-at (dayOf (a .s .now)) (a .limit) (a .route .now) (e .0) (b .pre .0 .4 _) (low (a .s .now)) (b .pre .1 .0) in
+    (b .pre .0 .0, c .before .before .before .loop-test .taken, t, e .3)
 
 mul-new : tie.Need-mul-new Inv-loop μ-loop
 mul-new c = omega (arith, nodes-most (c .before .before .before .before .before .before .before .before .before .before .pre .0 .0))
@@ -52,15 +50,17 @@ loop-less c = omega arith
 loop-again : tie.Need-loop-again Inv-loop μ-loop
 loop-again c =
     let l = c .before .before .before .before .before in
-    let a = l .before .before .before .before .before .args in
-    let p = l .before .before .before .before .before .pre in
-    let v = l .loop .inv in
+    let b = l .before .before .before .before .before in
+    let a = b .args in
+    let e = l .before .legs-of .ensures in
     let k =
-    stand-kept (dayOf (a .s .now)) (a .limit) (a .route .now) (a .e .now) (v .1) (p .0 .4 _) (a .l .now) (a .total) _ (v .2) (p .1 .1) (c .stand .ensures) in
-    (omega arith, v .1, v .2, upto-more (omega (arith, nodes-most (p .0 .0))) (v .3) k)
+    stand-kept (dayOf (a .s .now)) (a .limit) (a .route .now) (e .0) (b .pre .0 .4 _) (a .l .now) _ _ (e .1) (b .pre .1 .1) (c .stand .ensures) in
+    (omega arith, upto-more (omega (arith, nodes-most (b .pre .0 .0))) (l .loop .inv .1) k)
 
 returns : tie.Need-returns Inv-loop μ-loop
-returns c = upto-all (λ y h. c .before .before .before .before .before .before .pre .0 .3 y (omega arith)) (c .before .loop .inv .3)
+returns c =
+    let b = c .before .before in
+    rw (← b .legs-of .ensures .2) (upto-all (λ y h. b .before .before .before .before .pre .0 .3 y (omega arith)) (c .before .loop .inv .1))
 
 pub stand-all-spec : {M : Type 1} → statement M
 stand-all-spec =

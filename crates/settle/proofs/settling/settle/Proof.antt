@@ -12,25 +12,22 @@ returns : tie.Need-returns
 returns c =
     let b = c .before .before .before in none-open (vanIn (b .args .van)) (b .pre .0) (sym (c .before .none-open .ensures) ∙ c .if1 .taken) (b .pre .1)
 
-starts-requires : tie.Need-starts-requires
-starts-requires c κs = let r = c .before .before .before .before .pre .0 in (r .laid, route-of r, refl)
-
 lasts-requires : tie.Need-lasts-requires
-lasts-requires c κs = let r = c .before .before .before .before .before .before .pre .0 in (r .laid, route-of r, refl)
+lasts-requires c κs = let r = c .before .before .before .before .pre .0 in (r .laid, route-of r, refl)
 
 spots-requires : tie.Need-spots-requires
-spots-requires c κs = let r = c .before .before .before .before .before .before .before .before .pre .0 in (r .long, r .most, near-nodes r, refl)
+spots-requires c κs = let r = c .before .before .before .before .before .before .pre .0 in (r .long, r .most, near-nodes r, refl)
 
 loads-requires : tie.Need-loads-requires
 loads-requires c κs =
-    let r = c .before .before .before .before .before .before .before .before .before .before .before .pre .0 in (r .laid, route-of r, c .before .before .spots .ensures, refl)
+    let r = c .before .before .before .before .before .before .before .before .before .pre .0 in (r .laid, route-of r, c .before .before .spots .ensures, refl)
 
 rounds-requires : tie.Need-rounds-requires
 rounds-requires c κs =
-    let h = c .before .before .before .before .before in
+    let h = c .before .before .before .before in
     let l = h .before .before .before .before .before in
-    let p = l .before .before .before .before .before .before .before .pre in
-    ((p .0, record { starts = l .before .before .starts .ensures; lasts = l .lasts .ensures; loads = h .loads .ensures }, p .2), (p .1, h .before .before .before .spots .ensures))
+    let p = l .before .before .before .before .before .pre in
+    ((p .0, record { lasts = l .lasts .ensures; loads = h .loads .ensures }, p .2), (p .1, h .before .before .before .spots .ensures))
 
 returns-2 : tie.Need-returns-2
 returns-2 c = c .rounds .ensures
@@ -38,4 +35,4 @@ returns-2 c = c .rounds .ensures
 pub settle-spec : {M : Type 1} → statement M
 settle-spec =
     tie.close
-    (tie.spec none-open-requires returns starts-requires lasts-requires spots-requires loads-requires rounds-requires returns-2)
+    (tie.spec none-open-requires returns lasts-requires spots-requires loads-requires rounds-requires returns-2)
