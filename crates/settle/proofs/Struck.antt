@@ -59,14 +59,14 @@ module _ (v : Van) (d : Day) (one : OneEnd (d .jobs)) (rt : List ℕ) (nodes : D
     pub round-seen : Seen d rt (round v d rt o)
     round-seen x p t = seen x p (round-less v d rt o x p t)
 
-    -- the words that a round leaves have the places that it leaves
-    pub round-open : placesOf (setsOf (round v d rt o)) ≡ round v d rt o
-    round-open = λ u x p. places-sets (round v d rt o) round-small x p u
-
     -- a round that leaves every place leaves the words
     pub round-still : o ⊆ round v d rt o → ws ≡ setsOf (round v d rt o)
     round-still less = sets-ext ws (round v d rt o) long (λ x p. T-ext (o x p) (round v d rt o x p) (less x p) (round-less v d rt o x p))
         (λ x p k. decided (round v d rt o x p) (λ u. absurd (omega (arith, round-small x p (true→T _ u) .1))) (λ u. u))
+
+    -- the words that a round leaves have the places that it leaves
+    pub round-open : placesOf (setsOf (round v d rt o)) ≡ round v d rt o
+    round-open = λ u x p. places-sets (round v d rt o) round-small x p u
 
     -- they are the words before exactly if the round strikes nothing
     pub struck-is : strikes v d rt o ≡ not (sameSets ws (setsOf (round v d rt o)))

@@ -242,7 +242,7 @@ pub least-place : {k : ℕ} {l leave at : List ℕ} {w left r : ℕ} {f : ℕ �
 least-place {left = left} a s n h {p} e = a .place p (s .part p (rw e (true→T _ (lowest-has left (omega arith) h))))
 
 -- the tables of a route are those of each word whose places are its legs, and what they leave of it stands
-module _ (d : Day) (limit : ℕ) (l : List ℕ) {leave : List ℕ} {legs : ℕ} (left : Filled 64 (leftAt d l) 0 legs leave) {at : List ℕ} {w : ℕ} (named : Named l at legs w) where
+module _ (d : Day) (l : List ℕ) {leave : List ℕ} {legs : ℕ} (left : Filled 64 (leftAt d l) 0 legs leave) {at : List ℕ} {w : ℕ} (named : Named l at legs w) where
   pub places-at : {k : ℕ} → Low d → Route k l (legs + 1) → PlacesAt k l leave at w
   places-at a r = record {
     place = λ p h. let n = named .leg p h in let i = getD at p 0 in record {
@@ -253,9 +253,9 @@ module _ (d : Day) (limit : ℕ) (l : List ℕ) {leave : List ℕ} {legs : ℕ} 
     };
   }
 
-  pub stand-kept : (z : List ℤ) (total x : ℕ) {most : List ℕ} {r : ℕ} → Filled 64 (mostAt d limit l) 0 legs most → Spotted l at legs
+  pub stand-kept : (limit : ℕ) (z : List ℤ) (total x : ℕ) {most : List ℕ} {r : ℕ} → Filled 64 (mostAt d limit l) 0 legs most → Spotted l at legs
       → Sifted (λ p. fitsLeg d l leave z most total x p (getD at p 0)) w r → Kept l 0 legs (standsAt d limit l z total x) w r
-  stand-kept z total x {most} b s a = sifted-kept s named (record {
+  stand-kept limit z total x {most} b s a = sifted-kept s named (record {
     at = λ q. (
       λ t. let o = a .at q .0 t in (o .0, subst (λ (c : Bool). T c) (here q (o .0)) (o .1)),
       λ t. a .at q .1 (t .0, subst (λ (c : Bool). T c) (sym (here q (t .0))) (t .1)),

@@ -32,7 +32,7 @@ stand-requires c κs =
     let b = l .before .before .before .before in
     let a = b .args in
     let e = l .legs-of .ensures in
-    let t = places-at (dayOf (a .s .now)) (a .limit) (a .route .now) (e .0) (b .pre .0 .4 _) (low (a .s .now)) (b .pre .1 .0) in
+    let t = places-at (dayOf (a .s .now)) (a .route .now) (e .0) (b .pre .0 .4 _) (low (a .s .now)) (b .pre .1 .0) in
     (b .pre .0 .0, c .before .before .before .loop-test .taken, t, e .3)
 
 mul-new : tie.Need-mul-new Inv-loop μ-loop
@@ -54,7 +54,7 @@ loop-again c =
     let a = b .args in
     let e = l .before .legs-of .ensures in
     let k =
-    stand-kept (dayOf (a .s .now)) (a .limit) (a .route .now) (e .0) (b .pre .0 .4 _) (a .l .now) _ _ (e .1) (b .pre .1 .1) (c .stand .ensures) in
+    stand-kept (dayOf (a .s .now)) (a .route .now) (e .0) (b .pre .0 .4 _) (a .limit) (a .l .now) _ _ (e .1) (b .pre .1 .1) (c .stand .ensures) in
     (omega arith, upto-more (omega (arith, nodes-most (b .pre .0 .0))) (l .loop .inv .1) k)
 
 returns : tie.Need-returns Inv-loop μ-loop
