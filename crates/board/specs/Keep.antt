@@ -271,7 +271,7 @@ set-here : (n : ℕ) (b : Board) (x : ℕ) {w : ℕ} → onRoute b x ≡ false �
 unfolding setOk
 set-here n b x o i e h = rw (o, i, e) h
 
-strike-none : (x : ℕ) → strike x 0 ≡ 0
+pub strike-none : (x : ℕ) → strike x 0 ≡ 0
 unfolding strike
 strike-none x = without-no 0 x (has-none x)
 

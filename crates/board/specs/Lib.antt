@@ -1,6 +1,7 @@
 -- What a reader must believe: Route, Board, Fresh, Form, Change.
 -- Their laws: RouteLaws and Shift (nodes put in and taken out), Tests (the form's tests on words), FormLaws (what a state in form knows),
--- Keep (each change keeps the form), Inverse (undoing inverts each), FreshForm (fresh is in form), Places (what each change opens and closes).
+-- Keep (each change keeps the form), Inverse (undoing inverts each), FreshForm (fresh is in form), Places (what each change opens and closes),
+-- Ends (nothing stands past the nodes).
 pub mod Route
 pub mod Board
 pub mod Fresh
@@ -15,3 +16,4 @@ pub mod Keep
 pub mod Inverse
 pub mod FreshForm
 pub mod Places
+pub mod Ends

@@ -1,10 +1,11 @@
-// What a step does to every place set, and how many places are open.
+// What a step does to every place set, and how many places are open. Each pass is over the nodes: past them the sets are empty.
 ghost use mathlib.Core.Path.{_≡_};
 ghost use mathlib.Core.List.{map};
 ghost use Prim.Native.Nat.{_≤_};
 ghost use lib.ListN.{length};
 ghost use Rattle.board.specs.Board.{placesOf};
 ghost use Rattle.board.specs.Change.{heir, strike};
+ghost use Rattle.board.specs.Ends.{Ends};
 
 fn heir_of(w: u64, p: usize, x: usize) -> u64
     ensures { λ r. ⌜ r ≡ heir p x w ⌝ }
@@ -13,12 +14,12 @@ fn heir_of(w: u64, p: usize, x: usize) -> u64
 }
 
 // x is placed after p: where leg p was open, leg x is too.
-pub fn inherit(sets: &mut [u64; 64], p: usize, x: usize)
-    requires { ⌜ length (now sets) ≡ 64 ⌝ }
+pub fn inherit(sets: &mut [u64; 64], n: usize, p: usize, x: usize)
+    requires { ⌜ (length (now sets) ≡ 64) × (n ≤ 64) × Ends n (now sets) ⌝ }
     ensures { λ r. ⌜ now (sets .exit) ≡ map (heir p x) (now (sets .entry)) ⌝ }
 {
     let mut i = 0;
-    while i < 64 {
+    while i < n {
         let w = sets[i];
         sets[i] = heir_of(w, p, x);
         i += 1;
@@ -26,25 +27,26 @@ pub fn inherit(sets: &mut [u64; 64], p: usize, x: usize)
 }
 
 // Leg x is taken out of every set.
-pub fn strike_leg(sets: &mut [u64; 64], x: usize)
-    requires { ⌜ length (now sets) ≡ 64 ⌝ }
+pub fn strike_leg(sets: &mut [u64; 64], n: usize, x: usize)
+    requires { ⌜ (length (now sets) ≡ 64) × (n ≤ 64) × Ends n (now sets) ⌝ }
     ensures { λ r. ⌜ now (sets .exit) ≡ map (strike x) (now (sets .entry)) ⌝ }
 {
     let mut i = 0;
-    while i < 64 {
+    while i < n {
         let w = sets[i];
         sets[i] = bits::without(w, x);
         i += 1;
     }
 }
 
-// The open places in all: for each node the count of ones in its word.
-pub fn count(sets: &[u64; 64]) -> usize
-    ensures { λ r. ⌜ (r ≡ placesOf (now (sets .entry)) 64) × (r ≤ 4096) ⌝ }
+// The open places of the first n nodes: for each the count of ones in its word.
+pub fn count(sets: &[u64; 64], n: usize) -> usize
+    requires { ⌜ n ≤ 64 ⌝ }
+    ensures { λ r. ⌜ (r ≡ placesOf (now (sets .entry)) n) × (r ≤ 4096) ⌝ }
 {
     let mut k = 0;
     let mut y = 0;
-    while y < 64 {
+    while y < n {
         let one = bits::count(sets[y]);
         k += one;
         y += 1;

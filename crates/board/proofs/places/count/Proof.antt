@@ -10,13 +10,13 @@ use Rattle.board.proofs.places.count.Statement.{statement}
 use Rattle.board.proofs.places.count.Tie as tie
 
 abbrev Inv-loop : tie.InvT-loop
-Inv-loop sets k₀ y₀ k y = (y ≤ 64) × (k ≤ 64 * y) × (k ≡ sumBelow y (λ i. ones (getD sets i 0)))
+Inv-loop sets n k₀ y₀ k y = (y ≤ n) × (n ≤ 64) × (k ≤ 64 * y) × (k ≡ sumBelow y (λ i. ones (getD sets i 0)))
 
 abbrev μ-loop : tie.MeasureT-loop
-μ-loop sets k₀ y₀ k y = 64 - y
+μ-loop sets n k₀ y₀ k y = n - y
 
 loop-holds : tie.Need-loop-holds Inv-loop μ-loop
-loop-holds c = (omega arith, omega arith, sym (sum-none _))
+loop-holds c = (omega arith, c .pre, omega arith, sym (sum-none _))
 
 mul-count : tie.Need-mul-count Inv-loop μ-loop
 mul-count c = omega arith
@@ -37,14 +37,14 @@ loop-less : tie.Need-loop-less Inv-loop μ-loop
 loop-less c = omega arith
 
 loop-again : tie.Need-loop-again Inv-loop μ-loop
-loop-again c = let v = c .before .before .before .loop .inv in (omega arith, omega (arith, c .count .ensures .1), sum-next _ _ (v .2) (c .count .ensures .0))
+loop-again c = let v = c .before .before .before .loop .inv in (omega arith, v .1, omega (arith, c .count .ensures .1), sum-next _ _ (v .3) (c .count .ensures .0))
 
 returns : tie.Need-returns Inv-loop μ-loop
 unfolding placesOf
 returns c =
     let v = c .before .loop .inv in
-    let e : c .before .loop .y ≡ 64 = omega arith in
-    (v .2 ∙ ap (λ (i : ℕ). placesOf (c .before .before .args .sets .now) i) e, omega arith)
+    let e : c .before .loop .y ≡ c .before .before .args .n = omega arith in
+    (v .3 ∙ ap (λ (i : ℕ). placesOf (c .before .before .args .sets .now) i) e, omega arith)
 
 pub count-spec : {M : Type 1} → statement M
 count-spec =

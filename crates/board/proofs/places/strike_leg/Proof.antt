@@ -1,22 +1,24 @@
 use borrow.Author.Needs.{needs}
 use native.Mathlib.Omega.{arith}
-use mathlib.Core.Path.{_≡_, sym}
+use mathlib.Core.Path.{_≡_, sym, ap, _∙_}
 use mathlib.Core.List.{map}
 use Prim.Native.Nat.{_≤_, _-_}
 use lib.ListN.{length}
-use Rattle.laws.specs.Sweep.{swept, swept-start, map-turn, map-end}
+use Rattle.laws.specs.Sweep.{swept, swept-start, map-turn}
 use Rattle.board.specs.Change.{strike}
+use Rattle.board.specs.Keep.{strike-none}
+use Rattle.board.specs.Ends.{map-ends}
 use Rattle.board.proofs.places.strike_leg.Statement.{statement}
 use Rattle.board.proofs.places.strike_leg.Tie as tie
 
 abbrev Inv-loop : tie.InvT-loop
-Inv-loop sets₀ x i₀ sets i = (i ≤ 64) × (length sets₀ ≡ 64) × (sets ≡ swept sets₀ (map (strike x) sets₀) i)
+Inv-loop sets₀ n x i₀ sets i = (i ≤ n) × (n ≤ 64) × (length sets₀ ≡ 64) × (sets ≡ swept sets₀ (map (strike x) sets₀) i)
 
 abbrev μ-loop : tie.MeasureT-loop
-μ-loop sets₀ x i₀ sets i = 64 - i
+μ-loop sets₀ n x i₀ sets i = n - i
 
 loop-holds : tie.Need-loop-holds Inv-loop μ-loop
-loop-holds c = (omega arith, c .pre, sym (swept-start _ _))
+loop-holds c = (omega arith, c .pre .1, c .pre .0, sym (swept-start _ _))
 
 mul-w : tie.Need-mul-w Inv-loop μ-loop
 mul-w c = omega arith
@@ -41,10 +43,13 @@ loop-less c = omega arith
 
 loop-again : tie.Need-loop-again Inv-loop μ-loop
 unfolding strike
-loop-again c = let v = c .before .before .before .loop .inv in (omega arith, v .1, map-turn (strike _) _ _ (omega arith) (v .2) (c .without .ensures))
+loop-again c = let v = c .before .before .before .loop .inv in (omega arith, v .1, v .2, map-turn (strike _) _ _ (omega arith) (v .3) (c .without .ensures))
 
 returns : tie.Need-returns Inv-loop μ-loop
-returns c = let v = c .before .loop .inv in map-end (strike _) _ _ (omega arith) (v .2)
+returns c =
+    let l = c .before .loop in
+    let e : l .i ≡ c .before .before .args .n = omega arith in
+    l .inv .3 ∙ ap (swept _ _) e ∙ map-ends _ _ _ (strike-none _) (c .before .before .pre .2)
 
 pub strike-leg-spec : {M : Type 1} → statement M
 strike-leg-spec =
