@@ -1,7 +1,8 @@
 -- The trail: a lent slice of words, two to a record (01, The trail).
+use mathlib.Core.Path.{_≡_}
 use mathlib.Core.Bool.{cond}
 use mathlib.Core.List.{List}
-use Prim.Native.Nat.{ℕ, zero, suc, _+_, _*_, _/_}
+use Prim.Native.Nat.{ℕ, zero, suc, _+_, _*_, _/_, _≤_}
 use lib.ListN.{length, getD, set}
 use lib.Dec.{eqb}
 
@@ -20,6 +21,10 @@ unfoldable pub secondOf : List ℕ → ℕ → ℕ
 secondOf t i = getD t (2 * i + 1) 0
 
 -- ---- settling: one per node whose set shrank, ascending, with the set as it was before
+
+-- the sets differ at the first n nodes only
+abbrev pub Alike : ℕ → List ℕ → List ℕ → Type 0
+Alike n old new = (y : ℕ) → n ≤ y → getD old y 0 ≡ getD new y 0
 
 -- how many of the first k sets differ
 unfoldable pub shrunk : List ℕ → List ℕ → ℕ → ℕ

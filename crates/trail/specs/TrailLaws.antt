@@ -10,7 +10,7 @@ use lib.Seq.{getD-set-same, getD-set-other}
 use lib.Dec.{eqb}
 use borrow.Author.Tests.{eq-eqb, ne-eqb, eqb-true, eqb-false}
 use Rattle.laws.specs.Logic.{decided}
-use Rattle.trail.specs.Trail.{roomOf, pushed, firstOf, secondOf, shrunk, Noted, noteOne, noteBelow}
+use Rattle.trail.specs.Trail.{roomOf, pushed, firstOf, secondOf, Alike, shrunk, Noted, noteOne, noteBelow}
 
 -- ---- a record written
 
@@ -110,3 +110,23 @@ note-all old new (suc k) r t =
     let b = noteBelow old new k (r, t) in
     let g = note-grows old new k r (b .0) (b .1) (noteOne (getD old k 0) (getD new k 0) k b) refl (h .0) in
     (g .0 ∙ ap (λ (j : ℕ). r + shrunk old new j) (add-one k), g .1 ∙ h .1)
+
+-- ---- past the nodes where the sets differ none is counted and none written
+
+shrunk-past : (old new : List ℕ) (n j : ℕ) → Alike n old new → shrunk old new n ≡ shrunk old new (j + n)
+shrunk-past old new n zero h = let e : 0 + n ≡ n = omega arith in rw e refl
+shrunk-past old new n (suc j) h =
+    let e : suc j + n ≡ j + n + 1 = omega arith in
+    rw e (shrunk-past old new n j h ∙ sym (shrunk-same old new (j + n) (h (j + n) (omega arith))))
+
+pub shrunk-end : (old new : List ℕ) (n k : ℕ) → n ≤ k → Alike n old new → shrunk old new n ≡ shrunk old new k
+shrunk-end old new n k l h = let e : (k - n) + n ≡ k = omega arith in rw e at (shrunk-past old new n (k - n) h)
+
+note-past : (old new : List ℕ) (n j : ℕ) (b : Noted) → Alike n old new → noteBelow old new (j + n) b ≡ noteBelow old new n b
+note-past old new n zero b h = let e : 0 + n ≡ n = omega arith in rw e refl
+note-past old new n (suc j) b h =
+    let e : suc j + n ≡ j + n + 1 = omega arith in
+    rw e (note-next old new (j + n) b (note-past old new n j b h) (note-same _ _ (j + n) _ (h (j + n) (omega arith))))
+
+pub note-end : (old new : List ℕ) (n k : ℕ) (b : Noted) → n ≤ k → Alike n old new → noteBelow old new k b ≡ noteBelow old new n b
+note-end old new n k b l h = let e : (k - n) + n ≡ k = omega arith in rw e at (note-past old new n (k - n) b h)

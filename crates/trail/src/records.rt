@@ -3,7 +3,7 @@ ghost use mathlib.Core.Path.{_≡_};
 ghost use mathlib.Core.Bool.{cond};
 ghost use Prim.Native.Nat.{_+_, _^_, _≤_, _<_};
 ghost use lib.Dec.{eqb};
-ghost use Rattle.trail.specs.Trail.{roomOf, pushed, shrunk, noteOne, noteBelow};
+ghost use Rattle.trail.specs.Trail.{roomOf, pushed, Alike, shrunk, noteOne, noteBelow};
 
 // Record i written.
 pub fn push(trail: &mut [u64], i: usize, first: u64, second: u64)
@@ -22,13 +22,14 @@ fn one_more(w: u64, v: u64, k: usize) -> usize
     if w == v { k } else { k + 1 }
 }
 
-// How many sets differ: the records that a settling needs.
-pub fn needed<'a>(old: &'a [u64; 64], new: &'a [u64; 64]) -> usize
+// How many sets differ, which they do at the nodes only: the records that a settling needs.
+pub fn needed<'a>(old: &'a [u64; 64], new: &'a [u64; 64], n: usize) -> usize
+    requires { ⌜ (n ≤ 64) × Alike n (now old) (now new) ⌝ }
     ensures { λ r. ⌜ (r ≡ shrunk (now (old .entry)) (now (new .entry)) 64) × (r ≤ 64) ⌝ }
 {
     let mut k = 0;
     let mut y = 0;
-    while y < 64 {
+    while y < n {
         k = one_more(old[y], new[y], k);
         y += 1;
     }
@@ -48,13 +49,19 @@ fn note_one(trail: &mut [u64], i: usize, w: u64, v: u64, y: usize) -> usize
 }
 
 // A record for each set that shrank, ascending. The answer is the record count.
-pub fn note<'a>(trail: &mut [u64], records: usize, old: &'a [u64; 64], new: &'a [u64; 64]) -> usize
-    requires { ⌜ records + shrunk (now old) (now new) 64 ≤ roomOf (now trail) ⌝ }
+pub fn note<'a>(
+    trail: &mut [u64],
+    records: usize,
+    old: &'a [u64; 64],
+    new: &'a [u64; 64],
+    n: usize,
+) -> usize
+    requires { ⌜ (n ≤ 64) × Alike n (now old) (now new) × (records + shrunk (now old) (now new) 64 ≤ roomOf (now trail)) ⌝ }
     ensures { λ r. ⌜ noteBelow (now (old .entry)) (now (new .entry)) 64 (records, now (trail .entry)) ≡ (r, now (trail .exit)) ⌝ }
 {
     let mut i = records;
     let mut y = 0;
-    while y < 64 {
+    while y < n {
         i = note_one(trail, i, old[y], new[y], y);
         y += 1;
     }

@@ -24,7 +24,7 @@ ghost use Rattle.board.specs.Board.{board, boardOf, stateWith, setOf};
 ghost use Rattle.board.specs.Form.{formWith};
 ghost use Rattle.board.specs.FormLaws.{Sound};
 ghost use Rattle.board.specs.Change.{putSet};
-ghost use Rattle.trail.specs.Trail.{roomOf};
+ghost use Rattle.trail.specs.Trail.{roomOf, Alike};
 ghost use Rattle.trail.specs.Steps.{ran, recorded, placeStep, closeStep, excludeStep, requireStep, settleStep, levelStep, backStep};
 
 // Nothing changed: refused with a number, or 0 where nothing was to be done.
@@ -60,7 +60,7 @@ pub fn place(
     push(trail, i, 512 + x as u64, sets[x]);
     let at = position(route, stops, p);
     insert(route, at + 1, x);
-    inherit(sets, p, x);
+    inherit(sets, n, p, x);
     sets[x] = 0;
     Outcome {
         answer: 0,
@@ -166,17 +166,23 @@ pub fn require(route: &[usize; 64], f: Figures, n: usize, x: usize, trail: &mut 
 }
 
 // Step 5, its sets known: the records of a settling, and the sets become the new ones.
-pub fn settle(sets: &mut [u64; 64], f: Figures, new: &[u64; 64], trail: &mut [u64]) -> Outcome
-    requires { ⌜ (length (now sets) ≡ 64) × (length (now new) ≡ 64) × (f .records ≤ roomOf (now trail)) ⌝ }
+pub fn settle(
+    sets: &mut [u64; 64],
+    f: Figures,
+    new: &[u64; 64],
+    n: usize,
+    trail: &mut [u64],
+) -> Outcome
+    requires { ⌜ (length (now sets) ≡ 64) × (length (now new) ≡ 64) × (n ≤ 64) × Alike n (now sets) (now new) × (f .records ≤ roomOf (now trail)) ⌝ }
     ensures { λ r. ⌜ ((route levels : List ℕ) → settleStep (stateWith route (now (sets .entry)) levels f) (now (trail .entry)) (now (new .entry)) ≡ ran r route (now (sets .exit)) levels (now (trail .exit))) ⌝ }
 {
     let room = trail.len() / 2;
     let i = f.records;
-    let more = needed(sets, new);
+    let more = needed(sets, new, n);
     if room < i + more {
         return same(ROOM, f);
     }
-    let records = note(trail, i, sets, new);
+    let records = note(trail, i, sets, new, n);
     *sets = *new;
     Outcome {
         answer: 0,

@@ -108,7 +108,7 @@ fn undo_placed(
         };
     }
     remove(route, i);
-    strike_leg(sets, x);
+    strike_leg(sets, n, x);
     sets[x] = old;
     Undone {
         fits: true,

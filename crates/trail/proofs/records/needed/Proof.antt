@@ -1,19 +1,19 @@
 use mathlib.Core.Path.{_≡_, ap, _∙_}
-use Prim.Native.Nat.{ℕ, _≤_, _-_}
+use Prim.Native.Nat.{_≤_, _-_}
 use Rattle.trail.specs.Trail.{shrunk}
-use Rattle.trail.specs.TrailLaws.{shrunk-none, shrunk-next}
+use Rattle.trail.specs.TrailLaws.{shrunk-none, shrunk-next, shrunk-end}
 use native.Mathlib.Omega.{arith}
 use Rattle.trail.proofs.records.needed.Statement.{statement}
 use Rattle.trail.proofs.records.needed.Tie as tie
 
 abbrev Inv-loop : tie.InvT-loop
-Inv-loop old new k₀ y₀ k y = (y ≤ 64) × (k ≤ y) × (k ≡ shrunk old new y)
+Inv-loop old new n k₀ y₀ k y = (y ≤ n) × (n ≤ 64) × (k ≤ y) × (k ≡ shrunk old new y)
 
 abbrev μ-loop : tie.MeasureT-loop
-μ-loop old new k₀ y₀ k y = 64 - y
+μ-loop old new n k₀ y₀ k y = n - y
 
 loop-holds : tie.Need-loop-holds Inv-loop μ-loop
-loop-holds c = (omega arith, omega arith, shrunk-none _ _)
+loop-holds c = (omega arith, c .pre .0, omega arith, shrunk-none _ _)
 
 mul-one-more : tie.Need-mul-one-more Inv-loop μ-loop
 mul-one-more c = omega arith
@@ -37,13 +37,14 @@ loop-less : tie.Need-loop-less Inv-loop μ-loop
 loop-less c = omega arith
 
 loop-again : tie.Need-loop-again Inv-loop μ-loop
-loop-again c = let v = c .before .before .before .before .loop .inv in (omega arith, omega (arith, c .one-more .ensures .1), shrunk-next _ _ _ (v .2) (c .one-more .ensures .0))
+loop-again c = let v = c .before .before .before .before .loop .inv in (omega arith, v .1, omega (arith, c .one-more .ensures .1), shrunk-next _ _ _ (v .3) (c .one-more .ensures .0))
 
 returns : tie.Need-returns Inv-loop μ-loop
 returns c =
-    let a = c .before .before .args in
-    let e : c .before .loop .y ≡ 64 = omega arith in
-    (c .before .loop .inv .2 ∙ ap (λ (y : ℕ). shrunk (a .old .now) (a .new .now) y) e, omega arith)
+    let d = c .before .before in
+    let a = d .args in
+    let e : c .before .loop .y ≡ a .n = omega arith in
+    (c .before .loop .inv .3 ∙ ap (shrunk _ _) e ∙ shrunk-end (a .old .now) (a .new .now) (a .n) 64 (d .pre .0) (d .pre .1), omega arith)
 
 pub needed-spec : {M : Type 1} → statement M
 needed-spec =

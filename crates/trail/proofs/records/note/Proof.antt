@@ -2,19 +2,19 @@ use mathlib.Core.Path.{_≡_, refl, _∙_}
 use Prim.Native.Nat.{_≤_, _-_, _+_}
 use lib.ListN.{length}
 use Rattle.trail.specs.Trail.{roomOf, shrunk, noteBelow}
-use Rattle.trail.specs.TrailLaws.{note-none, note-next, note-grows, shrunk-none, shrunk-upto, shrunk-differ}
+use Rattle.trail.specs.TrailLaws.{note-none, note-next, note-grows, note-end, shrunk-none, shrunk-upto, shrunk-differ}
 use native.Mathlib.Omega.{arith}
 use Rattle.trail.proofs.records.note.Statement.{statement}
 use Rattle.trail.proofs.records.note.Tie as tie
 
 abbrev Inv-loop : tie.InvT-loop
-Inv-loop trail₀ records old new i₀ y₀ trail i y = (y ≤ 64) × (i ≡ records + shrunk old new y) × (length trail ≡ length trail₀) × (noteBelow old new y (records, trail₀) ≡ (i, trail))
+Inv-loop trail₀ records old new n i₀ y₀ trail i y = (y ≤ n) × (n ≤ 64) × (i ≡ records + shrunk old new y) × (length trail ≡ length trail₀) × (noteBelow old new y (records, trail₀) ≡ (i, trail))
 
 abbrev μ-loop : tie.MeasureT-loop
-μ-loop trail₀ records old new i₀ y₀ trail i y = 64 - y
+μ-loop trail₀ records old new n i₀ y₀ trail i y = n - y
 
 loop-holds : tie.Need-loop-holds Inv-loop μ-loop
-loop-holds c = let a = c .before .args in (omega arith, omega (arith, shrunk-none (a .old .now) (a .new .now)), refl, note-none _ _ _)
+loop-holds c = let a = c .before .args in (omega arith, c .before .pre .0, omega (arith, shrunk-none (a .old .now) (a .new .now)), refl, note-none _ _ _)
 
 mul-note-one : tie.Need-mul-note-one Inv-loop μ-loop
 mul-note-one c = omega arith
@@ -34,10 +34,10 @@ note-one-requires c κs =
     let l = c .before .before .before .before in
     let v = l .loop .inv in
     let a = l .before .before .args in
-    let h = l .before .before .pre in (
-      c .before .before .before .loop-test .taken,
-      omega (arith, h, l .before .before .good, shrunk-upto (a .old .now) (a .new .now) (l .loop .y) 64 (v .0)),
-      λ d. omega (arith, v .1, v .2, h, shrunk-differ (a .old .now) (a .new .now) (l .loop .y) d, shrunk-upto (a .old .now) (a .new .now) (l .loop .y + 1) 64 (omega arith)),
+    let h = l .before .before .pre .2 in (
+      omega arith,
+      omega (arith, h, l .before .before .good, shrunk-upto (a .old .now) (a .new .now) (l .loop .y) 64 (omega arith)),
+      λ d. omega (arith, v .2, v .3, h, shrunk-differ (a .old .now) (a .new .now) (l .loop .y) d, shrunk-upto (a .old .now) (a .new .now) (l .loop .y + 1) 64 (omega arith)),
     )
 
 add-y : tie.Need-add-y Inv-loop μ-loop
@@ -51,16 +51,17 @@ loop-again c =
     let l = c .before .before .before .before .before .before .before in
     let v = l .loop .inv in
     let e = c .before .before .note-one .ensures in
-    let g = note-grows _ _ _ _ _ _ _ e (v .1) in
-    (omega arith, g .0, g .1 ∙ v .2, note-next _ _ _ _ (v .3) e)
+    let g = note-grows _ _ _ _ _ _ _ e (v .2) in
+    (omega arith, v .1, g .0, g .1 ∙ v .3, note-next _ _ _ _ (v .4) e)
 
 same-length : tie.Need-same-length Inv-loop μ-loop
-same-length c = c .before .loop .inv .2
+same-length c = c .before .loop .inv .3
 
 returns : tie.Need-returns Inv-loop μ-loop
 returns c =
-    let e : c .before .loop .y ≡ 64 = omega arith in
-    rw e at (c .before .loop .inv .3)
+    let d = c .before .before .before in
+    let e : c .before .loop .y ≡ d .args .n = omega arith in
+    note-end _ _ _ 64 _ (d .pre .0) (d .pre .1) ∙ rw e at (c .before .loop .inv .4)
 
 pub note-spec : {M : Type 1} → statement M
 note-spec =

@@ -6,6 +6,7 @@ use Rattle.board.specs.Board.{board, routeOf, setOf}
 use Rattle.board.specs.Change.{placed}
 use Rattle.board.specs.FormLaws.{inner-in}
 use Rattle.board.specs.Keep.{split-inside}
+use Rattle.board.specs.Ends.{sets-end}
 use Rattle.trail.specs.Trail.{roomOf}
 use Rattle.trail.specs.Refusals.{placeRefusal}
 use Rattle.trail.specs.Steps.{placeStep, recorded}
@@ -73,7 +74,7 @@ insert-requires c κs =
     (omega (arith, inside e, c .before .position .ensures, s .small, s .form .route .most), s .wide .route)
 
 inherit-requires : tie.Need-inherit-requires
-inherit-requires c κs = search needs
+inherit-requires c κs = let s = c .before .before .before .before .before .before .before .before .before .before .before .before .before .before .before .pre in (s .wide .sets, s .small, sets-end _ _ s)
 
 mul-sets : tie.Need-mul-sets
 mul-sets c = omega (arith, low (c .before .before .before .before .before .before .before .before .before .before .before))

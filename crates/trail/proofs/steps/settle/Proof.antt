@@ -14,11 +14,11 @@ use Rattle.trail.proofs.steps.settle.Statement.{statement}
 use Rattle.trail.proofs.steps.settle.Tie as tie
 
 needed-requires : tie.Need-needed-requires
-needed-requires c κs = search needs
+needed-requires c κs = let p = c .before .before .pre in (p .2, p .3)
 
 add-if1 : tie.Need-add-if1
 unfolding roomOf
-add-if1 c = let d = c .before .before .before in omega (arith, d .pre .2, c .needed .ensures .1, d .good)
+add-if1 c = let d = c .before .before .before in omega (arith, d .pre .4, c .needed .ensures .1, d .good)
 
 same-requires : tie.Need-same-requires
 same-requires c κs = search needs
@@ -34,7 +34,10 @@ returns c =
 
 note-requires : tie.Need-note-requires
 unfolding roomOf
-note-requires c κs = omega (arith, c .before .before .before .needed .ensures .0, c .before .before .if1 .left)
+note-requires c κs =
+    let n = c .before .before .before in
+    let p = n .before .before .before .pre in
+    (p .2, p .3, omega (arith, n .needed .ensures .0, c .before .before .if1 .left))
 
 same-length : tie.Need-same-length
 same-length c = search needs

@@ -7,6 +7,7 @@ use borrow.Author.Tests.{not-true, not-false}
 use Rattle.board.specs.Board.{board, routeOf, onRoute, legsOf, inner}
 use Rattle.board.specs.Change.{unplaced}
 use Rattle.board.specs.FormLaws.{inner-in, inner-inside}
+use Rattle.board.specs.Ends.{sets-end}
 use Rattle.trail.specs.Undo.{fitsPlaced, stopBefore}
 use Rattle.trail.specs.UndoLaws.{readable, undone-no, undone-yes, placed-out, placed-off, placed-on, placed-test}
 use Rattle.trail.proofs.undo.undo_placed.Statement.{statement}
@@ -74,7 +75,7 @@ remove-requires : tie.Need-remove-requires
 remove-requires c κs = search needs
 
 strike-leg-requires : tie.Need-strike-leg-requires
-strike-leg-requires c κs = search needs
+strike-leg-requires c κs = let s = c .before .before .before .before .before .before .before .before .before .before .before .before .before .pre in (s .wide .sets, s .small, sets-end _ _ s)
 
 mul-sets : tie.Need-mul-sets
 mul-sets c = omega (arith, low (c .before .before .before .before .before .before .before .before .before .before .before .before))
