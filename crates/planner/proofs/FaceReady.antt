@@ -4,16 +4,25 @@ use mathlib.Core.Path.{_≡_, sym, ap, subst, _∙_}
 use mathlib.Core.Bool.{true}
 use mathlib.Core.List.{List}
 use native.Mathlib.Omega.{arith}
+use lib.Dec.{T}
+use lib.ListN.{length, take}
+use Rattle.rules.specs.Day.{Van}
+use Rattle.rules.specs.Plan.{Places}
+use Rattle.rules.proofs.Fixpoint.{settle-less}
+use Rattle.rules.proofs.Forms.{fewer-formed}
 use Rattle.sheet.specs.Section.{nOf}
 use Rattle.sheet.specs.Place.{Laid}
 use Rattle.sheet.specs.declared.Layout.{Layout}
 use Rattle.day.specs.Refuse.{refusal14}
+use Rattle.day.specs.Tell.{dayOf}
 use Rattle.board.specs.Board.{boardOf, routeOf, setOf, openAt}
 use Rattle.board.specs.Form.{inForm, formWith}
 use Rattle.board.specs.FormLaws.{Formed, Sound, in-form}
 use Rattle.board.specs.Held.{Held}
 use Rattle.board.specs.declared.State.{State}
-use Rattle.settle.specs.Ready.{Ready, nodes-most}
+use Rattle.settle.specs.Sets.{placesOf, length-sets}
+use Rattle.settle.specs.Ready.{Ready, Settles, nodes-most}
+use Rattle.settle.proofs.Facts.{settled-open}
 use Rattle.planner.proofs.Plans.{state-formed}
 
 -- a sheet that 1 to 4 do not refuse and a state in form; the plan of its arrays is the plan that its board stands for
@@ -30,6 +39,18 @@ ready {sheet} {at} s z l h e =
       most = omega (arith, f .board .route .most, l .fine .n-high);
       form = state-formed sheet s h z e;
     }
+
+-- the words after settling are as ready as those before
+pub ready-settled : {s : List ℕ} {at : Layout} {l : List ℕ} {n : ℕ} {ws : List ℕ} {marks : ℕ} (v : Van) → Ready s at l n ws marks → {k : ℕ} {vs : List ℕ}
+    → Settles v (dayOf s) (take n l) ws k vs → Ready s at l n vs marks
+ready-settled v r p = record {
+  laid = r .laid;
+  clear = r .clear;
+  long = r .long;
+  sized = ap length (p .sets) ∙ length-sets _;
+  most = r .most;
+  form = fewer-formed (λ x q t. settle-less v _ _ _ x q (subst (λ (o : Places). T (o x q)) (ap placesOf (p .sets) ∙ settled-open v r) t)) (r .form);
+}
 
 -- what the steps ask of the board
 pub sound : {sheet : List ℕ} {at : Layout} (s : State) → Laid sheet at → Held s → inForm (nOf sheet) s ≡ true → Sound (at .nodes) (boardOf s)

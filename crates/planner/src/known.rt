@@ -102,7 +102,7 @@ fn settling(
             after: f,
         };
     }
-    let o = trail::steps::settle(sets, f, &new, trail);
+    let o = trail::steps::settle(sets, f, &new, at.nodes, trail);
     let rounds = if o.answer == 0 { struck } else { 0 };
     let after = o.after;
     Acted {

@@ -224,9 +224,10 @@ pub fn open_places(sheet: &[u8], state: State) -> Counted
             places: 0,
         };
     }
+    let at = layout_of(sheet);
     Counted {
         answer: 0,
-        places: count(&state.sets),
+        places: count(&state.sets, at.nodes),
     }
 }
 

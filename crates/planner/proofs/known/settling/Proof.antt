@@ -1,11 +1,11 @@
-use mathlib.Core.Path.{refl, sym, ap, _∙_}
+use mathlib.Core.Path.{refl, sym, _∙_}
 use mathlib.Core.Logic.{⊎-elim}
-use lib.ListN.{length}
 use borrow.Author.Tests.{ne-eqb}
 use Rattle.board.specs.Board.{stateWith}
-use Rattle.settle.specs.Sets.{length-sets}
-use Rattle.settle.proofs.Facts.{ready-unmarked}
+use Rattle.settle.specs.Ready.{nodes-most}
+use Rattle.settle.proofs.Facts.{ready-unmarked, past-nodes}
 use Rattle.planner.specs.Face.{actOf}
+use Rattle.planner.proofs.FaceReady.{ready-settled}
 use Rattle.planner.proofs.FaceLaws.{settled-is, settled-none}
 use borrow.Author.Needs.{needs}
 use Rattle.planner.proofs.known.settling.Statement.{statement}
@@ -31,7 +31,9 @@ settle-requires-2 : tie.Need-settle-requires-2
 settle-requires-2 c κs =
     let g = c .before .before .before .before in
     let d = g .before .before .before .before .before .before .before in
-    (d .pre .0 .sized, ap length (g .settle .ensures .sets) ∙ length-sets _, d .pre .1)
+    let r = d .pre .0 in
+    let new = ready-settled _ r (g .settle .ensures) in
+    (r .sized, new .sized, nodes-most (r .laid), λ y h. past-nodes r y h ∙ sym (past-nodes new y h), d .pre .1)
 
 same-length : tie.Need-same-length
 same-length c = search needs
