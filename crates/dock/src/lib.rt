@@ -74,7 +74,7 @@ pub fn put_line<'a>(
     ensures { λ r. ⌜ ((levels : List ℕ) → inForm (nOf (now (sheet .entry))) (stateWith (now (route .entry)) (now (sets .entry)) levels (a .after)) ≡ true → Put (now (out .entry)) used (lineOf (now (sheet .entry)) i (acted (a .answer) (a .rounds) (stateWith (now (route .entry)) (now (sets .entry)) levels (a .after)) (now (out .entry)) .0)) r (now (out .exit))) ⌝ }
 {
     let after = a.after;
-    let places = count(sets);
+    let places = count(sets, at.nodes);
     let alive = planner::known::alive(sheet, at, route, sets, after);
     let head = Three {
         first: (i + 1) as u64,

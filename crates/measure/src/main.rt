@@ -101,7 +101,7 @@ fn sum_of(s: Stepped) -> u64 {
     let records = state.records as u64;
     let a = wrapping_add_u64(s.answer as u64, s.rounds as u64);
     let b = wrapping_add_u64(a, records);
-    let places = count(&state.sets);
+    let places = count(&state.sets, 64);
     wrapping_add_u64(b, places as u64)
 }
 

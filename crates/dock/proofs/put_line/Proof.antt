@@ -1,4 +1,7 @@
-use mathlib.Core.Path.{sym}
+use mathlib.Core.Path.{sym, _∙_}
+use Rattle.board.specs.Ends.{places-end}
+use Rattle.settle.specs.Ready.{nodes-most}
+use Rattle.settle.proofs.Facts.{past-nodes}
 use Rattle.dock.specs.Line.{lineOf}
 use Rattle.dock.proofs.Reach.{judged}
 use borrow.Author.Needs.{needs}
@@ -6,7 +9,7 @@ use Rattle.dock.proofs.put_line.Statement.{statement}
 use Rattle.dock.proofs.put_line.Tie as tie
 
 count-requires : tie.Need-count-requires
-count-requires c κs = search needs
+count-requires c κs = nodes-most (c .before .before .before .pre .1)
 
 alive-requires : tie.Need-alive-requires
 alive-requires c κs = search needs
@@ -30,7 +33,8 @@ returns c levels form =
     let o = p .before .before in
     let a = o .before in
     let d = a .before .before .before .before .before in
-    rw (judged _ _ (d .pre .0) form, sym (a .alive .ensures levels), sym (a .before .count .ensures .0), sym (o .one-if .ensures)) (p .put-step .ensures)
+    let places = a .before .count .ensures .0 ∙ places-end _ _ (nodes-most (d .pre .1)) (past-nodes (d .pre .4)) in
+    rw (judged _ _ (d .pre .0) form, sym (a .alive .ensures levels), sym places, sym (o .one-if .ensures)) (p .put-step .ensures)
 
 pub put-line-spec : {M : Type 1} → statement M
 put-line-spec =
