@@ -47,17 +47,17 @@ fn line_ok(s: &[u8], at: usize, n: usize, row: &[i32; 64], first: i32) -> bool
     ok
 }
 
-fn row_ok(s: &[u8], from: usize, n: usize, i: usize) -> bool
-    requires { ⌜ Table (now s) from n × (i < n) ⌝ }
-    ensures { λ r. ⌜ r ≡ shortestRow n (cell (now (s .entry)) from n) i ⌝ }
+// Row i against every other; `row` is room for it, which the rows of a table share.
+fn row_ok(s: &[u8], from: usize, n: usize, i: usize, row: &mut [i32; 64]) -> bool
+    requires { ⌜ Table (now s) from n × (i < n) × (length (now row) ≡ 64) ⌝ }
+    ensures { λ r. ⌜ (r ≡ shortestRow n (cell (now (s .entry)) from n) i) × (length (now (row .exit)) ≡ 64) ⌝ }
 {
-    let mut row = [0i32; 64];
-    read_row(s, from + i * n, n, i, &mut row);
+    read_row(s, from + i * n, n, i, row);
     let mut ok = true;
     let mut j = 0;
     while j < n {
         let first = row[j];
-        let line = line_ok(s, from + j * n, n, &row, first);
+        let line = line_ok(s, from + j * n, n, row, first);
         ok = ok & line;
         j += 1;
     }
@@ -69,9 +69,10 @@ pub fn triangle_ok(s: &[u8], from: usize, n: usize) -> bool
     requires { ⌜ Table (now s) from n ⌝ }
     ensures { λ r. ⌜ r ≡ triangle n (cell (now (s .entry)) from n) ⌝ }
 {
+    let mut row = [0i32; 64];
     let mut i = 0;
     while i < n {
-        if !row_ok(s, from, n, i) {
+        if !row_ok(s, from, n, i, &mut row) {
             return false;
         }
         i += 1;

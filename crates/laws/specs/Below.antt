@@ -6,6 +6,7 @@ use mathlib.Core.Path.{_≡_, refl, sym, ap, _∙_, subst}
 use mathlib.Core.Logic.{⊎-elim}
 use native.Mathlib.Nat.{eq-or-lt-of-le, le-of-suc-le-suc, le-of-suc-le, le-step, le-refl, not-suc-le-zero, le-antisymm}
 use native.Mathlib.Numerals.{add-one}
+use native.Mathlib.Omega.{arith}
 use Rattle.laws.specs.Logic.{true→T, decided}
 
 -- every number below n passes f
@@ -60,6 +61,13 @@ pub below-make : (n : ℕ) (f : ℕ → Bool) → ((i : ℕ) → i < n → f i �
 unfolding allBelow
 below-make zero f h = refl
 below-make (suc n) f h = rw (below-make n f (λ i l. h i (le-step l))) (h n (le-refl (suc n)))
+
+-- every number from n on passes: the others decide
+pub below-ends : (j n : ℕ) (f : ℕ → Bool) → ((i : ℕ) → n ≤ i → f i ≡ true) → allBelow (j + n) f ≡ allBelow n f
+unfolding allBelow
+below-ends zero n f h = let e : 0 + n ≡ n = omega arith in rw e refl
+below-ends (suc j) n f h =
+    let e : suc j + n ≡ suc (j + n) = omega arith in rw (e, h (j + n) (omega arith)) (and-true (allBelow (j + n) f) ∙ below-ends j n f h)
 
 -- not every number passes: one fails
 pub below-find : (n : ℕ) (f : ℕ → Bool) → allBelow n f ≡ false → (i : ℕ) × (i < n) × (f i ≡ false)

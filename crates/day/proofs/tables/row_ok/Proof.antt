@@ -1,6 +1,6 @@
 use borrow.Author.Needs.{needs}
 use native.Mathlib.Omega.{arith}
-use mathlib.Core.Path.{_≡_, refl, _∙_}
+use mathlib.Core.Path.{_≡_, _∙_}
 use Prim.Native.Nat.{_-_, _≤_}
 use Rattle.laws.specs.Below.{allBelow, below-none, flag-goes, flag-done}
 use Rattle.day.specs.Tables.{cell, shortestLine, shortestRow}
@@ -25,7 +25,7 @@ read-row-requires : tie.Need-read-row-requires Inv-loop μ-loop
 read-row-requires c κs =
     let b = c .before .before in
     let e = row-end _ _ (b .pre .1) in
-    ((omega arith, b .pre .1, omega arith, refl), row-low _ _ _ _ (b .pre .0 .low) (b .pre .1))
+    ((omega arith, b .pre .1, omega arith, b .pre .2), row-low _ _ _ _ (b .pre .0 .low) (b .pre .1))
 
 loop-holds : tie.Need-loop-holds Inv-loop μ-loop
 loop-holds c = (search needs, below-none _)
@@ -33,8 +33,8 @@ loop-holds c = (search needs, below-none _)
 mul-first : tie.Need-mul-first Inv-loop μ-loop
 mul-first c = search needs
 
-array-copy-out-first : tie.Need-array-copy-out-first Inv-loop μ-loop
-array-copy-out-first c = omega arith
+element-copy-out-first : tie.Need-element-copy-out-first Inv-loop μ-loop
+element-copy-out-first c = omega arith
 
 mul-line-ok : tie.Need-mul-line-ok Inv-loop μ-loop
 mul-line-ok c = omega (arith, row-end _ _ (c .before .loop-test .taken))
@@ -66,7 +66,10 @@ loop-again c =
 
 returns : tie.Need-returns Inv-loop μ-loop
 unfolding shortestRow
-returns c = flag-done _ _ _ (c .before .loop .inv .0) (c .loop-test .left) (c .before .loop .inv .1)
+returns c = (
+  flag-done _ _ _ (c .before .loop .inv .0) (c .loop-test .left) (c .before .loop .inv .1),
+  c .before .before .read-row .ensures .long,
+)
 
 pub row-ok-spec : {M : Type 1} → statement M
 row-ok-spec =
@@ -79,7 +82,7 @@ row-ok-spec =
     read-row-requires
     loop-holds
     mul-first
-    array-copy-out-first
+    element-copy-out-first
     mul-line-ok
     add-line-ok
     line-ok-requires

@@ -1,7 +1,8 @@
 use native.Mathlib.Omega.{arith}
-use mathlib.Core.Path.{_≡_}
+use mathlib.Core.Path.{_≡_, refl}
 use mathlib.Core.Bool.{true}
 use Prim.Native.Nat.{_-_, _≤_}
+use lib.ListN.{length}
 use Rattle.laws.specs.Below.{allBelow, below-none, below-stops, below-goes, below-done}
 use Rattle.day.specs.Tables.{cell, shortestRow, triangle}
 use borrow.Author.Needs.{needs}
@@ -9,20 +10,20 @@ use Rattle.day.proofs.tables.triangle_ok.Statement.{statement}
 use Rattle.day.proofs.tables.triangle_ok.Tie as tie
 
 abbrev Inv-loop : tie.InvT-loop
-Inv-loop s from n i₀ i = (i ≤ n) × (allBelow i (shortestRow n (cell s from n)) ≡ true)
+Inv-loop s from n row₀ i₀ row i = (i ≤ n) × (length row ≡ 64) × (allBelow i (shortestRow n (cell s from n)) ≡ true)
 
 abbrev μ-loop : tie.MeasureT-loop
-μ-loop s from n i₀ i = n - i
+μ-loop s from n row₀ i₀ row i = n - i
 
 loop-holds : tie.Need-loop-holds Inv-loop μ-loop
-loop-holds c = (search needs, below-none _)
+loop-holds c = (search needs, refl, below-none _)
 
 row-ok-requires : tie.Need-row-ok-requires Inv-loop μ-loop
 row-ok-requires c κs = search needs
 
 returns : tie.Need-returns Inv-loop μ-loop
 unfolding triangle
-returns c = below-stops _ _ _ (c .before .before .loop-test .taken) (c .before .row-ok .ensures) (c .if1 .taken)
+returns c = below-stops _ _ _ (c .before .before .before .loop-test .taken) (c .before .row-ok .ensures .0) (c .if1 .taken)
 
 add-i : tie.Need-add-i Inv-loop μ-loop
 add-i c = omega arith
@@ -31,11 +32,12 @@ loop-less : tie.Need-loop-less Inv-loop μ-loop
 loop-less c = omega arith
 
 loop-again : tie.Need-loop-again Inv-loop μ-loop
-loop-again c = (omega arith, below-goes _ _ (c .before .before .before .loop .inv .1) (c .before .row-ok .ensures) (c .if1 .left))
+loop-again c =
+    let r = c .before .row-ok .ensures in (omega arith, r .1, below-goes _ _ (c .before .before .before .before .loop .inv .2) (r .0) (c .if1 .left))
 
 returns-2 : tie.Need-returns-2 Inv-loop μ-loop
 unfolding triangle
-returns-2 c = below-done _ _ _ (c .before .loop .inv .0) (c .loop-test .left) (c .before .loop .inv .1)
+returns-2 c = below-done _ _ _ (c .before .loop .inv .0) (c .loop-test .left) (c .before .loop .inv .2)
 
 pub triangle-ok-spec : {M : Type 1} → statement M
 triangle-ok-spec =
