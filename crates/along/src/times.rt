@@ -1,4 +1,4 @@
-// E, L and the length of the route.
+// A start at the next stop, and L.
 ghost use mathlib.Core.Path.{_≡_};
 ghost use Prim.Native.Nat.{_+_, _<_, _≤_};
 ghost use lib.ListN.{length, take};
@@ -6,15 +6,13 @@ ghost use lib.IntN.{pos, _-ℤ_};
 ghost use lib.Signed.{mag, leZ};
 ghost use Rattle.laws.specs.Table.{Filled};
 ghost use Rattle.rules.specs.Time.{lastMoment, minZ};
-ghost use Rattle.rules.specs.Metres.{driven};
-ghost use Rattle.rules.specs.Along.{startAt, lastAt};
+ghost use Rattle.rules.specs.Along.{lastAt};
 ghost use Rattle.rules.proofs.AlongLaws.{arrives};
 ghost use Rattle.sheet.specs.Place.{Laid};
 ghost use Rattle.day.specs.Tell.{dayOf};
 ghost use Rattle.along.specs.Route.{Route};
 use day::look::earliest;
 use day::look::latest;
-use day::look::metres;
 use day::look::seconds;
 use day::look::service;
 use sheet::Layout;
@@ -35,24 +33,6 @@ pub fn arrive(s: &[u8], at: Layout, t: usize, p: usize, x: usize) -> usize
     let e = earliest(s, at, x);
     let a = t + service(s, at, p) + seconds(s, at, p, x);
     if e <= a { a } else { e }
-}
-
-// E: the start at each stop, into an array.
-pub fn starts(s: &[u8], at: Layout, route: &[usize; 64], stops: usize, e: &mut [usize; 64])
-    requires { ⌜ Laid (now s) at × Route (at .nodes) (now route) stops × (length (now e) ≡ 64) ⌝ }
-    ensures { λ _. ⌜ Filled 64 (startAt (dayOf (now (s .entry))) (take stops (now (route .entry)))) 0 stops (now (e .exit)) ⌝ }
-{
-    let z = route[0];
-    let mut t = earliest(s, at, z);
-    e[0] = t;
-    let mut i = 0;
-    while i + 1 < stops {
-        let p = route[i];
-        i += 1;
-        let x = route[i];
-        t = arrive(s, at, t, p, x);
-        e[i] = t;
-    }
 }
 
 // The last start at a stop: its own last moment, or what the last start at the next stop, `gap` seconds on, leaves of it.
@@ -89,20 +69,4 @@ pub fn lasts(s: &[u8], at: Layout, route: &[usize; 64], stops: usize, l: &mut [i
         t = before(last_moment(s, at, p), t, gap);
         l[i] = t;
     }
-}
-
-// The metres of the route.
-pub fn length(s: &[u8], at: Layout, route: &[usize; 64], stops: usize) -> usize
-    requires { ⌜ Laid (now s) at × Route (at .nodes) (now route) stops ⌝ }
-    ensures { λ r. ⌜ (r ≡ driven (dayOf (now (s .entry))) (take stops (now (route .entry)))) × (r < 1099511627776) ⌝ }
-{
-    let mut total = 0;
-    let mut i = 0;
-    while i + 1 < stops {
-        let p = route[i];
-        i += 1;
-        let k = route[i];
-        total += metres(s, at, p, k);
-    }
-    total
 }
