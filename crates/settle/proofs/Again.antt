@@ -4,7 +4,7 @@ use Prim.Native.Nat.{ℕ, _-_}
 use mathlib.Core.Bool.{Bool, true, false}
 use mathlib.Core.List.{List}
 use lib.Dec.{T, eqb, ltb}
-use lib.ListN.{getD, take, length}
+use lib.ListN.{getD, take}
 use borrow.Author.Tests.{eqb-true, ltb-true, ltb-false}
 use Rattle.laws.specs.Logic.{decided}
 use Rattle.laws.specs.Below.{allBelow, below-at}
@@ -32,18 +32,20 @@ module _ {s : List ℕ} {at : Layout} {l : List ℕ} {n : ℕ} {ws : List ℕ} (
   pub none-left : sameSets ws first ≡ true → Settles v (dayOf s) (take n l) ws 0 first
   none-left = settle-none v (dayOf s) (one-end s (r .clear)) (take n l) (r .form .nodes) (some-nodes r) ws (r .sized) (places-seen r) (places-small r) f
 
-  pub first-sized : length first ≡ 64
-  first-sized = ready-round v r f .sized
+  pub ready-first : Ready s at l n first 0
+  ready-first = ready-round v r f
 
   module _ {h : List ℕ} (loads : Filled 64 (loadAt (dayOf s) (take n l)) 0 (n - 1) h) {second : List ℕ}
       (kept : Kepts l (n - 1) (jobsOk (pairOk first l h (n - 1) (v .capacity)) (jobIn s) (at .jobs)) first second) where
     -- the round after the first
     again-round : second ≡ setsOf (round v (dayOf s) (take n l) (placesOf first))
     again-round =
-        let q = ready-round v r f in
         again-sets v (dayOf s) (jobIn s) (at .jobs) (ap (λ (k : ℕ). tab k (jobIn s)) (sym (jobs-are (r .laid)))) l n (r .long) (two-stops r) (r .most) (few-nodes r)
-        (r .form .nodes) h loads first (q .form .off) (q .form .leg) (placesOf ws)
+        (r .form .nodes) h loads first (ready-first .form .off) (ready-first .form .leg) (placesOf ws)
         (ap placesOf f ∙ round-open v (dayOf s) (one-end s (r .clear)) (take n l) (r .form .nodes) (some-nodes r) ws (r .sized) (places-seen r) (places-small r)) second kept
+
+    pub ready-second : Ready s at l n second 0
+    ready-second = ready-round v ready-first again-round
 
     -- one strikes, two strike
     pub one-left : sameSets ws first ≡ false → sameSets first second ≡ true → Settles v (dayOf s) (take n l) ws 1 second

@@ -113,6 +113,11 @@ module _ {s : List ℕ} {at : Layout} {l : List ℕ} {n : ℕ} {ws : List ℕ} {
           (getD-take n l j 0 (omega arith) ∙ e ∙ sym (getD-take n l i 0 (omega arith)));
     }
 
+-- so two arrays of words of one sheet are the same past its nodes
+pub past-same : {s : List ℕ} {at : Layout} {l k : List ℕ} {n m : ℕ} {ws vs : List ℕ} {a b : ℕ} → Ready s at l n ws a → Ready s at k m vs b
+    → (y : ℕ) → at .nodes ≤ y → getD ws y 0 ≡ getD vs y 0
+past-same p q y h = past-nodes p y h ∙ sym (past-nodes q y h)
+
 -- a job's nodes have words, and its load is far from the end of 64 bits
 pub asked : {s : List ℕ} {at : Layout} → Laid s at → {l heads h : List ℕ} {highest legs : ℕ} → Walked l heads h highest legs 0 → (i : ℕ) → i < at .jobs → {j : Job}
     → j ≡ jobIn s i

@@ -1,6 +1,6 @@
 // Settling: rounds until one strikes nothing. The rules have that two are enough, so the code makes two and counts those that struck.
 ghost use mathlib.Core.Path.{_≡_};
-ghost use Prim.Native.Nat.{_-_, _<_};
+ghost use Prim.Native.Nat.{ℕ, _-_, _<_, _≤_};
 ghost use lib.ListN.{getD, length, take};
 ghost use lib.Dec.{eqb};
 ghost use Rattle.laws.specs.Below.{allBelow};
@@ -22,14 +22,14 @@ use along::walks::heads;
 use along::walks::highest;
 use sheet::Layout;
 
-// Whether two arrays of sets are the same.
-fn same(a: &[u64; 64], b: &[u64; 64]) -> bool
-    requires { ⌜ (length (now a) ≡ 64) × (length (now b) ≡ 64) ⌝ }
+// Whether two arrays of sets are the same, where they are so from the n-th on.
+fn same(a: &[u64; 64], b: &[u64; 64], n: usize) -> bool
+    requires { ⌜ (length (now a) ≡ 64) × (length (now b) ≡ 64) × (n ≤ 64) × ((i : ℕ) → n ≤ i → getD (now a) i 0 ≡ getD (now b) i 0) ⌝ }
     ensures { λ r. ⌜ r ≡ allBelow 64 (λ i. eqb (getD (now (a .entry)) i 0) (getD (now (b .entry)) i 0)) ⌝ }
 {
     let mut is = true;
     let mut i = 0;
-    while i < 64 {
+    while i < n {
         is = is & (a[i] == b[i]);
         i += 1;
     }
@@ -67,7 +67,8 @@ fn finish(
     requires { ⌜ Filled 64 (loadAt (dayOf (now s)) (take stops (now route))) 0 (stops - 1) (now h) × Walked (now route) (now heads) (now h) highest (stops - 1) 0 ⌝ }
     ensures { λ r. ⌜ Settles (vanIn van) (dayOf (now (s .entry))) (take stops (now (route .entry))) (now (old .entry)) r (now (new .exit)) ⌝ }
 {
-    if same(old, new) {
+    let n = at.nodes;
+    if same(old, new, n) {
         return 0;
     }
     let first = *new;
@@ -84,7 +85,7 @@ fn finish(
         highest,
         legs,
     );
-    if same(&first, new) { 1 } else { 2 }
+    if same(&first, new, n) { 1 } else { 2 }
 }
 
 // The rounds, with L, H and the spots at hand.

@@ -1,9 +1,9 @@
-use mathlib.Core.Path.{refl, sym, _∙_}
+use mathlib.Core.Path.{refl, sym}
 use mathlib.Core.Logic.{⊎-elim}
 use borrow.Author.Tests.{ne-eqb}
 use Rattle.board.specs.Board.{stateWith}
 use Rattle.settle.specs.Ready.{nodes-most}
-use Rattle.settle.proofs.Facts.{ready-unmarked, past-nodes}
+use Rattle.settle.proofs.Facts.{ready-unmarked, past-same}
 use Rattle.planner.specs.Face.{actOf}
 use Rattle.planner.proofs.FaceReady.{ready-settled}
 use Rattle.planner.proofs.FaceLaws.{settled-is, settled-none}
@@ -33,7 +33,7 @@ settle-requires-2 c κs =
     let d = g .before .before .before .before .before .before .before in
     let r = d .pre .0 in
     let new = ready-settled _ r (g .settle .ensures) in
-    (r .sized, new .sized, nodes-most (r .laid), λ y h. past-nodes r y h ∙ sym (past-nodes new y h), d .pre .1)
+    (r .sized, new .sized, nodes-most (r .laid), past-same r new, d .pre .1)
 
 same-length : tie.Need-same-length
 same-length c = search needs

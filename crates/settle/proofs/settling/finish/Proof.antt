@@ -1,13 +1,17 @@
 use mathlib.Core.Path.{sym, _∙_}
 use native.Mathlib.Omega.{arith}
-use Rattle.settle.specs.Ready.{vanIn}
-use Rattle.settle.proofs.Facts.{two-stops}
-use Rattle.settle.proofs.Again.{first-sized, none-left, one-left, two-left}
+use Rattle.settle.specs.Ready.{vanIn, nodes-most}
+use Rattle.settle.proofs.Facts.{two-stops, past-same}
+use Rattle.settle.proofs.Again.{ready-first, ready-second, none-left, one-left, two-left}
 use Rattle.settle.proofs.settling.finish.Statement.{statement}
 use Rattle.settle.proofs.settling.finish.Tie as tie
 
 same-requires : tie.Need-same-requires
-same-requires c κs = let b = c .before .before in (b .pre .0 .0 .sized, first-sized (vanIn (b .args .van)) (b .pre .0 .0) (b .pre .0 .1))
+same-requires c κs =
+    let b = c .before .before in
+    let r = b .pre .0 .0 in
+    let f = ready-first (vanIn (b .args .van)) r (b .pre .0 .1) in
+    (r .sized, f .sized, nodes-most (r .laid), past-same r f)
 
 returns : tie.Need-returns
 returns c =
@@ -19,13 +23,16 @@ sub-legs c = omega (arith, two-stops (c .before .before .before .before .before 
 again-requires : tie.Need-again-requires
 again-requires c κs =
     let b = c .before .before .before .before .before .before .before in
-    let n = first-sized (vanIn (b .args .van)) (b .pre .0 .0) (b .pre .0 .1) in
-    (b .pre .0 .0 .laid, n, n, b .pre .1 .1)
+    let f = ready-first (vanIn (b .args .van)) (b .pre .0 .0) (b .pre .0 .1) in
+    (f .laid, f .sized, f .sized, b .pre .1 .1)
 
 same-requires-2 : tie.Need-same-requires-2
 same-requires-2 c κs =
     let b = c .before .before .before .before .before .before .before .before .before .before in
-    (first-sized (vanIn (b .args .van)) (b .pre .0 .0) (b .pre .0 .1), c .before .before .again .ensures .long)
+    let v = vanIn (b .args .van) in
+    let f = ready-first v (b .pre .0 .0) (b .pre .0 .1) in
+    let g = ready-second v (b .pre .0 .0) (b .pre .0 .1) (b .pre .1 .0) (c .before .before .again .ensures) in
+    (f .sized, g .sized, nodes-most (f .laid), past-same f g)
 
 returns-2 : tie.Need-returns-2
 returns-2 c =

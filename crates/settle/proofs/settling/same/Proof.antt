@@ -1,20 +1,21 @@
-use mathlib.Core.Path.{_≡_, refl}
-use Prim.Native.Nat.{_-_, _≤_}
+use mathlib.Core.Path.{_≡_, refl, sym, _∙_}
+use Prim.Native.Nat.{_+_, _-_, _≤_}
 use native.Mathlib.Omega.{arith}
 use lib.Dec.{eqb}
 use lib.ListN.{getD}
-use Rattle.laws.specs.Below.{allBelow, below-none, flag-goes, flag-done}
+use borrow.Author.Tests.{eq-eqb}
+use Rattle.laws.specs.Below.{allBelow, below-none, below-ends, flag-goes, flag-done}
 use Rattle.settle.proofs.settling.same.Statement.{statement}
 use Rattle.settle.proofs.settling.same.Tie as tie
 
 abbrev Inv-loop : tie.InvT-loop
-Inv-loop a b is₀ i₀ is i = (i ≤ 64) × (allBelow i (λ k. eqb (getD a k 0) (getD b k 0)) ≡ is)
+Inv-loop a b n is₀ i₀ is i = (i ≤ n) × (n ≤ 64) × (allBelow i (λ k. eqb (getD a k 0) (getD b k 0)) ≡ is)
 
 abbrev μ-loop : tie.MeasureT-loop
-μ-loop a b is₀ i₀ is i = 64 - i
+μ-loop a b n is₀ i₀ is i = n - i
 
 loop-holds : tie.Need-loop-holds Inv-loop μ-loop
-loop-holds c = (omega arith, below-none _)
+loop-holds c = (omega arith, c .pre .2, below-none _)
 
 mul-is : tie.Need-mul-is Inv-loop μ-loop
 mul-is c = omega arith
@@ -37,10 +38,15 @@ loop-less c = omega arith
 loop-again : tie.Need-loop-again Inv-loop μ-loop
 loop-again c =
     let l = c .before .before .before in
-    (omega arith, flag-goes _ (λ k. eqb (getD (l .before .args .a .now) k 0) (getD (l .before .args .b .now) k 0)) (l .loop .inv .1) refl)
+    let v = l .loop .inv in
+    (omega arith, v .1, flag-goes _ (λ k. eqb (getD (l .before .args .a .now) k 0) (getD (l .before .args .b .now) k 0)) (v .2) refl)
 
 returns : tie.Need-returns Inv-loop μ-loop
-returns c = flag-done _ _ _ (c .before .loop .inv .0) (c .loop-test .left) (c .before .loop .inv .1)
+returns c =
+    let v = c .before .loop .inv in
+    let b = c .before .before in
+    let e : 64 - b .args .n + b .args .n ≡ 64 = omega (arith, b .pre .2) in
+    flag-done _ _ _ (v .0) (c .loop-test .left) (v .2) ∙ sym (rw e at (below-ends (64 - b .args .n) _ _ (λ i h. eq-eqb _ _ (b .pre .3 i h))))
 
 pub same-spec : {M : Type 1} → statement M
 same-spec =
