@@ -15,7 +15,6 @@ use libc::STDOUT_FILENO;
 use listing::put_number;
 use listing::put_refused;
 use listing::put_route;
-use planner::Stepped;
 use sheet::Layout;
 use std::num::wrapping_add_u64;
 
@@ -96,12 +95,19 @@ fn listing_of(sheet: &[u8], trail: &mut [u64], out: &mut [u8]) -> u64
     weigh_first(out, used)
 }
 
-fn sum_of(s: Stepped) -> u64 {
-    let state = s.state;
-    let records = state.records as u64;
+// One step: the sum of what it gives.
+fn one_step(
+    sheet: &[u8],
+    state: State,
+    trail: &mut [u64],
+    kind: usize,
+    first: usize,
+    second: usize,
+) -> u64 {
+    let s = planner::step(sheet, state, trail, kind, first, second);
     let a = wrapping_add_u64(s.answer as u64, s.rounds as u64);
-    let b = wrapping_add_u64(a, records);
-    let places = count(&state.sets, 64);
+    let b = wrapping_add_u64(a, s.state.records as u64);
+    let places = count(&s.state.sets, 64);
     wrapping_add_u64(b, places as u64)
 }
 
@@ -119,7 +125,7 @@ fn ask(operation: usize, sheet: &[u8], state: State, trail: &mut [u64], half: us
             let opened = o.state;
             wrapping_add_u64(o.answer as u64, opened.stops as u64)
         },
-        2 => sum_of(planner::step(sheet, state, trail, 1, half - 2, half - 1)),
+        2 => one_step(sheet, state, trail, 1, half - 2, half - 1),
         6 => {
             let v = planner::verdict(sheet, state);
             wrapping_add_u64(v.answer as u64, one_if(v.alive))
@@ -128,7 +134,7 @@ fn ask(operation: usize, sheet: &[u8], state: State, trail: &mut [u64], half: us
             let p = planner::open_places(sheet, state);
             wrapping_add_u64(p.answer as u64, p.places as u64)
         },
-        _ => sum_of(planner::step(sheet, state, trail, 5, 0, 0)),
+        _ => one_step(sheet, state, trail, 5, 0, 0),
     }
 }
 
