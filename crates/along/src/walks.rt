@@ -2,6 +2,7 @@
 ghost use mathlib.Core.Path.{_≡_};
 ghost use Prim.Native.Nat.{ℕ, _+_, _-_, _<_, _≤_};
 ghost use lib.ListN.{getD, length};
+ghost use lib.Dec.{leb};
 ghost use Rattle.along.specs.Walks.{Kept, Legs, Heads, peak, through, between, ridesUp, ridesDown};
 ghost use Rattle.along.specs.Stretches.{First, Last, Under, full, boards, alights};
 
@@ -43,12 +44,20 @@ impl Ride {
     }
 }
 
+// Whether the leg on which `highest` is aboard has room for the load. If it is the fullest, every leg has.
+pub fn roomy(highest: usize, load: usize, capacity: usize) -> bool
+    requires { ⌜ (highest < 1099511627776) × (load < 4294967296) ⌝ }
+    ensures { λ r. ⌜ r ≡ leb (highest + load) capacity ⌝ }
+{
+    highest + load <= capacity
+}
+
 // The first leg from `from` on, of `legs`, on which the load does not fit; `highest` is the most that is aboard on any leg.
 fn fits_until(h: &[usize; 64], highest: usize, from: usize, legs: usize, ride: Ride) -> usize
     requires { ⌜ Under (now h) legs highest × (legs < 64) × (from ≤ legs) × (ride .load < 4294967296) ⌝ }
     ensures { λ r. ⌜ First (full (now (h .entry)) ride) from legs r ⌝ }
 {
-    if highest + ride.load <= ride.capacity {
+    if roomy(highest, ride.load, ride.capacity) {
         return legs;
     }
     let mut i = from;
@@ -66,7 +75,7 @@ fn fits_since(h: &[usize; 64], highest: usize, from: usize, ride: Ride) -> usize
     requires { ⌜ Under (now h) from highest × (from < 64) × (ride .load < 4294967296) ⌝ }
     ensures { λ r. ⌜ Last (full (now (h .entry)) ride) from r ⌝ }
 {
-    if highest + ride.load <= ride.capacity {
+    if roomy(highest, ride.load, ride.capacity) {
         return 0;
     }
     let mut i = from;

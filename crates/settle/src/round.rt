@@ -19,6 +19,7 @@ use crate::places::stand;
 use along::walks::Ride;
 use along::walks::backward;
 use along::walks::forward;
+use along::walks::roomy;
 use rules::Job;
 use sheet::Layout;
 
@@ -74,7 +75,7 @@ fn strike_clean(
     requires { ⌜ (node < 64) × (length (now new) ≡ 64) × Walked (now route) (now heads) (now h) highest legs load ⌝ }
     ensures { λ _. ⌜ Kepts (now (route .entry)) legs (cleanOk node load (now (route .entry)) (now (h .entry)) capacity) (now (new .entry)) (now (new .exit)) ⌝ }
 {
-    if highest + load <= capacity {
+    if roomy(highest, load, capacity) {
         return;
     }
     let w = new[node];
@@ -99,7 +100,7 @@ fn strike_soiled(
     requires { ⌜ (node < 64) × (length (now new) ≡ 64) × Walked (now route) (now heads) (now h) highest legs load ⌝ }
     ensures { λ _. ⌜ Kepts (now (route .entry)) legs (soiledOk node load (now (route .entry)) (now (h .entry)) legs capacity) (now (new .entry)) (now (new .exit)) ⌝ }
 {
-    if highest + load <= capacity {
+    if roomy(highest, load, capacity) {
         return;
     }
     let w = new[node];

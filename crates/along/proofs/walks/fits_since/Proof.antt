@@ -1,8 +1,8 @@
 use borrow.Author.Needs.{needs}
 use Prim.Native.Nat.{_≤_, _-_}
 use native.Mathlib.Omega.{arith}
-use borrow.Author.Tests.{le-leb, lt-leb}
-use mathlib.Core.Path.{ap}
+use borrow.Author.Tests.{leb-true, le-leb, lt-leb}
+use mathlib.Core.Path.{ap, sym, _∙_}
 use mathlib.Core.Bool.{not}
 use Rattle.along.specs.Stretches.{Fails, full, fails-none, fails-down, under-room}
 use Rattle.along.proofs.walks.fits_since.Statement.{statement}
@@ -14,13 +14,13 @@ Inv-loop h highest from ride i₀ i = (i ≤ from) × Fails (full h ride) i from
 abbrev μ-loop : tie.MeasureT-loop
 μ-loop h highest from ride i₀ i = i
 
-add-if1 : tie.Need-add-if1 Inv-loop μ-loop
-add-if1 c = omega (arith, c .before .pre .0 .low)
+roomy-requires : tie.Need-roomy-requires Inv-loop μ-loop
+roomy-requires c κs = (c .pre .0 .low, omega arith)
 
 returns : tie.Need-returns Inv-loop μ-loop
 returns c =
-    let d = c .before .before .before in
-    record { high = omega arith; fails = under-room (d .args .ride) _ (d .pre .0) (c .if1 .taken); at = λ b. absurd (omega arith) }
+    let d = c .before .before in
+    record { high = omega arith; fails = under-room (d .args .ride) _ (d .pre .0) (leb-true _ _ (sym (c .before .roomy .ensures) ∙ c .if1 .taken)); at = λ b. absurd (omega arith) }
 
 loop-holds : tie.Need-loop-holds Inv-loop μ-loop
 loop-holds c = (omega arith, fails-none _ _ _ (omega arith))
@@ -37,7 +37,7 @@ element-copy-out-if2 c = search needs
 add-if2 : tie.Need-add-if2 Inv-loop μ-loop
 add-if2 c =
     let l = c .before .before .before in
-    let u = l .before .before .before .before .pre .0 in
+    let u = l .before .before .before .pre .0 in
     omega (arith, u .low, u .most (l .loop .i - 1) (omega arith))
 
 returns-2 : tie.Need-returns-2 Inv-loop μ-loop
@@ -65,7 +65,7 @@ fits-since-spec =
     (tie.spec
     Inv-loop
     μ-loop
-    add-if1
+    roomy-requires
     returns
     loop-holds
     sub-if2
