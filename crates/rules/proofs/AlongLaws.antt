@@ -40,9 +40,6 @@ behind-take l n (suc i) h = λ u. getD-take n l i 0 h u ∷ behind-take l n i (o
 
 -- ---- E and L
 
-pub start-next : (d : Day) (l : List ℕ) (i : ℕ) → startAt d l (suc i) ≡ arrives d (startAt d l i) (getD l i 0) (getD l (suc i) 0)
-start-next d l i = refl
-
 pub last-next : (d : Day) (l : List ℕ) (i : ℕ) → suc i < length l
     → lastAt d l i ≡ minZ (lastMoment d (getD l i 0)) (lastAt d l (suc i) -ℤ pos (d .service (getD l i 0) + d .seconds (getD l i 0) (getD l (suc i) 0)))
 last-next d l i h = ap (λ (B : List ℕ). lastStart d B (getD l i 0)) (drop-cons l (suc i) 0 h)

@@ -5,7 +5,7 @@ use mathlib.Core.Bool.{Bool, true, false, cond, _&&_}
 use mathlib.Core.List.{List}
 use native.Mathlib.Nat.{pow-succ'}
 use native.Mathlib.Omega.{arith}
-use lib.Dec.{T, eqb, ltb, lit<}
+use lib.Dec.{T, eqb, ltb}
 use borrow.Author.Tests.{eqb-true, eqb-false, ltb-true, ltb-false, lt-ltb, le-ltb}
 use lib.ListN.{getD, length, take, List·getD-eq-default}
 use lib.Seq.{ext-getD}
@@ -13,7 +13,7 @@ use Rattle.laws.specs.Logic.{decided, true→T}
 use Rattle.laws.specs.Table.{tab, length-tab, getD-tab}
 use Rattle.bits.specs.Places.{has, with}
 use Rattle.bits.specs.Digits.{digits-ext}
-use Rattle.bits.specs.Members.{has-none, with-same, with-other, with-fits, same-has}
+use Rattle.bits.specs.Members.{has-none, with-same, with-other, same-has}
 use Rattle.rules.specs.Plan.{Plan, Places}
 
 -- node x is open in the leg that leaves p: bit p of its word
@@ -103,20 +103,3 @@ places-sets o small x p = decided (ltb x 64) (λ t. near (ltb-true x 64 t)) (λ 
         ap (λ (w : ℕ). has w p) (List·getD-eq-default (tab 64 (λ x. wordOf 64 (o x))) 0 {n = x} (omega (arith, length-tab 64 (λ x. wordOf 64 (o x)))))
         ∙ has-none p
         ∙ sym (shut (λ a b. omega arith))
-
--- ---- they are words of 64 bits
-
-word-fits : (k : ℕ) (f : ℕ → Bool) → wordOf k f < 2 ^ 64
-unfolding wordOf
-word-fits zero f = lit< tt
-word-fits (suc k) f = go (f k) (word-fits k f)
-  where
-    go : (b : Bool) → wordOf k f < 2 ^ 64 → cond b (with (wordOf k f) k) (wordOf k f) < 2 ^ 64
-    go true h = with-fits (wordOf k f) k h
-    go false h = h
-
-pub sets-fit : (o : Places) (x : ℕ) → getD (setsOf o) x 0 < 2 ^ 64
-unfolding setsOf
-sets-fit o x = decided (ltb x 64)
-    (λ t. rw (getD-tab 64 (λ x. wordOf 64 (o x)) 0 x (ltb-true x 64 t)) (word-fits 64 (o x)))
-    (λ t. rw (List·getD-eq-default (tab 64 (λ x. wordOf 64 (o x))) 0 {n = x} (omega (arith, length-tab 64 (λ x. wordOf 64 (o x)), ltb-false x 64 t))) (lit< tt))
