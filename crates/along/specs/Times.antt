@@ -1,6 +1,6 @@
 -- A step along the route, forward and back: how E and L go from one stop to the next, and how large they can be.
 use mathlib.Core.Path.{_≡_, refl, sym, ap, _∙_}
-use Prim.Native.Nat.{ℕ, zero, suc, _+_, _-_, _*_, _<_, _≤_}
+use Prim.Native.Nat.{ℕ, zero, suc, max, _+_, _-_, _*_, _<_, _≤_}
 use mathlib.Core.List.{List, [], _∷_}
 use mathlib.Core.Logic.{⊎-elim}
 use native.Mathlib.Numerals.{add-one}
@@ -26,6 +26,10 @@ pub record Low (d : Day) : Type 0 where
   pub metres : (x y : ℕ) → d .metres x y < 4294967296
 
 -- ---- E
+
+-- the start at x of a van that leaves p at u
+abbrev pub reached : Day → ℕ → ℕ → ℕ → ℕ
+reached d u p x = max (d .earliest x) (u + d .seconds p x)
 
 pub start-first : (d : Day) (l : List ℕ) (n : ℕ) → 0 < n → d .earliest (getD l 0 0) ≡ startAt d (take n l) 0
 start-first d l n h = rw (getD-take n l 0 0 h)

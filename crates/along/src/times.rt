@@ -11,6 +11,7 @@ ghost use Rattle.rules.proofs.AlongLaws.{arrives};
 ghost use Rattle.sheet.specs.Place.{Laid};
 ghost use Rattle.day.specs.Tell.{dayOf};
 ghost use Rattle.along.specs.Route.{Route};
+ghost use Rattle.along.specs.Times.{reached};
 use day::look::earliest;
 use day::look::latest;
 use day::look::seconds;
@@ -25,14 +26,23 @@ pub fn last_moment(s: &[u8], at: Layout, x: usize) -> i64
     latest(s, at, x) as i64
 }
 
+// The start at x of a van that leaves p at `leave`.
+pub fn reach(s: &[u8], at: Layout, leave: usize, p: usize, x: usize) -> usize
+    requires { ⌜ Laid (now s) at × (p < at .nodes) × (x < at .nodes) × (leave < 2199023255552) ⌝ }
+    ensures { λ r. ⌜ (r ≡ reached (dayOf (now (s .entry))) leave p x) × (r ≤ leave + 1000000) ⌝ }
+{
+    let e = earliest(s, at, x);
+    let a = leave + seconds(s, at, p, x);
+    if e <= a { a } else { e }
+}
+
 // The start at x of a van that starts at p at the time t.
 pub fn arrive(s: &[u8], at: Layout, t: usize, p: usize, x: usize) -> usize
     requires { ⌜ Laid (now s) at × (p < at .nodes) × (x < at .nodes) × (t < 1099511627776) ⌝ }
     ensures { λ r. ⌜ (r ≡ arrives (dayOf (now (s .entry))) t p x) × (r ≤ t + 2000000) ⌝ }
 {
-    let e = earliest(s, at, x);
-    let a = t + service(s, at, p) + seconds(s, at, p, x);
-    if e <= a { a } else { e }
+    let leave = t + service(s, at, p);
+    reach(s, at, leave, p, x)
 }
 
 // The last start at a stop: its own last moment, or what the last start at the next stop, `gap` seconds on, leaves of it.

@@ -1,6 +1,6 @@
 -- A round of settling over all words, from arrays: which places window, metres and the jobs leave.
 use mathlib.Core.Path.{_≡_, refl, sym, ap, _∙_, subst}
-use Prim.Native.Nat.{ℕ, max, _+_, _^_, _<_, _≤_}
+use Prim.Native.Nat.{ℕ, _+_, _^_, _<_, _≤_}
 use mathlib.Core.Bool.{Bool, true, false, not, _&&_, _||_}
 use mathlib.Core.List.{List}
 use mathlib.Core.Logic.{_↔_}
@@ -25,7 +25,7 @@ use Rattle.rules.proofs.AlongLaws.{arrives}
 use Rattle.bits.specs.Places.{has, without, lowest}
 use Rattle.bits.specs.Members.{has-none, without-yes, without-same, without-other, without-part}
 use Rattle.bits.specs.Masks.{lowest-has}
-use Rattle.along.specs.Times.{Low, start-low}
+use Rattle.along.specs.Times.{Low, start-low, reached}
 use Rattle.along.specs.Route.{Route, node-at}
 use Rattle.along.specs.Walks.{struck, struck-has, Kept, kept-same, kept-both, kept-all, kept-zero, Legs, Heads, peak, through, between, ridesUp, ridesDown}
 
@@ -191,10 +191,6 @@ abbrev pub standsAt : Day → ℕ → List ℕ → List ℤ → ℕ → ℕ → 
 standsAt d limit l z total x i = stands d limit x (getD l i 0) (getD l (i + 1) 0) (startAt d l i) (getD z (i + 1) (pos 0)) total
 
 -- ---- the same from what no node changes: when p is left, and how long the route may be with the leg still counted
-
--- the start at x of a van that leaves p at u
-abbrev pub reached : Day → ℕ → ℕ → ℕ → ℕ
-reached d u p x = max (d .earliest x) (u + d .seconds p x)
 
 abbrev pub windowFrom : Day → ℕ → ℕ → ℕ → ℕ → ℤ → Bool
 windowFrom d x p k u z = inTime d x (reached d u p x) && leZ (pos (reached d u p x + d .service x + d .seconds x k)) z

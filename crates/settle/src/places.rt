@@ -1,6 +1,6 @@
 // The tests of a place that read the route only: window and metres.
 ghost use mathlib.Core.Path.{_≡_};
-ghost use Prim.Native.Nat.{_+_, _<_, _≤_};
+ghost use Prim.Native.Nat.{_+_, _<_};
 ghost use lib.ListN.{getD, take, length};
 ghost use Rattle.laws.specs.Table.{Filled};
 ghost use Rattle.rules.specs.Metres.{driven};
@@ -8,24 +8,15 @@ ghost use Rattle.sheet.specs.Place.{Laid};
 ghost use Rattle.day.specs.Tell.{dayOf};
 ghost use Rattle.along.specs.Route.{Route};
 ghost use Rattle.along.specs.Walks.{struck};
-ghost use Rattle.settle.specs.Round.{reached, windowFrom, fitsIn, fitsLeg, leftAt, mostAt, Sifted, PlaceAt, PlacesAt};
+ghost use Rattle.settle.specs.Round.{windowFrom, fitsIn, fitsLeg, leftAt, mostAt, Sifted, PlaceAt, PlacesAt};
 use along::times::in_time;
 use along::times::last_moment;
+use along::times::reach;
 use day::look::earliest;
 use day::look::metres;
 use day::look::seconds;
 use day::look::service;
 use sheet::Layout;
-
-// The start at x of a van that leaves p at `leave`.
-fn reach(s: &[u8], at: Layout, leave: usize, p: usize, x: usize) -> usize
-    requires { ⌜ Laid (now s) at × (p < at .nodes) × (x < at .nodes) × (leave < 2199023255552) ⌝ }
-    ensures { λ r. ⌜ (r ≡ reached (dayOf (now (s .entry))) leave p x) × (r ≤ leave + 1000000) ⌝ }
-{
-    let e = earliest(s, at, x);
-    let a = leave + seconds(s, at, p, x);
-    if e <= a { a } else { e }
-}
 
 // Window: x between p, which is left at `leave`, and k, which has to be started by `last`.
 fn window(s: &[u8], at: Layout, x: usize, p: usize, k: usize, leave: usize, last: i64) -> bool
