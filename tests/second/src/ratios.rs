@@ -21,8 +21,25 @@ fn sheet(n: usize) -> Vec<u8> {
     draft.bytes()
 }
 
-/// Result line and nanoseconds of all the times; without a clock of its own, timed from here.
-fn run(command: &[String], operation: u64, times: u64, sheet: &[u8]) -> Result<(String, f64), String> {
+/// Nanoseconds of a run, and how many of them it would take for no times at all.
+#[derive(Clone, Copy)]
+struct Took {
+    whole: f64,
+    idle: f64,
+}
+
+impl Took {
+    fn least(self, other: Took) -> Took {
+        Took { whole: self.whole.min(other.whole), idle: self.idle.min(other.idle) }
+    }
+
+    fn net(self) -> f64 {
+        (self.whole - self.idle).max(1.0)
+    }
+}
+
+/// Result line and time; without a clock of its own, timed from here, beside a run of 0 times.
+fn run(command: &[String], operation: u64, times: u64, sheet: &[u8]) -> Result<(String, Took), String> {
     let once = |times: u64| -> Result<(String, f64), String> {
         let mut input = operation.to_le_bytes().to_vec();
         input.extend(times.to_le_bytes());
@@ -36,8 +53,11 @@ fn run(command: &[String], operation: u64, times: u64, sheet: &[u8]) -> Result<(
     let mut lines = text.lines();
     let result = lines.next().unwrap_or("nothing").to_string();
     match lines.next().and_then(|line| line.strip_prefix("nanoseconds ")) {
-        Some(inside) => Ok((result, inside.parse().map_err(|_| format!("cannot read time '{inside}'"))?)),
-        None => Ok((result, (outside - once(0)?.1).max(1.0))),
+        Some(inside) => {
+            let whole = inside.parse().map_err(|_| format!("cannot read time '{inside}'"))?;
+            Ok((result, Took { whole, idle: 0.0 }))
+        }
+        None => Ok((result, Took { whole: outside, idle: once(0)?.1 })),
     }
 }
 
@@ -45,7 +65,7 @@ fn run(command: &[String], operation: u64, times: u64, sheet: &[u8]) -> Result<(
 fn times_for(command: &[String], operation: u64, sheet: &[u8], wanted: f64) -> Result<u64, String> {
     let mut times = 1;
     loop {
-        let (_, took) = run(command, operation, times, sheet)?;
+        let took = run(command, operation, times, sheet)?.1.net();
         if took >= wanted / 4.0 || times > 1 << 30 {
             return Ok(((times as f64 * wanted / took) as u64).max(1));
         }
@@ -53,15 +73,15 @@ fn times_for(command: &[String], operation: u64, sheet: &[u8], wanted: f64) -> R
     }
 }
 
-/// Nanoseconds a time, plain and other.
+/// Nanoseconds a time, plain and other: the least whole run less the least idle one, so that no slow idle run makes a side look fast.
 fn measure(pair: &[Vec<String>; 2], operation: u64, sheet: &[u8], wanted: f64) -> Result<[f64; 2], String> {
     let times = times_for(&pair[0], operation, sheet, wanted)?;
-    let mut least = [f64::MAX; 2];
+    let mut least = [Took { whole: f64::MAX, idle: f64::MAX }; 2];
     for _ in 0..TURNS {
         let mut results = vec![];
         for (i, command) in pair.iter().enumerate() {
             let (result, took) = run(command, operation, times, sheet)?;
-            least[i] = least[i].min(took / times as f64);
+            least[i] = least[i].least(took);
             results.push(result);
         }
         if results[0] != results[1] || !results[0].starts_with("result ") {
@@ -71,7 +91,7 @@ fn measure(pair: &[Vec<String>; 2], operation: u64, sheet: &[u8], wanted: f64) -
             ));
         }
     }
-    Ok(least)
+    Ok(least.map(|took| took.net() / times as f64))
 }
 
 fn table(pair: &[Vec<String>; 2], wanted: f64) -> Result<(), String> {
