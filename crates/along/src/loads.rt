@@ -12,11 +12,17 @@ ghost use Rattle.along.specs.Route.{Route};
 ghost use Rattle.along.specs.Spots.{Spots, loadOf};
 ghost use Rattle.along.specs.Loads.{stowFirst, stowOn, stowOff, running};
 use rules::Job;
+use rules::Node;
 use sheet::Layout;
 
 // One job's load: `on` and `off` have what comes aboard and goes off at each stop; the answer is what is aboard from the start. Nothing where
 // a node of the job is off the route, or a transfer in wrong order.
-pub fn stow(job: Job, at: &[usize; 64], on: &mut [usize; 64], off: &mut [usize; 64]) -> usize
+pub fn stow(
+    job: Job,
+    at: &[usize; Node::MOST],
+    on: &mut [usize; Node::MOST],
+    off: &mut [usize; Node::MOST],
+) -> usize
     requires { ⌜ Placed job × (length (now at) ≡ 64) × (length (now on) ≡ 64) × (length (now off) ≡ 64) × (loadOf job < 4294967296) ⌝ }
     requires { ⌜ ((i : ℕ) → getD (now on) i 0 < 1099511627776) × ((i : ℕ) → getD (now off) i 0 < 1099511627776) ⌝ }
     ensures { λ r. ⌜ (r ≡ stowFirst job (now (at .entry))) × (now (on .exit) ≡ stowOn job (now (at .entry)) (now (on .entry))) × (now (off .exit) ≡ stowOff job (now (at .entry)) (now (off .entry))) ⌝ }
@@ -24,7 +30,7 @@ pub fn stow(job: Job, at: &[usize; 64], on: &mut [usize; 64], off: &mut [usize; 
     match job {
         Job::Clean { node, load } => {
             let k = at[node];
-            if 64 <= k {
+            if Node::MOST <= k {
                 return 0;
             }
             off[k] += load;
@@ -32,7 +38,7 @@ pub fn stow(job: Job, at: &[usize; 64], on: &mut [usize; 64], off: &mut [usize; 
         },
         Job::Soiled { node, load } => {
             let k = at[node];
-            if k < 64 {
+            if k < Node::MOST {
                 on[k] += load;
             }
             0
@@ -40,7 +46,7 @@ pub fn stow(job: Job, at: &[usize; 64], on: &mut [usize; 64], off: &mut [usize; 
         Job::Transfer { from, to, load } => {
             let a = at[from];
             let b = at[to];
-            if (a < b) & (b < 64) {
+            if (a < b) & (b < Node::MOST) {
                 on[a] += load;
                 off[b] += load;
             }
@@ -50,7 +56,7 @@ pub fn stow(job: Job, at: &[usize; 64], on: &mut [usize; 64], off: &mut [usize; 
 }
 
 // What is aboard on each leg: `first`, and what has come and gone up to its stop. It takes the place of what comes.
-pub fn run(on: &mut [usize; 64], off: &[usize; 64], first: usize, stops: usize)
+pub fn run(on: &mut [usize; Node::MOST], off: &[usize; Node::MOST], first: usize, stops: usize)
     requires { ⌜ (length (now on) ≡ 64) × (length (now off) ≡ 64) × (stops ≤ 64) ⌝ }
     requires { ⌜ ((i : ℕ) → i + 1 < stops → first + sumBelow (i + 1) (λ k. getD (now on) k 0) < 4611686018427387904) × ((i : ℕ) → i + 1 < stops → sumBelow (i + 1) (λ k. getD (now off) k 0) ≤ first + sumBelow (i + 1) (λ k. getD (now on) k 0)) ⌝ }
     ensures { λ _. ⌜ Filled 64 (running first (now (on .entry)) (now (off .entry))) 0 (stops - 1) (now (on .exit)) ⌝ }
@@ -68,15 +74,15 @@ pub fn run(on: &mut [usize; 64], off: &[usize; 64], first: usize, stops: usize)
 pub fn loads(
     s: &[u8],
     at: Layout,
-    route: &[usize; 64],
+    route: &[usize; Node::MOST],
     stops: usize,
-    spots: &[usize; 64],
-    h: &mut [usize; 64],
+    spots: &[usize; Node::MOST],
+    h: &mut [usize; Node::MOST],
 )
     requires { ⌜ Laid (now s) at × Route (at .nodes) (now route) stops × Spots (now route) stops (now spots) × (now h ≡ replicate 64 0) ⌝ }
     ensures { λ _. ⌜ Filled 64 (loadAt (dayOf (now (s .entry))) (take stops (now (route .entry)))) 0 (stops - 1) (now (h .exit)) ⌝ }
 {
-    let mut off = [0usize; 64];
+    let mut off = [0usize; Node::MOST];
     let mut first = 0;
     let m = at.jobs;
     let mut j = 0;

@@ -16,6 +16,7 @@ use day::look::earliest;
 use day::look::latest;
 use day::look::seconds;
 use day::look::service;
+use rules::Node;
 use sheet::Layout;
 
 // The last moment at which service at x may start.
@@ -63,7 +64,13 @@ pub fn in_time(t: usize, last: i64) -> bool
 }
 
 // L: the last start at each stop, into an array.
-pub fn lasts(s: &[u8], at: Layout, route: &[usize; 64], stops: usize, l: &mut [i64; 64])
+pub fn lasts(
+    s: &[u8],
+    at: Layout,
+    route: &[usize; Node::MOST],
+    stops: usize,
+    l: &mut [i64; Node::MOST],
+)
     requires { ⌜ Laid (now s) at × Route (at .nodes) (now route) stops × (length (now l) ≡ 64) ⌝ }
     ensures { λ _. ⌜ Filled 64 (lastAt (dayOf (now (s .entry))) (take stops (now (route .entry)))) (pos 0) stops (now (l .exit)) ⌝ }
 {

@@ -5,6 +5,7 @@ ghost use lib.ListN.{getD, length};
 ghost use lib.Dec.{leb};
 ghost use Rattle.along.specs.Walks.{Kept, Legs, Heads, peak, through, between, ridesUp, ridesDown};
 ghost use Rattle.along.specs.Stretches.{First, Last, Under, full, boards, alights};
+use rules::Node;
 
 // A load that is to ride: the capacity, how much, the partner's node and its open places, and whether the ride may go to the end of the
 // route with no partner met.
@@ -24,7 +25,7 @@ impl Ride {
         Ride {
             capacity: capacity,
             load: load,
-            partner: 64,
+            partner: Node::MOST,
             places: 0,
             through: true,
         }
@@ -53,7 +54,13 @@ pub fn roomy(highest: usize, load: usize, capacity: usize) -> bool
 }
 
 // The first leg from `from` on, of `legs`, on which the load does not fit; `highest` is the most that is aboard on any leg.
-fn fits_until(h: &[usize; 64], highest: usize, from: usize, legs: usize, ride: Ride) -> usize
+fn fits_until(
+    h: &[usize; Node::MOST],
+    highest: usize,
+    from: usize,
+    legs: usize,
+    ride: Ride,
+) -> usize
     requires { ⌜ Under (now h) legs highest × (legs < 64) × (from ≤ legs) × (ride .load < 4294967296) ⌝ }
     ensures { λ r. ⌜ First (full (now (h .entry)) ride) from legs r ⌝ }
 {
@@ -71,7 +78,7 @@ fn fits_until(h: &[usize; 64], highest: usize, from: usize, legs: usize, ride: R
 }
 
 // The first of the legs before `from` from which on the load fits up to it.
-fn fits_since(h: &[usize; 64], highest: usize, from: usize, ride: Ride) -> usize
+fn fits_since(h: &[usize; Node::MOST], highest: usize, from: usize, ride: Ride) -> usize
     requires { ⌜ Under (now h) from highest × (from < 64) × (ride .load < 4294967296) ⌝ }
     ensures { λ r. ⌜ Last (full (now (h .entry)) ride) from r ⌝ }
 {
@@ -89,7 +96,13 @@ fn fits_since(h: &[usize; 64], highest: usize, from: usize, ride: Ride) -> usize
 }
 
 // The first leg from `from` on at which the partner is met and the load fits.
-fn boards(route: &[usize; 64], h: &[usize; 64], from: usize, legs: usize, ride: Ride) -> usize
+fn boards(
+    route: &[usize; Node::MOST],
+    h: &[usize; Node::MOST],
+    from: usize,
+    legs: usize,
+    ride: Ride,
+) -> usize
     requires { ⌜ Legs (now route) (now h) legs (ride .load) × (from ≤ legs) ⌝ }
     ensures { λ r. ⌜ First (boards (now (route .entry)) (now (h .entry)) ride) from legs r ⌝ }
 {
@@ -107,7 +120,7 @@ fn boards(route: &[usize; 64], h: &[usize; 64], from: usize, legs: usize, ride: 
 }
 
 // The last leg before `from` at which the partner is met and the load fits, and one more.
-fn alights(route: &[usize; 64], h: &[usize; 64], from: usize, ride: Ride) -> usize
+fn alights(route: &[usize; Node::MOST], h: &[usize; Node::MOST], from: usize, ride: Ride) -> usize
     requires { ⌜ Legs (now route) (now h) from (ride .load) ⌝ }
     ensures { λ r. ⌜ Last (alights (now (route .entry)) (now (h .entry)) ride) from r ⌝ }
 {
@@ -129,9 +142,9 @@ fn alights(route: &[usize; 64], h: &[usize; 64], from: usize, ride: Ride) -> usi
 // From stretch to stretch: `heads` has the first so many legs as a set, so that the legs between two rides are struck at once.
 pub fn forward(
     word: u64,
-    route: &[usize; 64],
-    heads: &[u64; 64],
-    h: &[usize; 64],
+    route: &[usize; Node::MOST],
+    heads: &[u64; Node::MOST],
+    h: &[usize; Node::MOST],
     highest: usize,
     legs: usize,
     ride: Ride,
@@ -156,9 +169,9 @@ pub fn forward(
 // Backward: the same from the end, where the partner stands at the stop that the leg enters.
 pub fn backward(
     word: u64,
-    route: &[usize; 64],
-    heads: &[u64; 64],
-    h: &[usize; 64],
+    route: &[usize; Node::MOST],
+    heads: &[u64; Node::MOST],
+    h: &[usize; Node::MOST],
     highest: usize,
     legs: usize,
     ride: Ride,
@@ -181,7 +194,7 @@ pub fn backward(
 }
 
 // The first 0, 1, .. up to all legs as sets, into an array.
-pub fn heads(route: &[usize; 64], legs: usize, a: &mut [u64; 64])
+pub fn heads(route: &[usize; Node::MOST], legs: usize, a: &mut [u64; Node::MOST])
     requires { ⌜ (length (now route) ≡ 64) × (length (now a) ≡ 64) × (legs < 64) × ((i : ℕ) → i < legs → getD (now route) i 0 < 64) ⌝ }
     ensures { λ _. ⌜ Heads (now (route .entry)) legs (now (a .exit)) ⌝ }
 {
@@ -196,7 +209,7 @@ pub fn heads(route: &[usize; 64], legs: usize, a: &mut [u64; 64])
 }
 
 // The most that is aboard on any leg.
-pub fn highest(h: &[usize; 64], legs: usize) -> usize
+pub fn highest(h: &[usize; Node::MOST], legs: usize) -> usize
     requires { ⌜ (length (now h) ≡ 64) × (legs ≤ 64) ⌝ }
     ensures { λ r. ⌜ r ≡ peak (now (h .entry)) legs ⌝ }
 {

@@ -4,11 +4,14 @@ ghost use Prim.Native.Nat.{_<_, _≤_};
 ghost use lib.Count.{ones};
 ghost use Rattle.bits.specs.Places.{has, with, without, minus, within, lowest};
 
+// The places of a word.
+const PLACES: usize = 64;
+
 // Whether p is a member of w.
 pub fn has(w: u64, p: usize) -> bool
     ensures { λ r. ⌜ r ≡ has w p ⌝ }
 {
-    if p < 64 { holds(w, p) } else { false }
+    if p < PLACES { holds(w, p) } else { false }
 }
 
 // The same, of a place that is known to be one: no test.
@@ -23,7 +26,7 @@ pub fn holds(w: u64, p: usize) -> bool
 pub fn with(w: u64, p: usize) -> u64
     ensures { λ r. ⌜ r ≡ with w p ⌝ }
 {
-    if p < 64 { put(w, p) } else { w }
+    if p < PLACES { put(w, p) } else { w }
 }
 
 // The same, of a place that is known to be one.
@@ -38,7 +41,7 @@ pub fn put(w: u64, p: usize) -> u64
 pub fn without(w: u64, p: usize) -> u64
     ensures { λ r. ⌜ r ≡ without w p ⌝ }
 {
-    if p < 64 { take(w, p) } else { w }
+    if p < PLACES { take(w, p) } else { w }
 }
 
 // The same, of a place that is known to be one.

@@ -9,6 +9,8 @@ ghost use Rattle.bits.specs.Places.{has, within};
 ghost use Rattle.board.specs.Board.{inner, legNode, board, stateOf};
 ghost use Rattle.board.specs.Form.{boardOk, levelsOk, inForm};
 ghost use Rattle.board.specs.Tests.{zeroFrom, seenOf, setTest, markTest};
+use crate::State;
+use rules::Node;
 
 // Whether x is between 1 and n - 2.
 pub fn inner(n: usize, x: usize) -> bool
@@ -34,13 +36,13 @@ pub fn leg_node(n: usize, p: usize) -> bool
 }
 
 // Whether every entry from `from` on is 0.
-fn none_from(a: &[usize; 64], from: usize) -> bool
+fn none_from(a: &[usize; Node::MOST], from: usize) -> bool
     requires { ⌜ from ≤ 64 ⌝ }
     ensures { λ r. ⌜ r ≡ allBelow 64 (zeroFrom from (now (a .entry))) ⌝ }
 {
     let mut rest = 0;
     let mut i = from;
-    while i < 64 {
+    while i < Node::MOST {
         rest = rest | a[i];
         i += 1;
     }
@@ -48,7 +50,7 @@ fn none_from(a: &[usize; 64], from: usize) -> bool
 }
 
 // The first `stops` entries as a set, or 0 where one of them is no node below n or stands there twice.
-fn seen_of(route: &[usize; 64], stops: usize, n: usize) -> u64
+fn seen_of(route: &[usize; Node::MOST], stops: usize, n: usize) -> u64
     requires { ⌜ (n ≤ 64) × (stops ≤ 64) × (length (now route) ≡ 64) ⌝ }
     ensures { λ r. ⌜ r ≡ seenOf n stops (now (route .entry)) ⌝ }
 {
@@ -78,7 +80,7 @@ fn stray(w: u64, y: usize, on: u64, legs: u64) -> u64
 }
 
 // The sets, gathered in one word that is 0 if none has a member too many; `on` are the nodes of the route.
-fn sets_ok(sets: &[u64; 64], n: usize, on: u64) -> bool
+fn sets_ok(sets: &[u64; Node::MOST], n: usize, on: u64) -> bool
     requires { ⌜ (2 ≤ n) × (n ≤ 64) ⌝ }
     ensures { λ r. ⌜ r ≡ allBelow 64 (setTest n (now (sets .entry)) on) ⌝ }
 {
@@ -90,7 +92,7 @@ fn sets_ok(sets: &[u64; 64], n: usize, on: u64) -> bool
         over = over | stray(sets[y], y, on, legs);
         y += 1;
     }
-    while y < 64 {
+    while y < Node::MOST {
         over = over | sets[y];
         y += 1;
     }
@@ -105,10 +107,10 @@ fn marks_ok(marks: u64, n: usize) -> bool
     (marks >> (n - 1) == 0) & (marks % 2 == 0)
 }
 
-fn levels_ok(levels: &[usize; 64], depth: usize, records: usize) -> bool
+fn levels_ok(levels: &[usize; State::LEVELS], depth: usize, records: usize) -> bool
     ensures { λ r. ⌜ r ≡ levelsOk depth records (now (levels .entry)) ⌝ }
 {
-    if 64 < depth {
+    if State::LEVELS < depth {
         return false;
     }
     let mut u = 0;
@@ -128,9 +130,9 @@ fn levels_ok(levels: &[usize; 64], depth: usize, records: usize) -> bool
 }
 
 fn board_ok<'a>(
-    route: &'a [usize; 64],
+    route: &'a [usize; Node::MOST],
     stops: usize,
-    sets: &'a [u64; 64],
+    sets: &'a [u64; Node::MOST],
     marks: u64,
     n: usize,
 ) -> bool
@@ -161,11 +163,11 @@ fn board_ok<'a>(
 
 // Whether the state of these numbers is in form, the record count's room apart.
 pub fn in_form<'a>(
-    route: &'a [usize; 64],
+    route: &'a [usize; Node::MOST],
     stops: usize,
-    sets: &'a [u64; 64],
+    sets: &'a [u64; Node::MOST],
     marks: u64,
-    levels: &'a [usize; 64],
+    levels: &'a [usize; State::LEVELS],
     depth: usize,
     records: usize,
     n: usize,

@@ -6,14 +6,15 @@ pub mod route;
 ghost use mathlib.Core.Path.{_≡_};
 ghost use Prim.Native.Nat.{_<_};
 ghost use Rattle.board.specs.Fresh.{noState, freshState, freshSet, freshSets};
+use rules::Node;
 
 // The route, each unplaced node's set of open places, the marks of required nodes, and for each level the record count when it was opened.
 pub struct State {
-    pub route: [usize; 64],
+    pub route: [usize; Node::MOST],
     pub stops: usize,
-    pub sets: [u64; 64],
+    pub sets: [u64; Node::MOST],
     pub marks: u64,
-    pub levels: [usize; 64],
+    pub levels: [usize; State::LEVELS],
     pub depth: usize,
     pub records: usize,
 }
@@ -27,8 +28,7 @@ pub struct Figures {
 }
 
 impl State {
-    pub const NODES: usize = 64;
-
+    // The most levels that can be open.
     pub const LEVELS: usize = 64;
 
     // Every number 0: it stands beside a refusal.
@@ -36,11 +36,11 @@ impl State {
         ensures { λ r. ⌜ r ≡ noState ⌝ }
     {
         State {
-            route: [0; 64],
+            route: [0; Node::MOST],
             stops: 0,
-            sets: [0; 64],
+            sets: [0; Node::MOST],
             marks: 0,
-            levels: [0; 64],
+            levels: [0; State::LEVELS],
             depth: 0,
             records: 0,
         }
@@ -53,10 +53,10 @@ impl State {
         if n < 2 {
             return State::none();
         }
-        if State::NODES < n {
+        if Node::MOST < n {
             return State::none();
         }
-        let mut route = [0usize; 64];
+        let mut route = [0usize; Node::MOST];
         route[1] = n - 1;
         let sets = fresh_sets(n);
         State {
@@ -64,7 +64,7 @@ impl State {
             stops: 2,
             sets: sets,
             marks: 0,
-            levels: [0; 64],
+            levels: [0; State::LEVELS],
             depth: 0,
             records: 0,
         }
@@ -78,12 +78,12 @@ fn fresh_set(n: usize, y: usize) -> u64
     if form::inner(n, y) { 1 } else { 0 }
 }
 
-fn fresh_sets(n: usize) -> [u64; 64]
+fn fresh_sets(n: usize) -> [u64; Node::MOST]
     ensures { λ r. ⌜ r ≡ freshSets n ⌝ }
 {
-    let mut sets = [0u64; 64];
+    let mut sets = [0u64; Node::MOST];
     let mut y = 0;
-    while y < 64 {
+    while y < Node::MOST {
         sets[y] = fresh_set(n, y);
         y += 1;
     }

@@ -6,6 +6,7 @@ ghost use lib.ListN.{length};
 ghost use Rattle.board.specs.Board.{placesOf};
 ghost use Rattle.board.specs.Change.{heir, strike};
 ghost use Rattle.board.specs.Ends.{Ends};
+use rules::Node;
 
 fn heir_of(w: u64, p: usize, x: usize) -> u64
     ensures { λ r. ⌜ r ≡ heir p x w ⌝ }
@@ -14,7 +15,7 @@ fn heir_of(w: u64, p: usize, x: usize) -> u64
 }
 
 // x is placed after p: where leg p was open, leg x is too.
-pub fn inherit(sets: &mut [u64; 64], n: usize, p: usize, x: usize)
+pub fn inherit(sets: &mut [u64; Node::MOST], n: usize, p: usize, x: usize)
     requires { ⌜ (length (now sets) ≡ 64) × (n ≤ 64) × Ends n (now sets) ⌝ }
     ensures { λ r. ⌜ now (sets .exit) ≡ map (heir p x) (now (sets .entry)) ⌝ }
 {
@@ -27,7 +28,7 @@ pub fn inherit(sets: &mut [u64; 64], n: usize, p: usize, x: usize)
 }
 
 // Leg x is taken out of every set.
-pub fn strike_leg(sets: &mut [u64; 64], n: usize, x: usize)
+pub fn strike_leg(sets: &mut [u64; Node::MOST], n: usize, x: usize)
     requires { ⌜ (length (now sets) ≡ 64) × (n ≤ 64) × Ends n (now sets) ⌝ }
     ensures { λ r. ⌜ now (sets .exit) ≡ map (strike x) (now (sets .entry)) ⌝ }
 {
@@ -40,7 +41,7 @@ pub fn strike_leg(sets: &mut [u64; 64], n: usize, x: usize)
 }
 
 // The open places of the first n nodes: for each the count of ones in its word.
-pub fn count(sets: &[u64; 64], n: usize) -> usize
+pub fn count(sets: &[u64; Node::MOST], n: usize) -> usize
     requires { ⌜ n ≤ 64 ⌝ }
     ensures { λ r. ⌜ (r ≡ placesOf (now (sets .entry)) n) × (r ≤ 4096) ⌝ }
 {

@@ -3,9 +3,10 @@ ghost use mathlib.Core.Path.{_≡_};
 ghost use Prim.Native.Nat.{ℕ, _≤_, _<_};
 ghost use lib.ListN.{getD, length, take};
 ghost use Rattle.board.specs.Route.{indexOf, insertIn, removeIn, wordOf};
+use rules::Node;
 
 // Where p stands on the route; the number of stops where it does not.
-pub fn position(route: &[usize; 64], stops: usize, p: usize) -> usize
+pub fn position(route: &[usize; Node::MOST], stops: usize, p: usize) -> usize
     requires { ⌜ (stops ≤ 64) × (length (now route) ≡ 64) ⌝ }
     ensures { λ r. ⌜ r ≡ indexOf p (take stops (now (route .entry))) ⌝ }
 {
@@ -20,7 +21,7 @@ pub fn position(route: &[usize; 64], stops: usize, p: usize) -> usize
 }
 
 // The first k stops as a set.
-pub fn word(route: &[usize; 64], k: usize) -> u64
+pub fn word(route: &[usize; Node::MOST], k: usize) -> u64
     requires { ⌜ (k ≤ 64) × ((i : ℕ) → i < k → getD (now route) i 0 < 64) ⌝ }
     ensures { λ r. ⌜ r ≡ wordOf k (now (route .entry)) ⌝ }
 {
@@ -35,7 +36,7 @@ pub fn word(route: &[usize; 64], k: usize) -> u64
 }
 
 // x put in at a place; the entries from there on move up by one.
-pub fn insert(route: &mut [usize; 64], at: usize, x: usize)
+pub fn insert(route: &mut [usize; Node::MOST], at: usize, x: usize)
     requires { ⌜ (at < 64) × (length (now route) ≡ 64) ⌝ }
     ensures { λ r. ⌜ now (route .exit) ≡ insertIn 63 at x (now (route .entry)) ⌝ }
 {
@@ -49,7 +50,7 @@ pub fn insert(route: &mut [usize; 64], at: usize, x: usize)
 }
 
 // The entry at a place taken out; those after it move down by one.
-pub fn remove(route: &mut [usize; 64], at: usize)
+pub fn remove(route: &mut [usize; Node::MOST], at: usize)
     requires { ⌜ (at < 64) × (length (now route) ≡ 64) ⌝ }
     ensures { λ r. ⌜ now (route .exit) ≡ removeIn at (now (route .entry)) ⌝ }
 {

@@ -22,7 +22,7 @@ use Rattle.day.specs.Jobs.{jobIn, loadOk, jobFine}
 use Rattle.day.specs.Twice.{clash, apartAt, apart}
 use Rattle.day.specs.Fit.{fine-job}
 use Rattle.day.specs.Tables.{shortest, shortestLine, shortestRow, triangle}
-use Rattle.day.specs.Refuse.{secondsOf, metresOf, refusal14, refusal15, fine14}
+use Rattle.day.specs.Refuse.{secondsOf, metresOf, callRefusal, openRefusal, call-fine}
 use Rattle.day.specs.Tell.{dayOf}
 
 -- ---- the nodes of a transfer
@@ -30,11 +30,11 @@ use Rattle.day.specs.Tell.{dayOf}
 inner-in : (n x : ℕ) → isInner n x ≡ true → In x (downFrom (n - 2))
 inner-in n x e = let p = and-true (leb 1 x) (leb x (n - 2)) e in mem-in x (downFrom (n - 2)) (mem-down (n - 2) x (leb-true 1 x (p .0)) (leb-true x (n - 2) (p .1)))
 
-pub proper : (s : List ℕ) → refusal14 s ≡ 0 → Proper (dayOf s)
+pub proper : (s : List ℕ) → callRefusal s ≡ 0 → Proper (dayOf s)
 proper s h = record {
   ends = λ a b w i.
       let p = in-tab (mOf s) (jobIn s) i in
-      let q : jobFine (nOf s) (Transfer a b w) ≡ true = ap (jobFine (nOf s)) (sym (p .is)) ∙ fine-job s (fine14 s h) (p .k) (p .low) in
+      let q : jobFine (nOf s) (Transfer a b w) ≡ true = ap (jobFine (nOf s)) (sym (p .is)) ∙ fine-job s (call-fine s h) (p .k) (p .low) in
       let r = and-true (isInner (nOf s) a && isInner (nOf s) b) (not (eqb a b)) (and-true _ (loadOk w) q .0) in
       let t = and-true (isInner (nOf s) a) (isInner (nOf s) b) (r .0) in
       (inner-in (nOf s) a (t .0), inner-in (nOf s) b (t .1), eqb-false a b (not-true (eqb a b) (r .1)));
@@ -46,9 +46,9 @@ proper s h = record {
 abbrev Two : ℕ → ℕ → ℕ → ℕ → ℕ → ℕ → Type 0
 Two a b w c d v = ((a ≡ c) × (b ≡ d) × (w ≡ v)) ⊎ ((a ≢ c) × (a ≢ d) × (b ≢ c) × (b ≢ d))
 
-module _ (s : List ℕ) (h : refusal14 s ≡ 0) where
+module _ (s : List ℕ) (h : callRefusal s ≡ 0) where
   pair : (k j : ℕ) → k < mOf s → j < k → clash (jobIn s k) (jobIn s j) ≡ false
-  unfolding refusal14 apart
+  unfolding callRefusal apart
   pair k j a b =
       not-true (clash (jobIn s k) (jobIn s j))
       (below-at k j (λ j. not (clash (jobIn s k) (jobIn s j)))
@@ -93,8 +93,8 @@ shorter n t e i j k a b c ij jk ik =
     let p : shortest t i j k ≡ true = below-at n k (shortest t i j) (below-at n j (shortestLine n t i) (below-at n i (shortestRow n t) e a) b) c in
     leb-true (t i k) (t i j + t j k) (rw (ne-eqb i j ij, ne-eqb j k jk, ne-eqb i k ik) at p)
 
-pub short-tables : (s : List ℕ) → refusal15 s ≡ 0 → Triangle (dayOf s)
-unfolding refusal15
+pub short-tables : (s : List ℕ) → openRefusal s ≡ 0 → Triangle (dayOf s)
+unfolding openRefusal
 short-tables s h =
     let p = and-true (triangle (nOf s) (secondsOf s)) (triangle (nOf s) (metresOf s)) (unless-zero _ 4 (or-else-zero _ _ h .1)) in
     record { seconds = shorter (nOf s) (secondsOf s) (p .0); metres = shorter (nOf s) (metresOf s) (p .1) }

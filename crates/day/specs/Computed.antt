@@ -5,12 +5,12 @@ use mathlib.Core.List.{List, [], _∷_}
 use Rattle.laws.specs.Below.{allBelow}
 use Rattle.laws.specs.Choice.{orElse}
 use Rattle.sheet.specs.Word.{wordAt}
-use Rattle.sheet.specs.Section.{headRefusal, limitsRefusal, nodesRefusal, jobsRefusal, tableRefusal, stepsRefusal, tablesRefusal, laterRefusal, refusal13}
+use Rattle.sheet.specs.Section.{headRefusal, limitsRefusal, nodesRefusal, jobsRefusal, tableRefusal, stepsRefusal, tablesRefusal, laterRefusal, readRefusal}
 use Rattle.rules.specs.declared.Job.the-variants.{Transfer}
 use Rattle.day.specs.Jobs.{jobAt, jobIn}
 use Rattle.day.specs.Twice.{clash, apart}
 use Rattle.day.specs.Tables.{cell, shortestLine, shortestRow, triangle}
-use Rattle.day.specs.Refuse.{refusal14, refusal15}
+use Rattle.day.specs.Refuse.{callRefusal, openRefusal}
 use Rattle.day.specs.Section.{spanOf, sectionOf}
 use Rattle.day.specs.Tell.{dayOf}
 use Rattle.day.specs.Example.{_▸_, paperJobs, tableWith, stepsWith, sheetOf, sheetWith}
@@ -27,21 +27,21 @@ abbrev altered : ℕ → ℕ → List ℕ
 altered back steps = sheetOf 2 60 25 100 (paperJobs (tableWith back (tableWith 30 (stepsWith steps))))
 
 record Computed : Type 0 where
-  pub accepted : refusal15 paper ≡ 0
-  pub left-over : refusal15 (altered 30 7) ≡ 1
-  pub short : refusal15 (altered 30 9) ≡ 1
-  pub many-steps : refusal15 (altered 30 2001) ≡ 2
-  pub heavy : refusal15 (sheetWith 1001 60 25 100) ≡ 3
-  pub two-nodes : refusal15 (cleanAgain 2 30) ≡ 0
-  pub one-node : refusal15 (cleanAgain 1 30) ≡ 4
-  pub roundabout : refusal15 (altered 31 8) ≡ 5
+  pub accepted : openRefusal paper ≡ 0
+  pub left-over : openRefusal (altered 30 7) ≡ 1
+  pub short : openRefusal (altered 30 9) ≡ 1
+  pub many-steps : openRefusal (altered 30 2001) ≡ 2
+  pub heavy : openRefusal (sheetWith 1001 60 25 100) ≡ 3
+  pub two-nodes : openRefusal (cleanAgain 2 30) ≡ 0
+  pub one-node : openRefusal (cleanAgain 1 30) ≡ 4
+  pub roundabout : openRefusal (altered 31 8) ≡ 5
   -- the length before all else; a count's range before shortness, shortness before values, values before the next section; 4 before 5
-  pub empty : refusal15 [] ≡ 1
-  pub odd : refusal15 (3 ▸ 0 ∷ []) ≡ 1
-  pub count-first : refusal15 (3 ▸ []) ≡ 2
-  pub short-next : refusal15 (2 ▸ 9999 ▸ []) ≡ 1
-  pub then-values : refusal15 (2 ▸ 9999 ▸ 0 ▸ []) ≡ 3
-  pub both : refusal15 (cleanAgain 1 31) ≡ 4
+  pub empty : openRefusal [] ≡ 1
+  pub odd : openRefusal (3 ▸ 0 ∷ []) ≡ 1
+  pub count-first : openRefusal (3 ▸ []) ≡ 2
+  pub short-next : openRefusal (2 ▸ 9999 ▸ []) ≡ 1
+  pub then-values : openRefusal (2 ▸ 9999 ▸ 0 ▸ []) ≡ 3
+  pub both : openRefusal (cleanAgain 1 31) ≡ 4
   -- what the sheet says
   pub job : jobIn paper 0 ≡ Transfer 1 2 2
   pub latest : dayOf paper .latest 2 ≡ 25
@@ -52,7 +52,7 @@ record Computed : Type 0 where
   pub refused5 : sectionOf (altered 31 8) 3 ≡ 3 ▸ 1 ▸ 2 ▸ 2 ▸ []
 
 computed : Computed
-unfolding wordAt allBelow orElse headRefusal limitsRefusal nodesRefusal jobsRefusal tableRefusal stepsRefusal tablesRefusal laterRefusal refusal13 jobAt clash apart cell shortestLine shortestRow triangle refusal14 refusal15 spanOf sectionOf
+unfolding wordAt allBelow orElse headRefusal limitsRefusal nodesRefusal jobsRefusal tableRefusal stepsRefusal tablesRefusal laterRefusal readRefusal jobAt clash apart cell shortestLine shortestRow triangle callRefusal openRefusal spanOf sectionOf
 computed = record {
   accepted = refl;
   left-over = refl;

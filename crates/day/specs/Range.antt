@@ -15,7 +15,8 @@ use Rattle.sheet.specs.Rule.{nodeAtOk, entryOk}
 use Rattle.sheet.specs.Section.{nOf, mOf}
 use Rattle.sheet.specs.Place.{Fine, Laid}
 use Rattle.sheet.specs.declared.Layout.{Layout}
-use Rattle.rules.specs.Day.{Day, Van}
+use Rattle.rules.specs.Day.{Day}
+use Rattle.rules.specs.declared.Van.{Van}
 use Rattle.day.specs.Tables.{cell}
 use Rattle.day.specs.Row.{Table, row-low, entry-low}
 use Rattle.day.specs.Jobs.{jobIn}

@@ -4,8 +4,8 @@ use mathlib.Core.Bool.{_&&_}
 use mathlib.Core.List.{List}
 use mathlib.Core.Path.{_≡_}
 use Rattle.laws.specs.Choice.{orElse, unless, or-else-zero}
-use Rattle.sheet.specs.Refusal.{TWICE, TRIANGLE}
-use Rattle.sheet.specs.Section.{refusal13, nOf, mOf, secondsAt, metresAt}
+use Rattle.rules.specs.Refusal.{TWICE, TRIANGLE}
+use Rattle.sheet.specs.Section.{readRefusal, nOf, mOf, secondsAt, metresAt}
 use Rattle.sheet.specs.Place.{Fine, fine}
 use Rattle.day.specs.Jobs.{jobIn}
 use Rattle.day.specs.Twice.{apart}
@@ -25,21 +25,21 @@ abbrev pub triangleRefusal : List ℕ → ℕ
 triangleRefusal s = unless (triangle (nOf s) (secondsOf s) && triangle (nOf s) (metresOf s)) TRIANGLE
 
 -- 1 to 4, or 0: what every call on a sheet asks
-unfoldable pub refusal14 : List ℕ → ℕ
-refusal14 s = orElse (refusal13 s) (twiceRefusal s)
+unfoldable pub callRefusal : List ℕ → ℕ
+callRefusal s = orElse (readRefusal s) (twiceRefusal s)
 
 -- 1 to 5, or 0: what opening asks
-unfoldable pub refusal15 : List ℕ → ℕ
-refusal15 s = orElse (refusal14 s) (triangleRefusal s)
+unfoldable pub openRefusal : List ℕ → ℕ
+openRefusal s = orElse (callRefusal s) (triangleRefusal s)
 
 -- a refusal of fewer numbers comes first
-pub zero14 : (s : List ℕ) → refusal15 s ≡ 0 → refusal14 s ≡ 0
-unfolding refusal15
-zero14 s h = or-else-zero _ _ h .0
+pub call-zero : (s : List ℕ) → openRefusal s ≡ 0 → callRefusal s ≡ 0
+unfolding openRefusal
+call-zero s h = or-else-zero _ _ h .0
 
-pub zero13 : (s : List ℕ) → refusal14 s ≡ 0 → refusal13 s ≡ 0
-unfolding refusal14
-zero13 s h = or-else-zero _ _ h .0
+pub read-zero : (s : List ℕ) → callRefusal s ≡ 0 → readRefusal s ≡ 0
+unfolding callRefusal
+read-zero s h = or-else-zero _ _ h .0
 
-pub fine14 : (s : List ℕ) → refusal14 s ≡ 0 → Fine s
-fine14 s h = fine s (zero13 s h)
+pub call-fine : (s : List ℕ) → callRefusal s ≡ 0 → Fine s
+call-fine s h = fine s (read-zero s h)

@@ -8,7 +8,7 @@ use lib.ListN.{length, take, drop}
 use lib.Dec.{eqb}
 use Rattle.sheet.specs.Place.{layoutOf, Laid}
 use Rattle.sheet.specs.declared.Layout.{Layout}
-use Rattle.day.specs.Refuse.{refusal14}
+use Rattle.day.specs.Refuse.{callRefusal}
 use Rattle.day.specs.declared.Span.{Span}
 
 abbrev pub span : ℕ → ℕ → Span
@@ -30,7 +30,7 @@ stretch s p = take (4 * p .count) (drop (4 * p .from) s)
 
 -- "For a sheet refused by 1 to 4, or a section number not in 1 to 6, the stretch is empty."
 unfoldable pub sectionOf : List ℕ → ℕ → List ℕ
-sectionOf s k = cond (eqb (refusal14 s) 0) (stretch s (spanOf (layoutOf s) k)) []
+sectionOf s k = cond (eqb (callRefusal s) 0) (stretch s (spanOf (layoutOf s) k)) []
 
 -- every section lies in the sheet
 pub span-fits : {s : List ℕ} {l : Layout} (k : ℕ) {p : Span} → Laid s l → p ≡ spanOf l k → 4 * p .from + 4 * p .count ≤ length s
@@ -55,6 +55,6 @@ span-fits {s} {l} k h z = rw z (go (eqb k 1) (eqb k 2) (eqb k 3) (eqb k 4) (eqb 
     go false false false false false true = omega arith
     go false false false false false false = omega arith
 
-pub section-is : (s : List ℕ) (l : Layout) (k : ℕ) {p : Span} → refusal14 s ≡ 0 → Laid s l → p ≡ spanOf l k → stretch s p ≡ sectionOf s k
+pub section-is : (s : List ℕ) (l : Layout) (k : ℕ) {p : Span} → callRefusal s ≡ 0 → Laid s l → p ≡ spanOf l k → stretch s p ≡ sectionOf s k
 unfolding sectionOf
 section-is s l k z h e = rw (z, e, h .is)

@@ -5,7 +5,8 @@ use mathlib.Core.List.{List}
 use Rattle.laws.specs.Table.{tab}
 use Rattle.sheet.specs.Word.{wordAt}
 use Rattle.sheet.specs.Section.{nOf, mOf, stepsAt}
-use Rattle.rules.specs.Day.{Day, Van}
+use Rattle.rules.specs.Day.{Day}
+use Rattle.rules.specs.declared.Van.{Van}
 use Rattle.day.specs.Jobs.{jobIn}
 use Rattle.day.specs.Refuse.{secondsOf, metresOf}
 

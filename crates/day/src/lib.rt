@@ -5,25 +5,26 @@ pub mod tables;
 
 ghost use mathlib.Core.Path.{_≡_};
 ghost use Prim.Native.Nat.{_+_, _*_, _≤_};
-ghost use Rattle.day.specs.Refuse.{refusal14, refusal15};
+ghost use Rattle.day.specs.Refuse.{callRefusal, openRefusal};
 ghost use Rattle.day.specs.Section.{spanOf, sectionOf};
+use rules::Refusal;
 use sheet::Layout;
 
 // 1 to 4, or 0: what every call on a sheet asks.
 pub fn refusal_1_to_4(s: &[u8]) -> usize
-    ensures { λ r. ⌜ r ≡ refusal14 (now (s .entry)) ⌝ }
+    ensures { λ r. ⌜ r ≡ callRefusal (now (s .entry)) ⌝ }
 {
     let a = sheet::refusal_1_to_3(s);
     if a != 0 {
         return a;
     }
     let l = sheet::layout_of(s);
-    sheet::number_of(jobs::all_apart(s, l), sheet::TWICE)
+    sheet::number_of(jobs::all_apart(s, l), Refusal::TWICE)
 }
 
 // 1 to 5, or 0: what opening asks.
 pub fn refusal_1_to_5(s: &[u8]) -> usize
-    ensures { λ r. ⌜ r ≡ refusal15 (now (s .entry)) ⌝ }
+    ensures { λ r. ⌜ r ≡ openRefusal (now (s .entry)) ⌝ }
 {
     let a = refusal_1_to_4(s);
     if a != 0 {
@@ -32,7 +33,7 @@ pub fn refusal_1_to_5(s: &[u8]) -> usize
     let l = sheet::layout_of(s);
     let seconds = tables::triangle_ok(s, l.seconds, l.nodes);
     let metres = tables::triangle_ok(s, l.metres, l.nodes);
-    sheet::number_of(seconds & metres, sheet::TRIANGLE)
+    sheet::number_of(seconds & metres, Refusal::TRIANGLE)
 }
 
 // A stretch of words.

@@ -11,10 +11,11 @@ ghost use Rattle.sheet.specs.Word.{words};
 ghost use Rattle.sheet.specs.Rule.{entryOk};
 ghost use Rattle.day.specs.Tables.{cell, shortestRow, triangle};
 ghost use Rattle.day.specs.Row.{rowAt, lineOk, Table};
+use rules::Node;
 use sheet::word;
 
 // Row i of a table as numbers, with 0 at the diagonal: n entries from word `at` on.
-fn read_row(s: &[u8], at: usize, n: usize, i: usize, row: &mut [i32; 64])
+fn read_row(s: &[u8], at: usize, n: usize, i: usize, row: &mut [i32; Node::MOST])
     requires { ⌜ (n ≤ 64) × (i < n) × (at + n ≤ words (now s)) × (length (now row) ≡ 64) ⌝ }
     requires { ⌜ allBelow n (entryOk (now s) at) ≡ true ⌝ }
     ensures { λ _. ⌜ Filled 64 (rowAt (now (s .entry)) at i) (pos 0) n (now (row .exit)) ⌝ }
@@ -29,7 +30,7 @@ fn read_row(s: &[u8], at: usize, n: usize, i: usize, row: &mut [i32; 64])
 
 // Every entry of the row against `first` and the entry of another row, whose entries begin at word `at`: a flag and no exit inside. The
 // test tells the compiler that the row lies in the sheet, so the loop becomes vector code, and signed numbers are compared in one step there.
-fn line_ok(s: &[u8], at: usize, n: usize, row: &[i32; 64], first: i32) -> bool
+fn line_ok(s: &[u8], at: usize, n: usize, row: &[i32; Node::MOST], first: i32) -> bool
     requires { ⌜ (n ≤ 64) × (length (now row) ≡ 64) × (mag first ≤ 1000000) × (at + n ≤ words (now s)) ⌝ }
     requires { ⌜ allBelow n (entryOk (now s) at) ≡ true ⌝ }
     ensures { λ r. ⌜ r ≡ allBelow n (lineOk (now (s .entry)) (now (row .entry)) first at) ⌝ }
@@ -48,7 +49,7 @@ fn line_ok(s: &[u8], at: usize, n: usize, row: &[i32; 64], first: i32) -> bool
 }
 
 // Row i against every other; `row` is room for it, which the rows of a table share.
-fn row_ok(s: &[u8], from: usize, n: usize, i: usize, row: &mut [i32; 64]) -> bool
+fn row_ok(s: &[u8], from: usize, n: usize, i: usize, row: &mut [i32; Node::MOST]) -> bool
     requires { ⌜ Table (now s) from n × (i < n) × (length (now row) ≡ 64) ⌝ }
     ensures { λ r. ⌜ (r ≡ shortestRow n (cell (now (s .entry)) from n) i) × (length (now (row .exit)) ≡ 64) ⌝ }
 {
@@ -69,7 +70,7 @@ pub fn triangle_ok(s: &[u8], from: usize, n: usize) -> bool
     requires { ⌜ Table (now s) from n ⌝ }
     ensures { λ r. ⌜ r ≡ triangle n (cell (now (s .entry)) from n) ⌝ }
 {
-    let mut row = [0i32; 64];
+    let mut row = [0i32; Node::MOST];
     let mut i = 0;
     while i < n {
         if !row_ok(s, from, n, i, &mut row) {

@@ -13,7 +13,7 @@ use Rattle.sheet.specs.declared.Layout.{Layout}
 use Rattle.settle.specs.Ready.{Ready}
 use Rattle.laws.specs.Choice.{orElse}
 use Rattle.rules.specs.Verdict.{alive}
-use Rattle.day.specs.Refuse.{refusal14, refusal15, fine14}
+use Rattle.day.specs.Refuse.{callRefusal, openRefusal, call-fine}
 use Rattle.day.specs.Tell.{dayOf, vanOf}
 use Rattle.board.specs.Fresh.{freshState}
 use Rattle.board.specs.Form.{inForm, formWith}
@@ -32,40 +32,40 @@ use Rattle.planner.proofs.Kept.{form-made, step-acts}
 use Rattle.dock.specs.Line.{Reached}
 
 -- the verdict of a state in form
-pub judged : (sheet : List ℕ) (s : State) → refusal14 sheet ≡ 0 → inForm (nOf sheet) s ≡ true → judgeOf sheet s .alive ≡ alive (vanOf sheet) (dayOf sheet) (planIn s)
+pub judged : (sheet : List ℕ) (s : State) → callRefusal sheet ≡ 0 → inForm (nOf sheet) s ≡ true → judgeOf sheet s .alive ≡ alive (vanOf sheet) (dayOf sheet) (planIn s)
 unfolding judgeOf askRefusal orElse
 judged sheet s z f = rw (z, f)
 
 -- a sheet that opens is not refused, and its state is the fresh one
-pub opened : (sheet : List ℕ) {o : Opened} → o ≡ openOf sheet → o .answer ≡ 0 → (refusal15 sheet ≡ 0) × (o .state ≡ freshState (nOf sheet))
+pub opened : (sheet : List ℕ) {o : Opened} → o ≡ openOf sheet → o .answer ≡ 0 → (openRefusal sheet ≡ 0) × (o .state ≡ freshState (nOf sheet))
 unfolding openOf
 opened sheet {o} e z = (k, ap (λ (o : Opened). o .state) e ∙ rw k)
   where
-    k : refusal15 sheet ≡ 0
+    k : openRefusal sheet ≡ 0
     k = sym (ap (λ (o : Opened). o .answer) e) ∙ z
 
 -- where a listing begins
 pub begun : {sheet : List ℕ} {s : State} (t : List ℕ) → s ≡ freshState (nOf sheet) → Reached sheet s t
 begun {sheet} t e = subst (λ (s : State). Reached sheet s t) (sym e) (record { first = t; steps = none })
 
-module _ {sheet : List ℕ} {s : State} {t : List ℕ} (z : refusal14 sheet ≡ 0) (p : Reached sheet s t) where
+module _ {sheet : List ℕ} {s : State} {t : List ℕ} (z : callRefusal sheet ≡ 0) (p : Reached sheet s t) where
   pub held : Held s
-  held = let f = fine14 sheet z in reached (nOf sheet) (f .n-low) (f .n-high) (p .first) s t (steps-runs sheet z (p .steps)) .held
+  held = let f = call-fine sheet z in reached (nOf sheet) (f .n-low) (f .n-high) (p .first) s t (steps-runs sheet z (p .steps)) .held
 
   pub formed : inForm (nOf sheet) s ≡ true
   formed =
-      let f = fine14 sheet z in
+      let f = call-fine sheet z in
       let r = reached (nOf sheet) (f .n-low) (f .n-high) (p .first) s t (steps-runs sheet z (p .steps)) in
       in-form-of (nOf sheet) s (f .n-high) (r .held .wide) (r .form)
 
   pub roomy : formWith (nOf sheet) s (roomOf t) ≡ true
   roomy =
-      let f = fine14 sheet z in
+      let f = call-fine sheet z in
       form-made (nOf sheet) s (roomOf t) formed (reached (nOf sheet) (f .n-low) (f .n-high) (p .first) s t (steps-runs sheet z (p .steps)) .room)
 
   pub few : s .stops ≤ 64
   few =
-      let f = fine14 sheet z in
+      let f = call-fine sheet z in
       omega (arith, f .n-high, reached (nOf sheet) (f .n-low) (f .n-high) (p .first) s t (steps-runs sheet z (p .steps)) .form .board .route .most)
 
   -- the step is not refused before it begins
@@ -86,6 +86,6 @@ module _ {sheet : List ℕ} {s : State} {t : List ℕ} (z : refusal14 sheet ≡ 
           subst (λ (o : Ran). Reached sheet (o .0 .state) (o .1)) (sym u) p
 
 -- what the verdict and the line ask of such a state
-pub readied : {sheet : List ℕ} {at : Layout} {s : State} {t : List ℕ} → refusal14 sheet ≡ 0 → Laid sheet at → Reached sheet s t
+pub readied : {sheet : List ℕ} {at : Layout} {s : State} {t : List ℕ} → callRefusal sheet ≡ 0 → Laid sheet at → Reached sheet s t
     → Ready sheet at (s .route) (s .stops) (s .sets) (s .marks)
 readied {s = s} z l p = ready s z l (held z p) (formed z p)

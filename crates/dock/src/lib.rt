@@ -6,7 +6,7 @@ ghost use Prim.Native.Nat.{ℕ, _+_, _≤_, _<_};
 ghost use lib.ListN.{length};
 ghost use Rattle.sheet.specs.Section.{nOf};
 ghost use Rattle.sheet.specs.Place.{Laid};
-ghost use Rattle.day.specs.Refuse.{refusal14};
+ghost use Rattle.day.specs.Refuse.{callRefusal};
 ghost use Rattle.day.specs.Tell.{stepWord};
 ghost use Rattle.board.specs.Board.{stateWith};
 ghost use Rattle.board.specs.Form.{inForm};
@@ -15,11 +15,13 @@ ghost use Rattle.listing.specs.Put.{Put};
 ghost use Rattle.planner.specs.Face.{stepOf, acted};
 ghost use Rattle.dock.specs.Line.{lineOf, Reached};
 use board::Figures;
+use board::State;
 use board::places::count;
 use listing::Three;
 use listing::put_step;
 use planner::known::Acted;
 use planner::known::act;
+use rules::Node;
 use sheet::Layout;
 
 // The sheet's i-th step, from 0, on a state that was reached from the fresh one: neither sheet nor state is asked again.
@@ -27,13 +29,13 @@ pub fn step_at(
     sheet: &[u8],
     at: Layout,
     i: usize,
-    route: &mut [usize; 64],
-    sets: &mut [u64; 64],
-    levels: &mut [usize; 64],
+    route: &mut [usize; Node::MOST],
+    sets: &mut [u64; Node::MOST],
+    levels: &mut [usize; State::LEVELS],
     f: Figures,
     trail: &mut [u64],
 ) -> Acted
-    requires { ⌜ (refusal14 (now sheet) ≡ 0) × Laid (now sheet) at × (i < at .steps) × Reached (now sheet) (stateWith (now route) (now sets) (now levels) f) (now trail) ⌝ }
+    requires { ⌜ (callRefusal (now sheet) ≡ 0) × Laid (now sheet) at × (i < at .steps) × Reached (now sheet) (stateWith (now route) (now sets) (now levels) f) (now trail) ⌝ }
     ensures { λ r. ⌜ (stepOf (now (sheet .entry)) (stateWith (now (route .entry)) (now (sets .entry)) (now (levels .entry)) f) (now (trail .entry)) (stepWord (now (sheet .entry)) i 0) (stepWord (now (sheet .entry)) i 1) (stepWord (now (sheet .entry)) i 2) ≡ acted (r .answer) (r .rounds) (stateWith (now (route .exit)) (now (sets .exit)) (now (levels .exit)) (r .after)) (now (trail .exit))) × Reached (now (sheet .entry)) (stateWith (now (route .exit)) (now (sets .exit)) (now (levels .exit)) (r .after)) (now (trail .exit)) ⌝ }
 {
     let kind = day::look::step_word(sheet, at, i, 0);
@@ -65,12 +67,12 @@ pub fn put_line<'a>(
     at: Layout,
     i: usize,
     a: Acted,
-    route: &'a [usize; 64],
-    sets: &'a [u64; 64],
+    route: &'a [usize; Node::MOST],
+    sets: &'a [u64; Node::MOST],
     out: &mut [u8],
     used: usize,
 ) -> usize
-    requires { ⌜ (refusal14 (now sheet) ≡ 0) × Laid (now sheet) at × (i < at .steps) × (used + 200 ≤ length (now out)) × Ready (now sheet) at (now route) (a .after .stops) (now sets) (a .after .marks) ⌝ }
+    requires { ⌜ (callRefusal (now sheet) ≡ 0) × Laid (now sheet) at × (i < at .steps) × (used + 200 ≤ length (now out)) × Ready (now sheet) at (now route) (a .after .stops) (now sets) (a .after .marks) ⌝ }
     ensures { λ r. ⌜ ((levels : List ℕ) → inForm (nOf (now (sheet .entry))) (stateWith (now (route .entry)) (now (sets .entry)) levels (a .after)) ≡ true → Put (now (out .entry)) used (lineOf (now (sheet .entry)) i (acted (a .answer) (a .rounds) (stateWith (now (route .entry)) (now (sets .entry)) levels (a .after)) (now (out .entry)) .0)) r (now (out .exit))) ⌝ }
 {
     let after = a.after;
@@ -101,15 +103,15 @@ pub fn put_lines(
     sheet: &[u8],
     at: Layout,
     from: usize,
-    route: &mut [usize; 64],
-    sets: &mut [u64; 64],
-    levels: &mut [usize; 64],
+    route: &mut [usize; Node::MOST],
+    sets: &mut [u64; Node::MOST],
+    levels: &mut [usize; State::LEVELS],
     f: Figures,
     trail: &mut [u64],
     out: &mut [u8],
     start: usize,
 ) -> Part
-    requires { ⌜ (refusal14 (now sheet) ≡ 0) × Laid (now sheet) at × (from ≤ at .steps) × (start ≤ length (now out)) × Reached (now sheet) (stateWith (now route) (now sets) (now levels) f) (now trail) ⌝ }
+    requires { ⌜ (callRefusal (now sheet) ≡ 0) × Laid (now sheet) at × (from ≤ at .steps) × (start ≤ length (now out)) × Reached (now sheet) (stateWith (now route) (now sets) (now levels) f) (now trail) ⌝ }
     ensures { λ r. ⌜ (r .next ≤ at .steps) × (r .used ≤ length (now (out .exit))) × (length (now (out .exit)) ≡ length (now (out .entry))) × (from < at .steps → start + 200 ≤ length (now (out .entry)) → from < r .next) × Reached (now (sheet .entry)) (stateWith (now (route .exit)) (now (sets .exit)) (now (levels .exit)) (r .after)) (now (trail .exit)) ⌝ }
 {
     let room = out.len();

@@ -5,6 +5,7 @@ ghost use Prim.Native.Nat.{_+_, _*_, _≤_, _<_};
 ghost use lib.ListN.{length, take};
 ghost use Rattle.listing.specs.Text.{decimal, field, threeFields, stepLine, stopText, stopsText, routeLine, refusedLine};
 ghost use Rattle.listing.specs.Put.{Put};
+use rules::Node;
 
 // Three numbers of a line.
 pub struct Three {
@@ -102,7 +103,7 @@ fn put_stop(out: &mut [u8], at: usize, x: u64) -> usize
 }
 
 // The stops of the route line.
-fn put_stops(out: &mut [u8], at: usize, route: &[usize; 64], stops: usize) -> usize
+fn put_stops(out: &mut [u8], at: usize, route: &[usize; Node::MOST], stops: usize) -> usize
     requires { ⌜ (stops ≤ 64) × (length (now route) ≡ 64) × (at + 21 * stops ≤ length (now out)) ⌝ }
     ensures { λ r. ⌜ Put (now (out .entry)) at (stopsText (take stops (now (route .entry)))) r (now (out .exit)) ⌝ }
 {
@@ -116,7 +117,7 @@ fn put_stops(out: &mut [u8], at: usize, route: &[usize; 64], stops: usize) -> us
 }
 
 // The line of the route.
-pub fn put_route(out: &mut [u8], at: usize, route: &[usize; 64], stops: usize) -> usize
+pub fn put_route(out: &mut [u8], at: usize, route: &[usize; Node::MOST], stops: usize) -> usize
     requires { ⌜ (stops ≤ 64) × (length (now route) ≡ 64) × (at + 1350 ≤ length (now out)) ⌝ }
     ensures { λ r. ⌜ Put (now (out .entry)) at (routeLine (take stops (now (route .entry)))) r (now (out .exit)) ⌝ }
 {

@@ -5,7 +5,7 @@ ghost use lib.ListN.{length};
 ghost use Rattle.sheet.specs.Section.{nOf};
 ghost use Rattle.sheet.specs.Place.{Laid};
 ghost use Rattle.board.specs.Fresh.{freshState};
-ghost use Rattle.day.specs.Refuse.{refusal14};
+ghost use Rattle.day.specs.Refuse.{callRefusal};
 use board::Figures;
 use board::State;
 use board::places::count;
@@ -15,6 +15,7 @@ use libc::STDOUT_FILENO;
 use listing::put_number;
 use listing::put_refused;
 use listing::put_route;
+use rules::Node;
 use sheet::Layout;
 use std::num::wrapping_add_u64;
 
@@ -42,7 +43,7 @@ fn room(used: usize) -> usize
 
 // The lines of the steps and the route, into memory.
 fn run(sheet: &[u8], at: Layout, fresh: State, trail: &mut [u64], out: &mut [u8]) -> usize
-    requires { ⌜ (refusal14 (now sheet) ≡ 0) × Laid (now sheet) at × (length (now out) ≡ 240000) × (fresh ≡ freshState (nOf (now sheet))) ⌝ }
+    requires { ⌜ (callRefusal (now sheet) ≡ 0) × Laid (now sheet) at × (length (now out) ≡ 240000) × (fresh ≡ freshState (nOf (now sheet))) ⌝ }
 {
     let mut route = fresh.route;
     let mut sets = fresh.sets;
@@ -107,7 +108,7 @@ fn one_step(
     let s = planner::step(sheet, state, trail, kind, first, second);
     let a = wrapping_add_u64(s.answer as u64, s.rounds as u64);
     let b = wrapping_add_u64(a, s.state.records as u64);
-    let places = count(&s.state.sets, 64);
+    let places = count(&s.state.sets, Node::MOST);
     wrapping_add_u64(b, places as u64)
 }
 

@@ -9,7 +9,7 @@ use Rattle.laws.specs.Logic.{decided, and-true}
 use Rattle.laws.specs.Choice.{orElse, or-else-zero, unless-zero}
 use Rattle.sheet.specs.Section.{nOf}
 use Rattle.sheet.specs.Place.{Fine}
-use Rattle.day.specs.Refuse.{refusal14, fine14}
+use Rattle.day.specs.Refuse.{callRefusal, call-fine}
 use Rattle.bits.specs.Places.{has}
 use Rattle.board.specs.Board.{boardOf, setOf}
 use Rattle.board.specs.Form.{inForm, formWith}
@@ -17,44 +17,44 @@ use Rattle.board.specs.declared.State.{State}
 use Rattle.trail.specs.Trail.{roomOf}
 use Rattle.trail.specs.Steps as trail
 use Rattle.trail.specs.StepLaws.{step-no, step-yes}
-use Rattle.planner.specs.Face.{Ran, refused, acted, stepped, stepOf, actOf, callRefusal, settlingRounds}
+use Rattle.planner.specs.Face.{Ran, refused, acted, stepped, stepOf, actOf, stepRefusal, settlingRounds}
 use Rattle.planner.specs.Promises.{Took, Unchanged}
 
 -- ---- a call that is not refused: the sheet is fine, the state in form, its records within the room
 
 pub record Called (sheet : List ℕ) (s : State) (t : List ℕ) : Type 0 where
-  pub read : refusal14 sheet ≡ 0
+  pub read : callRefusal sheet ≡ 0
   pub form : inForm (nOf sheet) s ≡ true
   pub room : formWith (nOf sheet) s (roomOf t) ≡ true
   pub fine : Fine sheet
 
-pub called : (sheet : List ℕ) (s : State) (t : List ℕ) → callRefusal sheet s t ≡ 0 → Called sheet s t
-unfolding callRefusal formWith
+pub called : (sheet : List ℕ) (s : State) (t : List ℕ) → stepRefusal sheet s t ≡ 0 → Called sheet s t
+unfolding stepRefusal formWith
 called sheet s t e =
-    let h = or-else-zero (refusal14 sheet) _ e in
+    let h = or-else-zero (callRefusal sheet) _ e in
     let f = unless-zero (formWith (nOf sheet) s (roomOf t)) 18 (h .1) in
-    record { read = h .0; form = and-true (inForm (nOf sheet) s) _ f .0; room = f; fine = fine14 sheet (h .0) }
+    record { read = h .0; form = and-true (inForm (nOf sheet) s) _ f .0; room = f; fine = call-fine sheet (h .0) }
 
-pub call-made : (sheet : List ℕ) (s : State) (t : List ℕ) → refusal14 sheet ≡ 0 → formWith (nOf sheet) s (roomOf t) ≡ true → callRefusal sheet s t ≡ 0
-unfolding callRefusal orElse
+pub call-made : (sheet : List ℕ) (s : State) (t : List ℕ) → callRefusal sheet ≡ 0 → formWith (nOf sheet) s (roomOf t) ≡ true → stepRefusal sheet s t ≡ 0
+unfolding stepRefusal orElse
 call-made sheet s t z f = rw (z, f)
 
 module _ (sheet : List ℕ) (s : State) (t : List ℕ) (kind a b : ℕ) where
-  pub call-yes : callRefusal sheet s t ≡ 0 → stepOf sheet s t kind a b ≡ actOf sheet s t kind a b
+  pub call-yes : stepRefusal sheet s t ≡ 0 → stepOf sheet s t kind a b ≡ actOf sheet s t kind a b
   unfolding stepOf
-  call-yes e = rw (eq-eqb (callRefusal sheet s t) 0 e)
+  call-yes e = rw (eq-eqb (stepRefusal sheet s t) 0 e)
 
-  pub call-no : (callRefusal sheet s t ≡ 0 → ⊥) → stepOf sheet s t kind a b ≡ refused (callRefusal sheet s t) s t
+  pub call-no : (stepRefusal sheet s t ≡ 0 → ⊥) → stepOf sheet s t kind a b ≡ refused (stepRefusal sheet s t) s t
   unfolding stepOf
-  call-no n = rw (ne-eqb (callRefusal sheet s t) 0 n)
+  call-no n = rw (ne-eqb (stepRefusal sheet s t) 0 n)
 
   -- an accepted step was called on a fine sheet and a state in form, and it acted
   pub acting : {k : ℕ} {s′ : State} {t′ : List ℕ} → Took sheet s t kind a b k s′ t′
       → Called sheet s t × (actOf sheet s t kind a b ≡ acted 0 k s′ t′)
   acting e =
-      decided (eqb (callRefusal sheet s t) 0)
-      (λ q. let z = eqb-true (callRefusal sheet s t) 0 q in (called sheet s t z, sym (call-yes z) ∙ e))
-      (λ q. let n = eqb-false (callRefusal sheet s t) 0 q in absurd (n (sym (ap (λ (r : Ran). r .0 .answer) (call-no n)) ∙ ap (λ (r : Ran). r .0 .answer) e)))
+      decided (eqb (stepRefusal sheet s t) 0)
+      (λ q. let z = eqb-true (stepRefusal sheet s t) 0 q in (called sheet s t z, sym (call-yes z) ∙ e))
+      (λ q. let n = eqb-false (stepRefusal sheet s t) 0 q in absurd (n (sym (ap (λ (r : Ran). r .0 .answer) (call-no n)) ∙ ap (λ (r : Ran). r .0 .answer) e)))
 
 -- ---- a step of the board, lifted
 
@@ -93,6 +93,6 @@ act-leaves sheet s t kind a b =
 
 pub unchanged : Unchanged
 unchanged sheet s t kind a b left =
-    decided (eqb (callRefusal sheet s t) 0)
-    (λ q. let e = call-yes sheet s t kind a b (eqb-true (callRefusal sheet s t) 0 q) in rw e (act-leaves sheet s t kind a b (rw e at left)))
-    (λ q. let e = call-no sheet s t kind a b (eqb-false (callRefusal sheet s t) 0 q) in rw e refl)
+    decided (eqb (stepRefusal sheet s t) 0)
+    (λ q. let e = call-yes sheet s t kind a b (eqb-true (stepRefusal sheet s t) 0 q) in rw e (act-leaves sheet s t kind a b (rw e at left)))
+    (λ q. let e = call-no sheet s t kind a b (eqb-false (stepRefusal sheet s t) 0 q) in rw e refl)

@@ -6,7 +6,7 @@ use native.Mathlib.Omega.{arith}
 use lib.Dec.{ltb}
 use Rattle.laws.specs.Choice.{unless}
 use Rattle.sheet.specs.Section.{nOf}
-use Rattle.day.specs.Refuse.{refusal14, fine14}
+use Rattle.day.specs.Refuse.{callRefusal, call-fine}
 use Rattle.board.specs.Board.{Board, boardOf}
 use Rattle.board.specs.FormLaws as board
 use Rattle.board.specs.Fresh.{freshState}
@@ -18,7 +18,7 @@ use Rattle.trail.specs.Run as run
 use Rattle.trail.specs.Since.{Since, accepted, move-since}
 use Rattle.trail.specs.StepBack.{here-since, step-back, step-back-below}
 use Rattle.trail.specs.Bound.{reached, records-bound}
-use Rattle.planner.specs.Face.{Ran, stepped, actOf, callRefusal}
+use Rattle.planner.specs.Face.{Ran, stepped, actOf, stepRefusal}
 use Rattle.planner.specs.Promises.{Took, Steps, none, then, StepsBack, RecordsBounded}
 use Rattle.planner.proofs.Answers.{Called, acting, call-yes, call-made}
 use Rattle.planner.proofs.Moves.{moved, unlift}
@@ -58,7 +58,7 @@ acted-level : (sheet : List ℕ) (s s₁ : State) (t t₁ : List ℕ) (a b k : �
 unfolding actOf
 acted-level sheet s s₁ t t₁ a b k e = unlift 0 (trail.levelStep s t) (acting sheet s t 6 a b e .1)
 
-took-back : (sheet : List ℕ) (s s′ : State) (t : List ℕ) (a b : ℕ) → callRefusal sheet s t ≡ 0 → trail.backStep (nOf sheet) s t ≡ trail.answered 0 s′ t → Took sheet s t 7 a b 0 s′ t
+took-back : (sheet : List ℕ) (s s′ : State) (t : List ℕ) (a b : ℕ) → stepRefusal sheet s t ≡ 0 → trail.backStep (nOf sheet) s t ≡ trail.answered 0 s′ t → Took sheet s t 7 a b 0 s′ t
 unfolding actOf
 took-back sheet s s′ t a b z e = call-yes sheet s t 7 a b z ∙ ap (stepped 0) e
 
@@ -80,12 +80,12 @@ steps-back sheet s s₁ s₂ t t₁ t₂ a b k c d held e steps last =
 
 -- ---- from a fresh state
 
-pub steps-runs : (sheet : List ℕ) {m : ℕ} {s : State} {t t′ : List ℕ} → refusal14 sheet ≡ 0 → Steps sheet m (freshState (nOf sheet)) t s t′ → run.Runs (nOf sheet) (freshState (nOf sheet)) t s t′
+pub steps-runs : (sheet : List ℕ) {m : ℕ} {s : State} {t t′ : List ℕ} → callRefusal sheet ≡ 0 → Steps sheet m (freshState (nOf sheet)) t s t′ → run.Runs (nOf sheet) (freshState (nOf sheet)) t s t′
 steps-runs sheet z none = run.none
 steps-runs sheet {t = t} z (then {s′ = q} {t′ = v} kind a c j p e deep) =
     let i = steps-runs sheet z p in
-    let fine = fine14 sheet z in
+    let fine = call-fine sheet z in
     run.more i (moved sheet q v kind a c (reached (nOf sheet) (fine .n-low) (fine .n-high) t q v i .held) e)
 
 pub records-bounded : RecordsBounded
-records-bounded sheet s t t′ z steps = let fine = fine14 sheet z in records-bound (nOf sheet) (fine .n-low) (fine .n-high) t s t′ (steps-runs sheet z steps)
+records-bounded sheet s t t′ z steps = let fine = call-fine sheet z in records-bound (nOf sheet) (fine .n-low) (fine .n-high) t s t′ (steps-runs sheet z steps)

@@ -9,9 +9,9 @@ use native.Mathlib.Omega.{arith}
 use borrow.Author.Tests.{eq-eqb, le-leb}
 use Rattle.laws.specs.Choice.{orElse, unless, or-else-zero, unless-zero}
 use Rattle.sheet.specs.Section.{nOf}
-use Rattle.day.specs.Refuse.{refusal14}
+use Rattle.day.specs.Refuse.{callRefusal}
 use Rattle.day.specs.Tell.{dayOf, vanOf}
-use Rattle.rules.specs.Day.{Van}
+use Rattle.rules.specs.declared.Van.{Van}
 use Rattle.rules.specs.Settle.{settle, rounds}
 use Rattle.board.specs.Board.{stateWith, boardOf, onBoard, routeOf, setOf, openAt}
 use Rattle.board.specs.Form.{inForm, formWith}
@@ -24,13 +24,13 @@ use Rattle.trail.specs.StepLaws.{step-yes}
 use Rattle.settle.specs.Sets.{placesOf, setsOf}
 use Rattle.settle.specs.Ready.{Settles}
 use Rattle.planner.proofs.Answers.{call-no}
-use Rattle.planner.specs.Face.{Ran, refused, acted, stepped, settledSets, settlingRounds, askRefusal, callRefusal, stepOf}
+use Rattle.planner.specs.Face.{Ran, refused, acted, stepped, settledSets, settlingRounds, askRefusal, stepRefusal, stepOf}
 
 -- ---- a call that is not refused for its sheet and its state
 
-pub asked : (sheet : List ℕ) (s : State) → askRefusal sheet s ≡ 0 → (refusal14 sheet ≡ 0) × (inForm (nOf sheet) s ≡ true)
+pub asked : (sheet : List ℕ) (s : State) → askRefusal sheet s ≡ 0 → (callRefusal sheet ≡ 0) × (inForm (nOf sheet) s ≡ true)
 unfolding askRefusal
-asked sheet s e = let h = or-else-zero (refusal14 sheet) _ e in (h .0, unless-zero (inForm (nOf sheet) s) 18 (h .1))
+asked sheet s e = let h = or-else-zero (callRefusal sheet) _ e in (h .0, unless-zero (inForm (nOf sheet) s) 18 (h .1))
 
 -- the code asks with a state's arrays and its other numbers
 pub whole : (asks : State → ℕ) (s : State) {f : Figures} {k : ℕ} → k ≡ asks (stateWith (s .route) (s .sets) (s .levels) f)
@@ -38,9 +38,9 @@ pub whole : (asks : State → ℕ) (s : State) {f : Figures} {k : ℕ} → k ≡
 whole asks s e h = e ∙ ap (λ (f : Figures). asks (stateWith (s .route) (s .sets) (s .levels) f)) h
 
 -- the records are asked last
-pub call-last : (sheet : List ℕ) (s : State) (t : List ℕ) → callRefusal sheet s t ≡ orElse (askRefusal sheet s) (unless (leb (s .records) (roomOf t)) 19)
-unfolding callRefusal askRefusal formWith orElse
-call-last sheet s t = go (refusal14 sheet) (inForm (nOf sheet) s) (leb (s .records) (roomOf t))
+pub call-last : (sheet : List ℕ) (s : State) (t : List ℕ) → stepRefusal sheet s t ≡ orElse (askRefusal sheet s) (unless (leb (s .records) (roomOf t)) 19)
+unfolding stepRefusal askRefusal formWith orElse
+call-last sheet s t = go (callRefusal sheet) (inForm (nOf sheet) s) (leb (s .records) (roomOf t))
   where
     go : (a : ℕ) (b c : Bool) → orElse a (unless (b && c) 19) ≡ orElse (orElse a (unless b 19)) (unless c 19)
     go zero true c = refl
@@ -48,7 +48,7 @@ call-last sheet s t = go (refusal14 sheet) (inForm (nOf sheet) s) (leb (s .recor
     go (suc a) b c = refl
 
 -- refused with the number that was found
-pub step-refused : (sheet : List ℕ) (s : State) (t : List ℕ) (kind a b : ℕ) {k : ℕ} → k ≡ callRefusal sheet s t → (k ≡ 0 → ⊥)
+pub step-refused : (sheet : List ℕ) (s : State) (t : List ℕ) (kind a b : ℕ) {k : ℕ} → k ≡ stepRefusal sheet s t → (k ≡ 0 → ⊥)
     → stepOf sheet s t kind a b ≡ refused k s t
 step-refused sheet s t kind a b {k} e n = call-no sheet s t kind a b (λ z. n (e ∙ z)) ∙ ap (λ (j : ℕ). refused j s t) (sym e)
 

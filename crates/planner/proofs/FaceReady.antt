@@ -6,14 +6,14 @@ use mathlib.Core.List.{List}
 use native.Mathlib.Omega.{arith}
 use lib.Dec.{T}
 use lib.ListN.{length, take}
-use Rattle.rules.specs.Day.{Van}
+use Rattle.rules.specs.declared.Van.{Van}
 use Rattle.rules.specs.Plan.{Places}
 use Rattle.rules.proofs.Fixpoint.{settle-less}
 use Rattle.rules.proofs.Forms.{fewer-formed}
 use Rattle.sheet.specs.Section.{nOf}
 use Rattle.sheet.specs.Place.{Laid}
 use Rattle.sheet.specs.declared.Layout.{Layout}
-use Rattle.day.specs.Refuse.{refusal14}
+use Rattle.day.specs.Refuse.{callRefusal}
 use Rattle.day.specs.Tell.{dayOf}
 use Rattle.board.specs.Board.{boardOf, routeOf, setOf, openAt}
 use Rattle.board.specs.Form.{inForm, formWith}
@@ -26,7 +26,7 @@ use Rattle.settle.proofs.Facts.{settled-open}
 use Rattle.planner.proofs.Plans.{state-formed}
 
 -- a sheet that 1 to 4 do not refuse and a state in form; the plan of its arrays is the plan that its board stands for
-pub ready : {sheet : List ℕ} {at : Layout} (s : State) → refusal14 sheet ≡ 0 → Laid sheet at → Held s → inForm (nOf sheet) s ≡ true
+pub ready : {sheet : List ℕ} {at : Layout} (s : State) → callRefusal sheet ≡ 0 → Laid sheet at → Held s → inForm (nOf sheet) s ≡ true
     → Ready sheet at (s .route) (s .stops) (s .sets) (s .marks)
 unfolding routeOf openAt setOf
 ready {sheet} {at} s z l h e =

@@ -13,7 +13,7 @@ use Rattle.laws.specs.Logic.{decided, true→T, false→N}
 use Rattle.laws.specs.Lists.{mem}
 use Rattle.laws.specs.Sum.{sum-lt}
 use Rattle.sheet.specs.Section.{nOf}
-use Rattle.day.specs.Refuse.{refusal14}
+use Rattle.day.specs.Refuse.{callRefusal}
 use Rattle.day.specs.Tell.{dayOf, vanOf}
 use Rattle.day.specs.Asked.{proper, one-end, short-tables}
 use Rattle.bits.specs.Places.{has}
@@ -58,7 +58,7 @@ form-kept sheet s s′ t t′ kind a b k held wordy e =
     (form-made (nOf sheet) s′ (roomOf t′) (board.in-form-of (nOf sheet) s′ small (m .held .wide) (m .form)) (m .room), m .held, m .long)
 
 -- a step on a sheet that 1 to 4 do not refuse and a state in form acts
-pub step-acts : (sheet : List ℕ) (s : State) (t : List ℕ) (kind a b : ℕ) → refusal14 sheet ≡ 0 → formWith (nOf sheet) s (roomOf t) ≡ true
+pub step-acts : (sheet : List ℕ) (s : State) (t : List ℕ) (kind a b : ℕ) → callRefusal sheet ≡ 0 → formWith (nOf sheet) s (roomOf t) ≡ true
     → stepOf sheet s t kind a b ≡ actOf sheet s t kind a b
 step-acts sheet s t kind a b z e = call-yes sheet s t kind a b (call-made sheet s t z e)
 

@@ -9,7 +9,7 @@ use borrow.Author.Tests.{eqb-true, eqb-false, ltb-true}
 use Rattle.laws.specs.Logic.{decided}
 use Rattle.laws.specs.Choice.{orElse, unless}
 use Rattle.sheet.specs.Section.{nOf}
-use Rattle.day.specs.Refuse.{refusal14, fine14}
+use Rattle.day.specs.Refuse.{callRefusal, call-fine}
 use Rattle.bits.specs.Places.{has}
 use Rattle.board.specs.Board.{Board, boardOf, setOf, openAt, onRoute, inner, legNode}
 use Rattle.board.specs.Fresh.{freshState}
@@ -22,7 +22,7 @@ use Rattle.trail.specs.StepLaws.{step-yes, step-no}
 use Rattle.trail.specs.Run as run
 use Rattle.trail.specs.Bound.{reached}
 use Rattle.trail.specs.Never.{records-room, place-17, exclude-17, require-17, settle-17, back-20}
-use Rattle.planner.specs.Face.{Ran, stepped, stepOf, actOf, callRefusal, owedOf, settledSets, settlingRounds}
+use Rattle.planner.specs.Face.{Ran, stepped, stepOf, actOf, stepRefusal, owedOf, settledSets, settlingRounds}
 use Rattle.planner.specs.Promises.{Steps, NeverShort}
 use Rattle.planner.proofs.Answers.{called, call-made, call-yes, either, zero-both}
 use Rattle.planner.proofs.Moves.{settled-smaller}
@@ -93,17 +93,17 @@ act-avoids sheet s t kind a b m h =
 
 -- ---- the three numbers
 
-module _ (sheet : List ℕ) (s : State) (t t′ : List ℕ) (z : refusal14 sheet ≡ 0) (space : nOf sheet * (nOf sheet - 2) ≤ roomOf t) (steps : Steps sheet 0 (freshState (nOf sheet)) t s t′) where
+module _ (sheet : List ℕ) (s : State) (t t′ : List ℕ) (z : callRefusal sheet ≡ 0) (space : nOf sheet * (nOf sheet - 2) ≤ roomOf t) (steps : Steps sheet 0 (freshState (nOf sheet)) t s t′) where
   runs : run.Runs (nOf sheet) (freshState (nOf sheet)) t s t′
   runs = steps-runs sheet z steps
 
   two : 2 ≤ nOf sheet
-  two = fine14 sheet z .n-low
+  two = call-fine sheet z .n-low
 
   small : nOf sheet ≤ 64
-  small = fine14 sheet z .n-high
+  small = call-fine sheet z .n-high
 
-  call : callRefusal sheet s t′ ≡ 0
+  call : stepRefusal sheet s t′ ≡ 0
   call =
       let h = reached (nOf sheet) two small t s t′ runs in
       call-made sheet s t′ z (form-made (nOf sheet) s (roomOf t′) (board.in-form-of (nOf sheet) s small (h .held .wide) (h .form)) (records-room (nOf sheet) two small t s t′ runs space))

@@ -10,7 +10,7 @@ use borrow.Author.Tests.{eqb-true}
 use Rattle.laws.specs.Logic.{decided, T→true, true→T, false→N}
 use Rattle.laws.specs.Lists.{mem}
 use Rattle.sheet.specs.Section.{nOf}
-use Rattle.day.specs.Refuse.{refusal14, fine14}
+use Rattle.day.specs.Refuse.{callRefusal, call-fine}
 use Rattle.day.specs.Tell.{dayOf, vanOf}
 use Rattle.bits.specs.Places.{has}
 use Rattle.bits.specs.Members.{has-none, has-low}
@@ -35,9 +35,9 @@ use Rattle.planner.specs.Promises.{Took}
 use Rattle.planner.proofs.Answers.{Called, acting}
 
 -- the plan of a state in form is in form
-pub state-formed : (sheet : List ℕ) (s : State) → Held s → refusal14 sheet ≡ 0 → inForm (nOf sheet) s ≡ true → Formed (dayOf sheet) (planIn s)
+pub state-formed : (sheet : List ℕ) (s : State) → Held s → callRefusal sheet ≡ 0 → inForm (nOf sheet) s ≡ true → Formed (dayOf sheet) (planIn s)
 state-formed sheet s held z e =
-    let small = fine14 sheet z .n-high in
+    let small = call-fine sheet z .n-high in
     stands-formed (dayOf sheet) (boardOf s) small (held .wide) (held .words) (board.in-form (nOf sheet) s small (held .wide) e .board)
 
 module _ {sheet : List ℕ} {s : State} {t : List ℕ} (typed : Held s) (c : Called sheet s t) where

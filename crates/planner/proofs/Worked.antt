@@ -7,7 +7,7 @@ use native.Mathlib.Omega.{arith}
 use lib.Dec.{eqb}
 use Rattle.laws.specs.Choice.{orElse}
 use Rattle.sheet.specs.Section.{nOf}
-use Rattle.day.specs.Refuse.{refusal14, zero14}
+use Rattle.day.specs.Refuse.{callRefusal, call-zero}
 use Rattle.day.specs.Tell.{dayOf, vanOf}
 use Rattle.day.specs.Asked.{one-end, short-tables}
 use Rattle.bits.specs.Places.{has}
@@ -95,12 +95,12 @@ module _ (sheet : List ℕ) (s : State) (t : List ℕ) (held : Held s) (c : Call
       step-to (settled-plan sheet q v (i .1 .held) a b e .0) (rules.settling (i .0)) (onward q v r u 5 a b k (i .1) e (settled-depth sheet q v a b e))
 
 -- the verdict asked of a state that is not refused
-judged : (sheet : List ℕ) (s : State) → refusal14 sheet ≡ 0 → inForm (nOf sheet) s ≡ true → judgeOf sheet s .alive ≡ alive (vanOf sheet) (dayOf sheet) (planIn s)
+judged : (sheet : List ℕ) (s : State) → callRefusal sheet ≡ 0 → inForm (nOf sheet) s ≡ true → judgeOf sheet s .alive ≡ alive (vanOf sheet) (dayOf sheet) (planIn s)
 unfolding judgeOf askRefusal orElse
 judged sheet s z e = rw (z, e)
 
 -- a run and the settling after it: the run of the rules, the plan at the end, and its verdict as it is asked
-module _ (sheet : List ℕ) (s s₁ s₂ : State) (t t₁ t₂ X : List ℕ) (a b k : ℕ) (z : refusal14 sheet ≡ 0) (held : Held s) (run : Run sheet s t s₁ t₁ X) (e : Took sheet s₁ t₁ 5 a b k s₂ t₂) where
+module _ (sheet : List ℕ) (s s₁ s₂ : State) (t t₁ t₂ X : List ℕ) (a b k : ℕ) (z : callRefusal sheet ≡ 0) (held : Held s) (run : Run sheet s t s₁ t₁ X) (e : Took sheet s₁ t₁ 5 a b k s₂ t₂) where
   start : Called sheet s t
   start = called-start run (acting sheet s₁ t₁ 5 a b e .0)
 
@@ -120,7 +120,7 @@ module _ (sheet : List ℕ) (s s₁ s₂ : State) (t t₁ t₂ X : List ℕ) (a 
 
 pub worked-out : WorkedOut
 worked-out sheet s s₁ s₂ t t₁ t₂ X a b k z held form run e =
-    let y = zero14 sheet z in
+    let y = call-zero sheet z in
     let same = run-alike (vanOf sheet) (dayOf sheet) (short-tables sheet z) (one-end sheet y) (planIn s) (state-formed sheet s held y form) (ruled sheet s s₁ s₂ t t₁ t₂ X a b k y held run e) in (
       λ x p. ap (λ (q : Plan). q .places x p) (end-plan sheet s s₁ s₂ t t₁ t₂ X a b k y held run e) ∙ same .places x p,
       end-verdict sheet s s₁ s₂ t t₁ t₂ X a b k y held run e ∙ same .verdict,
@@ -128,7 +128,7 @@ worked-out sheet s s₁ s₂ t t₁ t₂ X a b k z held form run e =
 
 pub alike : RunsAlike
 alike sheet s s₁ s₂ s₃ s₄ t t′ t₁ t₂ t₃ t₄ X Y a b k a′ b′ k′ z held form run e run′ e′ route shut marks =
-    let y = zero14 sheet z in
+    let y = call-zero sheet z in
     let same = runs-alike (vanOf sheet) (dayOf sheet) (short-tables sheet z) (one-end sheet y) (planIn s) (state-formed sheet s held y form)
     (ruled sheet s s₁ s₂ t t₁ t₂ X a b k y held run e) (ruled sheet s s₃ s₄ t′ t₃ t₄ Y a′ b′ k′ y held run′ e′) route shut marks in (
       λ x p. ap (λ (q : Plan). q .places x p) (end-plan sheet s s₁ s₂ t t₁ t₂ X a b k y held run e) ∙ same .places x p

@@ -5,7 +5,7 @@ use mathlib.Core.List.{List}
 use lib.Dec.{eqb}
 use Rattle.laws.specs.Choice.{orElse, unless}
 use Rattle.sheet.specs.Section.{nOf}
-use Rattle.day.specs.Refuse.{refusal14, refusal15}
+use Rattle.day.specs.Refuse.{callRefusal, openRefusal}
 use Rattle.day.specs.Tell.{dayOf, vanOf}
 use Rattle.rules.specs.Plan.{Plan}
 use Rattle.rules.specs.Settle.{settle, rounds}
@@ -31,12 +31,12 @@ planIn s = planOf (boardOf s)
 
 unfoldable pub openOf : List ℕ → Opened
 openOf sheet =
-    record { answer = refusal15 sheet; state = cond (eqb (refusal15 sheet) 0) (freshState (nOf sheet)) noState }
+    record { answer = openRefusal sheet; state = cond (eqb (openRefusal sheet) 0) (freshState (nOf sheet)) noState }
 
 -- ---- asking: 1 to 4, then 19; "returns the number, with 0 and dead beside it"
 
 unfoldable pub askRefusal : List ℕ → State → ℕ
-askRefusal sheet s = orElse (refusal14 sheet) (unless (inForm (nOf sheet) s) 19)
+askRefusal sheet s = orElse (callRefusal sheet) (unless (inForm (nOf sheet) s) 19)
 
 unfoldable pub countOf : List ℕ → State → Counted
 countOf sheet s = record { answer = askRefusal sheet s; places = cond (eqb (askRefusal sheet s) 0) (placesOf (s .sets) 64) 0 }
@@ -87,9 +87,9 @@ actOf sheet s t kind first second =
     (cond (eqb kind 7) (stepped 0 (trail.backStep (nOf sheet) s t))
     (refused 11 s t)))))))
 
-unfoldable pub callRefusal : List ℕ → State → List ℕ → ℕ
-callRefusal sheet s t = orElse (refusal14 sheet) (unless (formWith (nOf sheet) s (roomOf t)) 19)
+unfoldable pub stepRefusal : List ℕ → State → List ℕ → ℕ
+stepRefusal sheet s t = orElse (callRefusal sheet) (unless (formWith (nOf sheet) s (roomOf t)) 19)
 
 unfoldable pub stepOf : List ℕ → State → List ℕ → ℕ → ℕ → ℕ → Ran
 stepOf sheet s t kind first second =
-    cond (eqb (callRefusal sheet s t) 0) (actOf sheet s t kind first second) (refused (callRefusal sheet s t) s t)
+    cond (eqb (stepRefusal sheet s t) 0) (actOf sheet s t kind first second) (refused (stepRefusal sheet s t) s t)

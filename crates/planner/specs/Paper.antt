@@ -11,17 +11,18 @@ use Rattle.laws.specs.Choice.{orElse}
 use Rattle.laws.specs.Sum.{sumBelow}
 use Rattle.laws.specs.Table.{tab}
 use Rattle.sheet.specs.Word.{wordAt}
-use Rattle.sheet.specs.Section.{headRefusal, limitsRefusal, nodesRefusal, jobsRefusal, tableRefusal, stepsRefusal, tablesRefusal, laterRefusal, refusal13}
+use Rattle.sheet.specs.Section.{headRefusal, limitsRefusal, nodesRefusal, jobsRefusal, tableRefusal, stepsRefusal, tablesRefusal, laterRefusal, readRefusal}
 use Rattle.day.specs.Jobs.{jobAt}
 use Rattle.day.specs.Twice.{clash, apart}
 use Rattle.day.specs.Tables.{cell}
-use Rattle.day.specs.Refuse.{refusal14}
+use Rattle.day.specs.Refuse.{callRefusal}
 use Rattle.day.specs.Tell.{dayOf, vanOf}
 use Rattle.day.specs.Example.{sheetWith}
 use Rattle.bits.specs.Places.{digit, has, with, within}
 use Rattle.rules.specs.Along.{startAt, lastAt}
 use Rattle.rules.specs.Rounds.{keeps}
-use Rattle.rules.specs.Day.{Day, Van}
+use Rattle.rules.specs.Day.{Day}
+use Rattle.rules.specs.declared.Van.{Van}
 use Rattle.rules.specs.Plan.{Plan}
 use Rattle.rules.specs.Every.{everyRound, belongs, count}
 use Rattle.rules.specs.Verdict as rules
@@ -39,7 +40,7 @@ use Rattle.trail.specs.Refusals.{placeRefusal}
 use Rattle.trail.specs.Steps as trail
 use Rattle.settle.specs.Sets.{setsOf}
 use Rattle.settle.specs.Sets as words
-use Rattle.planner.specs.Face.{planIn, stepOf, actOf, callRefusal, askRefusal, countOf, judgeOf}
+use Rattle.planner.specs.Face.{planIn, stepOf, actOf, stepRefusal, askRefusal, countOf, judgeOf}
 
 -- a trail of four records, as good as any here
 abbrev none : List ℕ
@@ -106,5 +107,5 @@ pub record Paper : Type 0 where
   pub p12-kept : kept (dayOf paper) (vanOf paper) (planIn fresh) ≡ (0 ∷ 3 ∷ []) ∷ (0 ∷ 1 ∷ 2 ∷ 3 ∷ []) ∷ []
 
 paper-cases : Paper
-unfolding allBelow orElse sumBelow tab wordAt headRefusal limitsRefusal nodesRefusal jobsRefusal tableRefusal stepsRefusal tablesRefusal laterRefusal refusal13 jobAt clash apart cell refusal14 digit has with within stays round strikes settleIn roundsIn keeps owed rules.alive everyRound wordOf indexOf insertIn routeOf onRoute legsOf setOf openAt inner legNode placesOf ones onesIn heir placed freshState freshSets freshSet stopOk setOk markOk nodeOk boardOk levelOk levelsOk inForm formWith roomOf shrunk noteBelow noteOne pushed placeRefusal trail.placeStep trail.recorded trail.settleStep trail.stepOf setsOf words.wordOf stepOf actOf callRefusal askRefusal countOf judgeOf
+unfolding allBelow orElse sumBelow tab wordAt headRefusal limitsRefusal nodesRefusal jobsRefusal tableRefusal stepsRefusal tablesRefusal laterRefusal readRefusal jobAt clash apart cell callRefusal digit has with within stays round strikes settleIn roundsIn keeps owed rules.alive everyRound wordOf indexOf insertIn routeOf onRoute legsOf setOf openAt inner legNode placesOf ones onesIn heir placed freshState freshSets freshSet stopOk setOk markOk nodeOk boardOk levelOk levelsOk inForm formWith roomOf shrunk noteBelow noteOne pushed placeRefusal trail.placeStep trail.recorded trail.settleStep trail.stepOf setsOf words.wordOf stepOf actOf stepRefusal askRefusal countOf judgeOf
 paper-cases = record { p1 = refl; p2 = refl; p3 = refl; p4 = refl; p5 = refl; p6 = refl; p7 = refl; p8 = refl; p8-dead = refl; p9 = refl; p9-rounds = refl; p9-alive = refl; p10 = refl; p10-none = refl; p10-alive = refl; p11 = refl; p11-dead = refl; p12 = refl; p12-kept = refl }

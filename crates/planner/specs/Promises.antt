@@ -10,7 +10,7 @@ use lib.Dec.{T}
 use lib.ListN.{length, take}
 use Rattle.laws.specs.Lists.{mem}
 use Rattle.sheet.specs.Section.{nOf}
-use Rattle.day.specs.Refuse.{refusal14, refusal15}
+use Rattle.day.specs.Refuse.{callRefusal, openRefusal}
 use Rattle.day.specs.Tell.{dayOf, vanOf}
 use Rattle.rules.specs.Rounds.{Belongs, keeps}
 use Rattle.rules.specs.Steps.{uses}
@@ -79,7 +79,7 @@ SettlingStrikes = (sheet : List ℕ) (s s′ : State) (t t′ : List ℕ) (a b k
 
 -- on an opened sheet no rule-keeping round of the set is lost by settling
 abbrev pub SettlingLosesNone : Type 0
-SettlingLosesNone = (sheet : List ℕ) (s s′ : State) (t t′ : List ℕ) (a b k : ℕ) → refusal15 sheet ≡ 0 → Held s → Took sheet s t 5 a b k s′ t′
+SettlingLosesNone = (sheet : List ℕ) (s s′ : State) (t t′ : List ℕ) (a b k : ℕ) → openRefusal sheet ≡ 0 → Held s → Took sheet s t 5 a b k s′ t′
     → (R : List ℕ) → T (keeps (vanOf sheet) (dayOf sheet) R) → Belongs (dayOf sheet) (planIn s) R → Belongs (dayOf sheet) (planIn s′) R
 
 -- no gap left and alive: the route itself keeps the rules, and belongs
@@ -89,7 +89,7 @@ NoGapAlive = (sheet : List ℕ) (s : State) → Held s → countOf sheet s ≡ r
 
 -- beyond 01: on an opened sheet a dead state has no rule-keeping round
 abbrev pub DeadNone : Type 0
-DeadNone = (sheet : List ℕ) (s : State) → refusal15 sheet ≡ 0 → judgeOf sheet s ≡ record { answer = 0; alive = false }
+DeadNone = (sheet : List ℕ) (s : State) → openRefusal sheet ≡ 0 → judgeOf sheet s ≡ record { answer = 0; alive = false }
     → (R : List ℕ) → Belongs (dayOf sheet) (planIn s) R → T (not (keeps (vanOf sheet) (dayOf sheet) R))
 
 -- stepping back restores the state from before the matching level, and the records below it stand as they stood
@@ -100,24 +100,24 @@ StepsBack = (sheet : List ℕ) (s s₁ s₂ : State) (t t₁ t₂ : List ℕ) (a
 
 -- from a fresh state any accepted steps keep the records at or below n(n − 2); with that room 17, 19 and 20 are never met
 abbrev pub RecordsBounded : Type 0
-RecordsBounded = (sheet : List ℕ) (s : State) (t t′ : List ℕ) → refusal14 sheet ≡ 0 → Steps sheet 0 (freshState (nOf sheet)) t s t′
+RecordsBounded = (sheet : List ℕ) (s : State) (t t′ : List ℕ) → callRefusal sheet ≡ 0 → Steps sheet 0 (freshState (nOf sheet)) t s t′
     → s .records ≤ nOf sheet * (nOf sheet - 2)
 
 abbrev pub NeverShort : Type 0
-NeverShort = (sheet : List ℕ) (s : State) (t t′ : List ℕ) (kind a b : ℕ) → refusal14 sheet ≡ 0 → nOf sheet * (nOf sheet - 2) ≤ roomOf t → Steps sheet 0 (freshState (nOf sheet)) t s t′
+NeverShort = (sheet : List ℕ) (s : State) (t t′ : List ℕ) (kind a b : ℕ) → callRefusal sheet ≡ 0 → nOf sheet * (nOf sheet - 2) ≤ roomOf t → Steps sheet 0 (freshState (nOf sheet)) t s t′
     → (stepOf sheet s t′ kind a b .0 .answer ≡ 17 → ⊥) × (stepOf sheet s t′ kind a b .0 .answer ≡ 19 → ⊥) × (stepOf sheet s t′ kind a b .0 .answer ≡ 20 → ⊥)
 
 -- ---- demand 3: a run's end, settled once more, has the gaps and the verdict that 01 works out from the start
 
 abbrev pub WorkedOut : Type 0
-WorkedOut = (sheet : List ℕ) (s s₁ s₂ : State) (t t₁ t₂ X : List ℕ) (a b k : ℕ) → refusal15 sheet ≡ 0 → Held s → inForm (nOf sheet) s ≡ true
+WorkedOut = (sheet : List ℕ) (s s₁ s₂ : State) (t t₁ t₂ X : List ℕ) (a b k : ℕ) → openRefusal sheet ≡ 0 → Held s → inForm (nOf sheet) s ≡ true
     → Run sheet s t s₁ t₁ X → Took sheet s₁ t₁ 5 a b k s₂ t₂
     → ((x p : ℕ) → planIn s₂ .places x p ≡ settled (vanOf sheet) (dayOf sheet) (worked (planIn s) (planIn s₁ .route) X (planIn s₁ .marks)) .places x p)
     × (judgeOf sheet s₂ .alive ≡ alive (vanOf sheet) (dayOf sheet) (settled (vanOf sheet) (dayOf sheet) (worked (planIn s) (planIn s₁ .route) X (planIn s₁ .marks))))
 
 -- two such runs that end with the same route, excluded wards and unplaced required wards
 abbrev pub RunsAlike : Type 0
-RunsAlike = (sheet : List ℕ) (s s₁ s₂ s₃ s₄ : State) (t t′ t₁ t₂ t₃ t₄ X Y : List ℕ) (a b k a′ b′ k′ : ℕ) → refusal15 sheet ≡ 0 → Held s → inForm (nOf sheet) s ≡ true
+RunsAlike = (sheet : List ℕ) (s s₁ s₂ s₃ s₄ : State) (t t′ t₁ t₂ t₃ t₄ X Y : List ℕ) (a b k a′ b′ k′ : ℕ) → openRefusal sheet ≡ 0 → Held s → inForm (nOf sheet) s ≡ true
     → Run sheet s t s₁ t₁ X → Took sheet s₁ t₁ 5 a b k s₂ t₂
     → Run sheet s t′ s₃ t₃ Y → Took sheet s₃ t₃ 5 a′ b′ k′ s₄ t₄
     → planIn s₁ .route ≡ planIn s₃ .route → ((y : ℕ) → mem y X ≡ mem y Y) → ((y : ℕ) → T (not (mem y (planIn s₁ .route))) → planIn s₁ .marks y ≡ planIn s₃ .marks y)

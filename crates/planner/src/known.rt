@@ -5,18 +5,21 @@ ghost use mathlib.Core.List.{List};
 ghost use Prim.Native.Nat.{ℕ, _<_, _≤_};
 ghost use Rattle.sheet.specs.Section.{nOf};
 ghost use Rattle.sheet.specs.Place.{Fine, Laid};
-ghost use Rattle.day.specs.Refuse.{refusal14};
+ghost use Rattle.day.specs.Refuse.{callRefusal};
 ghost use Rattle.day.specs.Tell.{dayOf, vanOf};
 ghost use Rattle.rules.specs.Verdict.{alive};
 ghost use Rattle.board.specs.Board.{stateWith};
 ghost use Rattle.board.specs.Form.{formWith};
 ghost use Rattle.board.specs.Held.{Held};
 ghost use Rattle.trail.specs.Trail.{roomOf};
-ghost use Rattle.settle.specs.Ready.{Ready, vanIn};
+ghost use Rattle.settle.specs.Ready.{Ready};
 ghost use Rattle.planner.specs.Face.{planIn, acted, actOf};
-use crate::KIND;
 use board::Figures;
-use settle::Van;
+use board::State;
+use rules::Node;
+use rules::Refusal;
+use rules::Step;
+use rules::Van;
 use sheet::Layout;
 use trail::Outcome;
 use trail::steps::back;
@@ -36,7 +39,7 @@ pub struct Acted {
 // The van of a sheet.
 fn van_of(sheet: &[u8]) -> Van
     requires { ⌜ Fine (now sheet) ⌝ }
-    ensures { λ r. ⌜ (vanIn r ≡ vanOf (now (sheet .entry))) × (r .limit < 1099511627776) ⌝ }
+    ensures { λ r. ⌜ (r ≡ vanOf (now (sheet .entry))) × (r .limit < 1099511627776) ⌝ }
 {
     let capacity = day::look::capacity(sheet);
     let limit = day::look::limit(sheet);
@@ -50,31 +53,31 @@ fn van_of(sheet: &[u8]) -> Van
 fn change(
     sheet: &[u8],
     at: Layout,
-    route: &mut [usize; 64],
-    sets: &mut [u64; 64],
-    levels: &mut [usize; 64],
+    route: &mut [usize; Node::MOST],
+    sets: &mut [u64; Node::MOST],
+    levels: &mut [usize; State::LEVELS],
     f: Figures,
     trail: &mut [u64],
     kind: usize,
     first: usize,
     second: usize,
 ) -> Outcome
-    requires { ⌜ (refusal14 (now sheet) ≡ 0) × Laid (now sheet) at × (formWith (nOf (now sheet)) (stateWith (now route) (now sets) (now levels) f) (roomOf (now trail)) ≡ true) × Held (stateWith (now route) (now sets) (now levels) f) × (kind ≡ 5 → ⊥) ⌝ }
+    requires { ⌜ (callRefusal (now sheet) ≡ 0) × Laid (now sheet) at × (formWith (nOf (now sheet)) (stateWith (now route) (now sets) (now levels) f) (roomOf (now trail)) ≡ true) × Held (stateWith (now route) (now sets) (now levels) f) × (kind ≡ 5 → ⊥) ⌝ }
     ensures { λ r. ⌜ actOf (now (sheet .entry)) (stateWith (now (route .entry)) (now (sets .entry)) (now (levels .entry)) f) (now (trail .entry)) kind first second ≡ acted (r .answer) 0 (stateWith (now (route .exit)) (now (sets .exit)) (now (levels .exit)) (r .after)) (now (trail .exit)) ⌝ }
 {
     let n = at.nodes;
     match kind {
-        1 => place(route, sets, f, n, first, second, trail),
-        2 => close(route, sets, f, n, first, second, trail),
-        3 => {
+        Step::PLACE => place(route, sets, f, n, first, second, trail),
+        Step::CLOSE => close(route, sets, f, n, first, second, trail),
+        Step::EXCLUDE => {
             let owed = settle::verdict::owed(sheet, at, route, f.stops, f.marks, first);
             exclude(route, sets, f, n, owed, first, trail)
         },
-        4 => require(route, f, n, first, trail),
-        6 => level(levels, f),
-        7 => back(route, sets, levels, f, n, trail),
+        Step::REQUIRE => require(route, f, n, first, trail),
+        Step::LEVEL => level(levels, f),
+        Step::BACK => back(route, sets, levels, f, n, trail),
         _ => Outcome {
-            answer: KIND,
+            answer: Refusal::KIND,
             after: f,
         },
     }
@@ -84,8 +87,8 @@ fn change(
 fn settling(
     sheet: &[u8],
     at: Layout,
-    route: &[usize; 64],
-    sets: &mut [u64; 64],
+    route: &[usize; Node::MOST],
+    sets: &mut [u64; Node::MOST],
     f: Figures,
     trail: &mut [u64],
 ) -> Acted
@@ -116,19 +119,19 @@ fn settling(
 pub fn act(
     sheet: &[u8],
     at: Layout,
-    route: &mut [usize; 64],
-    sets: &mut [u64; 64],
-    levels: &mut [usize; 64],
+    route: &mut [usize; Node::MOST],
+    sets: &mut [u64; Node::MOST],
+    levels: &mut [usize; State::LEVELS],
     f: Figures,
     trail: &mut [u64],
     kind: usize,
     first: usize,
     second: usize,
 ) -> Acted
-    requires { ⌜ (refusal14 (now sheet) ≡ 0) × Laid (now sheet) at × (formWith (nOf (now sheet)) (stateWith (now route) (now sets) (now levels) f) (roomOf (now trail)) ≡ true) × Held (stateWith (now route) (now sets) (now levels) f) ⌝ }
+    requires { ⌜ (callRefusal (now sheet) ≡ 0) × Laid (now sheet) at × (formWith (nOf (now sheet)) (stateWith (now route) (now sets) (now levels) f) (roomOf (now trail)) ≡ true) × Held (stateWith (now route) (now sets) (now levels) f) ⌝ }
     ensures { λ r. ⌜ actOf (now (sheet .entry)) (stateWith (now (route .entry)) (now (sets .entry)) (now (levels .entry)) f) (now (trail .entry)) kind first second ≡ acted (r .answer) (r .rounds) (stateWith (now (route .exit)) (now (sets .exit)) (now (levels .exit)) (r .after)) (now (trail .exit)) ⌝ }
 {
-    if kind == 5 {
+    if kind == Step::SETTLE {
         return settling(sheet, at, route, sets, f, trail);
     }
     let o = change(
@@ -155,8 +158,8 @@ pub fn act(
 pub fn alive<'a>(
     sheet: &[u8],
     at: Layout,
-    route: &'a [usize; 64],
-    sets: &'a [u64; 64],
+    route: &'a [usize; Node::MOST],
+    sets: &'a [u64; Node::MOST],
     f: Figures,
 ) -> bool
     requires { ⌜ Ready (now sheet) at (now route) (f .stops) (now sets) (f .marks) ⌝ }

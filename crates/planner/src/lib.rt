@@ -6,7 +6,7 @@ ghost use lib.ListN.{length};
 ghost use Rattle.board.specs.Board.{stateWith};
 ghost use Rattle.board.specs.Held.{Held};
 ghost use Rattle.day.specs.Section.{sectionOf};
-ghost use Rattle.planner.specs.Face.{openOf, askRefusal, callRefusal, countOf, judgeOf, acted, stepOf};
+ghost use Rattle.planner.specs.Face.{openOf, askRefusal, stepRefusal, countOf, judgeOf, acted, stepOf};
 use board::Figures;
 use board::State;
 use board::form::in_form;
@@ -15,13 +15,9 @@ use day::refusal_1_to_4;
 use day::refusal_1_to_5;
 use known::Acted;
 use known::act;
+use rules::Node;
+use rules::Refusal;
 use sheet::layout_of;
-
-// The number of a step of unknown kind.
-pub const KIND: usize = 11;
-
-// The number of a state out of form.
-pub const FORM: usize = 19;
 
 // What opening gives: 0 and the fresh state, or the number of a refusal and the state with every number 0.
 pub struct Opened {
@@ -87,9 +83,9 @@ fn figures(stops: usize, marks: u64, depth: usize, records: usize) -> Figures
 // Why a call on a sheet and a state is refused, the trail's room apart, or 0.
 fn ask_refusal<'a>(
     sheet: &[u8],
-    route: &'a [usize; 64],
-    sets: &'a [u64; 64],
-    levels: &'a [usize; 64],
+    route: &'a [usize; Node::MOST],
+    sets: &'a [u64; Node::MOST],
+    levels: &'a [usize; State::LEVELS],
     f: Figures,
 ) -> usize
     requires { ⌜ length (now route) ≡ 64 ⌝ }
@@ -110,34 +106,38 @@ fn ask_refusal<'a>(
         f.records,
         at.nodes,
     );
-    if form { 0 } else { FORM }
+    if form { 0 } else { Refusal::FORM }
 }
 
 // Why a step on a sheet, a state and a trail is refused whatever its kind, or 0.
-fn call_refusal<'a>(
+fn step_refusal<'a>(
     sheet: &[u8],
-    route: &'a [usize; 64],
-    sets: &'a [u64; 64],
-    levels: &'a [usize; 64],
+    route: &'a [usize; Node::MOST],
+    sets: &'a [u64; Node::MOST],
+    levels: &'a [usize; State::LEVELS],
     f: Figures,
     trail: &[u64],
 ) -> usize
     requires { ⌜ length (now route) ≡ 64 ⌝ }
-    ensures { λ r. ⌜ r ≡ callRefusal (now (sheet .entry)) (stateWith (now (route .entry)) (now (sets .entry)) (now (levels .entry)) f) (now (trail .entry)) ⌝ }
+    ensures { λ r. ⌜ r ≡ stepRefusal (now (sheet .entry)) (stateWith (now (route .entry)) (now (sets .entry)) (now (levels .entry)) f) (now (trail .entry)) ⌝ }
 {
     let answer = ask_refusal(sheet, route, sets, levels, f);
     if answer != 0 {
         return answer;
     }
-    if trail.len() / 2 < f.records { FORM } else { 0 }
+    if trail.len() / 2 < f.records {
+        Refusal::FORM
+    } else {
+        0
+    }
 }
 
 // One step on a state in arrays: refused whatever its kind, or done in place.
 fn step_in(
     sheet: &[u8],
-    route: &mut [usize; 64],
-    sets: &mut [u64; 64],
-    levels: &mut [usize; 64],
+    route: &mut [usize; Node::MOST],
+    sets: &mut [u64; Node::MOST],
+    levels: &mut [usize; State::LEVELS],
     f: Figures,
     trail: &mut [u64],
     kind: usize,
@@ -147,7 +147,7 @@ fn step_in(
     requires { ⌜ Held (stateWith (now route) (now sets) (now levels) f) ⌝ }
     ensures { λ r. ⌜ stepOf (now (sheet .entry)) (stateWith (now (route .entry)) (now (sets .entry)) (now (levels .entry)) f) (now (trail .entry)) kind first second ≡ acted (r .answer) (r .rounds) (stateWith (now (route .exit)) (now (sets .exit)) (now (levels .exit)) (r .after)) (now (trail .exit)) ⌝ }
 {
-    let answer = call_refusal(sheet, route, sets, levels, f, trail);
+    let answer = step_refusal(sheet, route, sets, levels, f, trail);
     if answer != 0 {
         return Acted {
             answer: answer,

@@ -6,6 +6,7 @@ use board::State;
 use libc::STDIN_FILENO;
 use libc::STDOUT_FILENO;
 use listing::put_number;
+use rules::Node;
 
 // The most bytes of a sheet and words of a trail, and the bytes of what stands before them.
 const SHEET: usize = 61440;
@@ -59,26 +60,26 @@ fn number(bytes: &[u8], i: usize) -> usize {
     word(bytes, i) as usize
 }
 
-// 64 numbers from word `from` on.
-fn numbers(bytes: &[u8], from: usize) -> [usize; 64]
+// As many numbers as there are nodes, from word `from` on.
+fn numbers(bytes: &[u8], from: usize) -> [usize; Node::MOST]
     requires { ⌜ from ≤ 1000 ⌝ }
 {
-    let mut a = [0usize; 64];
+    let mut a = [0usize; Node::MOST];
     let mut i = 0;
-    while i < 64 {
+    while i < Node::MOST {
         a[i] = number(bytes, from + i);
         i += 1;
     }
     a
 }
 
-// 64 sets from word `from` on.
-fn sets(bytes: &[u8], from: usize) -> [u64; 64]
+// As many sets, from word `from` on.
+fn sets(bytes: &[u8], from: usize) -> [u64; Node::MOST]
     requires { ⌜ from ≤ 1000 ⌝ }
 {
-    let mut a = [0u64; 64];
+    let mut a = [0u64; Node::MOST];
     let mut i = 0;
-    while i < 64 {
+    while i < Node::MOST {
         a[i] = word(bytes, from + i);
         i += 1;
     }
@@ -169,12 +170,12 @@ fn end_line(out: &mut [u8], used: usize) -> usize {
     put_byte(out, used - 1, b'\n')
 }
 
-fn put_numbers(out: &mut [u8], used: usize, a: &[usize; 64]) -> usize
+fn put_numbers(out: &mut [u8], used: usize, a: &[usize; Node::MOST]) -> usize
     requires { ⌜ length (now a) ≡ 64 ⌝ }
 {
     let mut next = used;
     let mut i = 0;
-    while i < 64 {
+    while i < Node::MOST {
         next = put(out, next, a[i] as u64);
         i += 1;
     }

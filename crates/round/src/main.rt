@@ -5,7 +5,7 @@ ghost use lib.ListN.{length};
 ghost use Rattle.sheet.specs.Section.{nOf};
 ghost use Rattle.sheet.specs.Place.{Laid};
 ghost use Rattle.board.specs.Fresh.{freshState};
-ghost use Rattle.day.specs.Refuse.{refusal14};
+ghost use Rattle.day.specs.Refuse.{callRefusal};
 use board::Figures;
 use board::State;
 use dock::put_lines;
@@ -13,6 +13,7 @@ use libc::STDIN_FILENO;
 use libc::STDOUT_FILENO;
 use listing::put_refused;
 use listing::put_route;
+use rules::Refusal;
 use sheet::Layout;
 
 // Room for the bytes of the longest sheet, and one more by which a longer input is known.
@@ -44,7 +45,7 @@ fn room(out: &[u8], used: usize) -> usize
 
 // The lines of the steps from the fresh state on, then the route.
 fn run(sheet: &[u8], at: Layout, fresh: State, trail: &mut [u64], out: &mut [u8])
-    requires { ⌜ (refusal14 (now sheet) ≡ 0) × Laid (now sheet) at × (length (now out) ≡ 65536) × (fresh ≡ freshState (nOf (now sheet))) ⌝ }
+    requires { ⌜ (callRefusal (now sheet) ≡ 0) × Laid (now sheet) at × (length (now out) ≡ 65536) × (fresh ≡ freshState (nOf (now sheet))) ⌝ }
 {
     let mut route = fresh.route;
     let mut sets = fresh.sets;
@@ -104,7 +105,7 @@ fn main() {
     let mut out = [0u8; TEXT];
     let n = io::read_full(STDIN_FILENO, &mut bytes);
     if n == INPUT {
-        refused(sheet::SHORT, &mut out);
+        refused(Refusal::SHORT, &mut out);
         return;
     }
     list(&bytes[..n], &mut trail, &mut out);

@@ -8,7 +8,8 @@ use mathlib.Core.List.{List, [], _∷_}
 use lib.Dec.{T}
 use Rattle.laws.specs.Logic.{T→true, T-ext, and-i, and-l, and-r}
 use Rattle.laws.specs.Lists.{mem, hd}
-use Rattle.rules.specs.Day.{Day, Van}
+use Rattle.rules.specs.Day.{Day}
+use Rattle.rules.specs.declared.Van.{Van}
 use Rattle.rules.specs.Leg.{legStops}
 use Rattle.rules.specs.Plan.{Plan, Places, Marks}
 use Rattle.rules.specs.Settle.{round, settle, settled}

@@ -15,7 +15,8 @@ use lib.Seq.{drop-cons, drop-length, take-suc, getD-take}
 use Rattle.laws.specs.Logic.{T-ext, or-l, or-r, or-e, not-or-l, not-or-r, N→false, decided}
 use Rattle.laws.specs.Below.{allBelow, below-split, below-all}
 use Rattle.laws.specs.Lists.{mem, hd, all}
-use Rattle.rules.specs.Day.{Day, Van, downFrom}
+use Rattle.rules.specs.Day.{Day, downFrom}
+use Rattle.rules.specs.declared.Van.{Van}
 use Rattle.rules.specs.Leg.{OfLeg, legsAhead, legsBehind, everyLeg, legFrom, onLeg, legStops}
 use Rattle.rules.specs.Time.{lastMoment, inTime, minZ, lastStart, onTime}
 use Rattle.rules.specs.Metres.{driven}

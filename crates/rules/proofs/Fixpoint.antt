@@ -9,7 +9,8 @@ use mathlib.Core.Logic.{⊎-elim, _↔_}
 use lib.Dec.{T, not-T, eqb, eqb→eq, eqb-refl}
 use Rattle.laws.specs.Logic.{T-ext, tf, N→false, and-i, and-l, and-r, or-l, or-r, or-e}
 use Rattle.laws.specs.Lists.{mem, hd, any, In, each-in, mem-in, any-i}
-use Rattle.rules.specs.Day.{Day, Van, inner}
+use Rattle.rules.specs.Day.{Day, inner}
+use Rattle.rules.specs.declared.Van.{Van}
 use Rattle.rules.specs.Leg.{OfLeg, legFrom, onLeg}
 use Rattle.rules.specs.Plan.{Places}
 use Rattle.rules.specs.Rounds.{Distinct}

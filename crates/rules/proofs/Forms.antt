@@ -8,7 +8,8 @@ use mathlib.Core.Logic.{⊎-elim}
 use lib.Dec.{T, not-T, eqb, eqb→eq, eqb-refl}
 use Rattle.laws.specs.Logic.{tf, and-l, and-r, or-e, or-mono, not-or-i, not-or-l, not-or-r, ne-sym}
 use Rattle.laws.specs.Lists.{mem, In, mem-in, Sub, keep, skip, sub-refl, mem-hd, mem-tl}
-use Rattle.rules.specs.Day.{Day, Van, inner}
+use Rattle.rules.specs.Day.{Day, inner}
+use Rattle.rules.specs.declared.Van.{Van}
 use Rattle.rules.specs.Leg.{legStops}
 use Rattle.rules.specs.Plan.{Plan, Places, fresh}
 use Rattle.rules.specs.Rounds.{Distinct, none, more}

@@ -8,7 +8,8 @@ use mathlib.Core.Logic.{_≢_, _↔_}
 use lib.Dec.{T, eqb, leb→le, le→leb}
 use Rattle.laws.specs.Logic.{and-l, and-r, and-mono, not-or-l, not-or-r, neqb, cond-mono}
 use Rattle.laws.specs.Lists.{mem, In, here, there, Sub, nil, keep, skip, mem-sub}
-use Rattle.rules.specs.Day.{Day, Van}
+use Rattle.rules.specs.Day.{Day}
+use Rattle.rules.specs.declared.Van.{Van}
 use Rattle.rules.specs.Leg.{OfLeg, legsAhead, legsBehind}
 use Rattle.rules.specs.Time.{start, inTime}
 use Rattle.rules.specs.Metres.{driven}

@@ -6,7 +6,8 @@ use mathlib.Core.Logic.{_⊎_, inl, inr, ⊎-elim}
 use lib.Dec.{T, T-not, leb, eqb, eqb-refl, leb→le}
 use Rattle.laws.specs.Logic.{and-l, and-r, or-l, tf, cond-yes, cond-no}
 use Rattle.laws.specs.Lists.{mem, all, In, all-in, mem-tl}
-use Rattle.rules.specs.Day.{Day, Van}
+use Rattle.rules.specs.Day.{Day}
+use Rattle.rules.specs.declared.Van.{Van}
 use Rattle.rules.specs.Leg.{everyLeg}
 use Rattle.rules.specs.Time.{onTime}
 use Rattle.rules.specs.Metres.{driven}

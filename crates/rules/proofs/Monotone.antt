@@ -9,7 +9,8 @@ use mathlib.Core.Logic.{⊎-elim, _⊎_, inl, inr}
 use lib.Dec.{T, T-not, eqb, eqb→eq}
 use Rattle.laws.specs.Logic.{tf, or-mono}
 use Rattle.laws.specs.Lists.{mem, hd, In, here, there, Each, end, also, each-in, all-mono, Sub, keep, skip, mem-sub}
-use Rattle.rules.specs.Day.{Day, Van}
+use Rattle.rules.specs.Day.{Day}
+use Rattle.rules.specs.declared.Van.{Van}
 use Rattle.rules.specs.Leg.{legsAhead, legsBehind}
 use Rattle.rules.specs.Time.{start}
 use Rattle.rules.specs.Load.{room, reachAhead, reachBack}

@@ -5,7 +5,8 @@ use mathlib.Core.List.{List, [], _∷_}
 use mathlib.Core.Logic.{_↔_}
 use lib.Dec.{T}
 use Rattle.laws.specs.Lists.{keep}
-use Rattle.rules.specs.Day.{Day, Van}
+use Rattle.rules.specs.Day.{Day}
+use Rattle.rules.specs.declared.Van.{Van}
 use Rattle.rules.specs.Plan.{Plan, Places}
 use Rattle.rules.specs.Rounds.{Distinct, Within, done, stop, extra, Inside, start, Belongs, keeps}
 use Rattle.rules.specs.Steps.{uses}

@@ -7,7 +7,8 @@ use mathlib.Core.Logic.{_⊎_, inl, inr, ⊎-elim}
 use lib.Dec.{T, eqb, eqb→eq, eqb-refl}
 use Rattle.laws.specs.Logic.{tf, and-i, and-l, and-r, not-or-i, not-or-l, not-or-r, ne-sym}
 use Rattle.laws.specs.Lists.{mem, hd, mem-sub, mem-tl, mem-ne}
-use Rattle.rules.specs.Day.{Day, Van}
+use Rattle.rules.specs.Day.{Day}
+use Rattle.rules.specs.declared.Van.{Van}
 use Rattle.rules.specs.Plan.{Plan, Places}
 use Rattle.rules.specs.Rounds.{Distinct, Within, stop, extra}
 use Rattle.rules.specs.Steps.{putAfter, split}

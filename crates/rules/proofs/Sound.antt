@@ -9,7 +9,8 @@ use mathlib.Core.Logic.{_⊎_, inl, inr, ⊎-elim}
 use lib.Dec.{T, T-not, eqb, eqb→eq}
 use Rattle.laws.specs.Logic.{and-i, and-l, and-r, or-l, or-r, or-mono, tf, not-or-i, not-or-l, not-or-r, contra, imp-i, cond-new}
 use Rattle.laws.specs.Lists.{mem, hd, In, end, also, each-in, Sub, nil, keep, skip, mem-sub, all-i, mem-hd, mem-tl, mem-rest}
-use Rattle.rules.specs.Day.{Day, Van}
+use Rattle.rules.specs.Day.{Day}
+use Rattle.rules.specs.declared.Van.{Van}
 use Rattle.rules.specs.Leg.{legsAhead, legsBehind}
 use Rattle.rules.specs.Time.{start}
 use Rattle.rules.specs.Load.{carries, room, reachAhead, reachBack}

@@ -5,7 +5,8 @@ use mathlib.Core.List.{List}
 use lib.Dec.{T, eqb, eqb→eq, eqb-refl}
 use Rattle.laws.specs.Logic.{and-i, and-l, and-r, imp-or-i, imp-or-e, imp-imp-i, imp-imp-e}
 use Rattle.laws.specs.Lists.{mem, In, all-in, all-i}
-use Rattle.rules.specs.Day.{Day, Van}
+use Rattle.rules.specs.Day.{Day}
+use Rattle.rules.specs.declared.Van.{Van}
 use Rattle.rules.specs.Load.{reachAhead, reachBack}
 use Rattle.rules.specs.Plan.{Places}
 use Rattle.rules.specs.Tests.{meetsPartner, partnerPlaced, hasSupport, neitherPlaced}

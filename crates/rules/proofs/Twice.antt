@@ -9,7 +9,8 @@ use mathlib.Core.List.{List, [], _∷_}
 use lib.Dec.{T, T-not}
 use Rattle.laws.specs.Logic.{and-l, and-r}
 use Rattle.laws.specs.Lists.{hd, any, In, here, there, Each, end, also, each-in, any-none}
-use Rattle.rules.specs.Day.{Day, Van, inner}
+use Rattle.rules.specs.Day.{Day, inner}
+use Rattle.rules.specs.declared.Van.{Van}
 use Rattle.rules.specs.Plan.{Places}
 use Rattle.rules.specs.Rounds.{Distinct}
 use Rattle.rules.specs.Tests.{Test, tests, window, neitherPlaced, stays}

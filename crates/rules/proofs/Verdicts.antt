@@ -6,7 +6,8 @@ use mathlib.Core.List.{List, []}
 use lib.Dec.{T, leb}
 use Rattle.laws.specs.Logic.{false→N, decided}
 use Rattle.laws.specs.Lists.{mem, all, any}
-use Rattle.rules.specs.Day.{Day, Van, inner}
+use Rattle.rules.specs.Day.{Day, inner}
+use Rattle.rules.specs.declared.Van.{Van}
 use Rattle.rules.specs.Leg.{everyLeg}
 use Rattle.rules.specs.Time.{onTime}
 use Rattle.rules.specs.Metres.{driven}

@@ -1,4 +1,4 @@
--- What a sheet says: the day, which all vans share, and the van.
+-- What a sheet says: the day, which all vans share. (The van is declared in src/.)
 use Prim.Native.Nat.{ℕ, zero, suc, _-_}
 use mathlib.Core.List.{List, [], _∷_}
 use Rattle.rules.specs.declared.Job.{Job}
@@ -12,11 +12,6 @@ pub record Day : Type 0 where
   pub seconds : ℕ → ℕ → ℕ
   pub metres : ℕ → ℕ → ℕ
   pub jobs : List Job
-
--- section 1: what the van can carry, and how far it may drive
-pub record Van : Type 0 where
-  pub capacity : ℕ
-  pub limit : ℕ
 
 -- m, m − 1, .. 1
 abbrev pub downFrom : ℕ → List ℕ

@@ -5,7 +5,8 @@ use mathlib.Core.Bool.{true, false, _&&_}
 use mathlib.Core.List.{List, [], _∷_}
 use lib.ListN.{getD}
 use lib.IntN.{pos, negsuc}
-use Rattle.rules.specs.Day.{Day, Van}
+use Rattle.rules.specs.Day.{Day}
+use Rattle.rules.specs.declared.Van.{Van}
 use Rattle.rules.specs.Time.{start, lastStart}
 use Rattle.rules.specs.Load.{aboard}
 use Rattle.rules.specs.Plan.{Plan, fresh}

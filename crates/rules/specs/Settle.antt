@@ -3,7 +3,8 @@ use Prim.Native.Nat.{ℕ, zero, suc, _*_}
 use mathlib.Core.Bool.{Bool, true, false, not, _&&_}
 use mathlib.Core.List.{List}
 use Rattle.laws.specs.Lists.{any}
-use Rattle.rules.specs.Day.{Day, Van, inner}
+use Rattle.rules.specs.Day.{Day, inner}
+use Rattle.rules.specs.declared.Van.{Van}
 use Rattle.rules.specs.Leg.{onLeg}
 use Rattle.rules.specs.Plan.{Plan, Places}
 use Rattle.rules.specs.Tests.{stays}

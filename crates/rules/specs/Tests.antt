@@ -7,7 +7,8 @@ use lib.Dec.{leb, eqb}
 use lib.IntN.{pos}
 use lib.Signed.{leZ}
 use Rattle.laws.specs.Lists.{mem, hd, all}
-use Rattle.rules.specs.Day.{Day, Van}
+use Rattle.rules.specs.Day.{Day}
+use Rattle.rules.specs.declared.Van.{Van}
 use Rattle.rules.specs.Leg.{legsAhead, legsBehind}
 use Rattle.rules.specs.Time.{start, inTime, lastStart}
 use Rattle.rules.specs.Metres.{driven}

@@ -4,7 +4,8 @@ use mathlib.Core.Bool.{Bool, false, cond, not, _&&_, _||_}
 use mathlib.Core.List.{List, [], _∷_}
 use lib.Dec.{leb, eqb}
 use Rattle.laws.specs.Lists.{mem, all, any}
-use Rattle.rules.specs.Day.{Day, Van, inner}
+use Rattle.rules.specs.Day.{Day, inner}
+use Rattle.rules.specs.declared.Van.{Van}
 use Rattle.rules.specs.Leg.{everyLeg}
 use Rattle.rules.specs.Time.{onTime}
 use Rattle.rules.specs.Metres.{driven}

@@ -1,5 +1,6 @@
 // The rules of the round as mathematics: what a reader must believe stands in specs/, the theorems in proofs/.
-// The code here is the one type that the mathematics, the sheet and the planner share.
+// The code here is what the mathematics, the sheet and the planner share: two types, and the limits and numbers of document 01, each with the
+// type that it belongs to.
 
 // A job is one of three things, each with its own data: aboard from the start to a node, from a node to the end,
 // or from one node to another.
@@ -12,4 +13,77 @@ pub enum Job {
 impl Job {
     // The most jobs that a sheet has.
     pub const MOST: usize = 155;
+}
+
+// What one van can carry, and how far it may drive.
+pub struct Van {
+    pub capacity: usize,
+    pub limit: usize,
+}
+
+// A node of the day: the start, a ward or the end, named by its number.
+pub struct Node;
+
+impl Node {
+    // The most nodes that a sheet has: an array with an entry for each node, or for each stop of a route, has as many.
+    pub const MOST: usize = 64;
+}
+
+// A step that a sheet or a caller asks for, named by its kind.
+pub struct Step;
+
+impl Step {
+    // The most steps that a sheet has.
+    pub const MOST: usize = 2000;
+
+    pub const PLACE: usize = 1;
+
+    pub const CLOSE: usize = 2;
+
+    pub const EXCLUDE: usize = 3;
+
+    pub const REQUIRE: usize = 4;
+
+    pub const SETTLE: usize = 5;
+
+    pub const LEVEL: usize = 6;
+
+    pub const BACK: usize = 7;
+}
+
+// Why a sheet or a step is refused: 01's table of numbers. Each is explained in specs/Refusal.antt.
+pub struct Refusal;
+
+impl Refusal {
+    // Of a sheet.
+    pub const SHORT: usize = 1;
+
+    pub const COUNT: usize = 2;
+
+    pub const VALUE: usize = 3;
+
+    pub const TWICE: usize = 4;
+
+    pub const TRIANGLE: usize = 5;
+
+    // Of a step.
+    pub const KIND: usize = 11;
+
+    pub const NODE: usize = 12;
+
+    pub const PLACED: usize = 13;
+
+    pub const UNPLACED: usize = 14;
+
+    pub const SHUT: usize = 15;
+
+    pub const OWED: usize = 16;
+
+    pub const ROOM: usize = 17;
+
+    pub const LEVEL: usize = 18;
+
+    pub const FORM: usize = 19;
+
+    pub const MISFIT: usize = 20;
 }

@@ -11,7 +11,7 @@ use Rattle.laws.specs.Below.{allBelow, below-at}
 use Rattle.laws.specs.Table.{tab, Filled}
 use Rattle.bits.specs.Places.{has}
 use Rattle.bits.specs.Members.{has-none}
-use Rattle.rules.specs.Day.{Van}
+use Rattle.rules.specs.declared.Van.{Van}
 use Rattle.rules.specs.Settle.{round}
 use Rattle.rules.specs.Along.{loadAt}
 use Rattle.rules.proofs.Left.{_⊆_}

@@ -12,7 +12,7 @@ use borrow.Author.Tests.{eqb-false}
 use Rattle.laws.specs.Logic.{decided, true→T}
 use Rattle.bits.specs.Places.{has}
 use Rattle.bits.specs.Members.{has-none}
-use Rattle.rules.specs.Day.{Van}
+use Rattle.rules.specs.declared.Van.{Van}
 use Rattle.rules.specs.Settle.{round, settle}
 use Rattle.rules.specs.Asked.{endsWith}
 use Rattle.rules.proofs.AlongLaws.{leg-index, stops-apart}

@@ -14,7 +14,8 @@ use Rattle.laws.specs.Lists.{mem}
 use Rattle.laws.specs.Table.{Filled}
 use Rattle.bits.specs.Places.{has}
 use Rattle.bits.specs.Members.{has-none}
-use Rattle.rules.specs.Day.{Day, Van}
+use Rattle.rules.specs.Day.{Day}
+use Rattle.rules.specs.declared.Van.{Van}
 use Rattle.rules.specs.Leg.{legsAhead, legsBehind}
 use Rattle.rules.specs.Load.{room, reachAhead, reachBack}
 use Rattle.rules.specs.Plan.{Places}

@@ -12,7 +12,8 @@ use Rattle.laws.specs.Lists.{mem, all, any}
 use Rattle.laws.specs.Below.{allBelow, below-none, below-next, below-fails, below-same, below-both}
 use Rattle.laws.specs.Table.{tab, Filled}
 use Rattle.bits.specs.Places.{has}
-use Rattle.rules.specs.Day.{Day, Van, inner}
+use Rattle.rules.specs.Day.{Day, inner}
+use Rattle.rules.specs.declared.Van.{Van}
 use Rattle.rules.specs.Leg.{everyLeg}
 use Rattle.rules.specs.Time.{inTime, onTime}
 use Rattle.rules.specs.Metres.{driven}

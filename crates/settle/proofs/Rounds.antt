@@ -13,7 +13,8 @@ use Rattle.laws.specs.Logic.{decided, T-ext, true→T, and-i, and-r}
 use Rattle.laws.specs.Lists.{here, there, mem, all}
 use Rattle.laws.specs.Below.{allBelow, below-same}
 use Rattle.laws.specs.Table.{tab, Filled}
-use Rattle.rules.specs.Day.{Day, Van}
+use Rattle.rules.specs.Day.{Day}
+use Rattle.rules.specs.declared.Van.{Van}
 use Rattle.rules.specs.Leg.{onLeg, legStops}
 use Rattle.rules.specs.Plan.{Places}
 use Rattle.rules.specs.Rounds.{Distinct}

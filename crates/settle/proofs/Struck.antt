@@ -11,7 +11,8 @@ use lib.ListN.{getD, length}
 use lib.Seq.{ext-getD}
 use Rattle.laws.specs.Logic.{decided, T-ext, true→T, N→false}
 use Rattle.laws.specs.Below.{allBelow, below-at, below-make}
-use Rattle.rules.specs.Day.{Day, Van}
+use Rattle.rules.specs.Day.{Day}
+use Rattle.rules.specs.declared.Van.{Van}
 use Rattle.rules.specs.Plan.{Places}
 use Rattle.rules.specs.Rounds.{Distinct}
 use Rattle.rules.specs.Settle.{round, strikes, settleIn, settle, roundsIn, rounds}

@@ -7,25 +7,20 @@ use lib.ListN.{take, length}
 use lib.IntN.{ℤ, pos}
 use Rattle.laws.specs.Table.{Filled}
 use Rattle.rules.specs.Day.{Day}
-use Rattle.rules.specs.Day as rules
+use Rattle.rules.specs.declared.Van.{Van}
 use Rattle.rules.specs.Settle.{settle, rounds}
 use Rattle.rules.specs.Asked.{Formed}
 use Rattle.rules.specs.Along.{lastAt, loadAt}
 use Rattle.sheet.specs.Section.{mOf}
 use Rattle.sheet.specs.Place.{Laid}
 use Rattle.sheet.specs.declared.Layout.{Layout}
-use Rattle.day.specs.Refuse.{refusal14}
+use Rattle.day.specs.Refuse.{callRefusal}
 use Rattle.day.specs.Tell.{dayOf}
 use Rattle.settle.specs.Sets.{placesOf, setsOf, planFrom}
-use Rattle.settle.specs.declared.Van.{Van}
-
--- a van's numbers as the rules see them
-abbrev pub vanIn : Van → rules.Van
-vanIn v = record { capacity = v .capacity; limit = v .limit }
 
 -- a sheet that 1 to 4 do not refuse, where it has what, and a state in form in arrays: route, sets, marks
 pub record Ready (s : List ℕ) (at : Layout) (l : List ℕ) (n : ℕ) (ws : List ℕ) (marks : ℕ) : Type 0 where
-  pub clear : refusal14 s ≡ 0
+  pub clear : callRefusal s ≡ 0
   pub laid : Laid s at
   pub long : length l ≡ 64
   pub sized : length ws ≡ 64
@@ -38,7 +33,7 @@ pub record Read (d : Day) (l : List ℕ) (n : ℕ) (z : List ℤ) (h : List ℕ)
   pub loads : Filled 64 (loadAt d (take n l)) 0 (n - 1) h
 
 -- settling of the words ws on the route rt: r rounds struck, and the words after have the places that 01's rounds leave
-pub record Settles (v : rules.Van) (d : Day) (rt ws : List ℕ) (r : ℕ) (vs : List ℕ) : Type 0 where
+pub record Settles (v : Van) (d : Day) (rt ws : List ℕ) (r : ℕ) (vs : List ℕ) : Type 0 where
   pub rounds : r ≡ rounds v d rt (placesOf ws)
   pub sets : vs ≡ setsOf (settle v d rt (placesOf ws))
   pub still : r ≡ 0 → vs ≡ ws

@@ -3,9 +3,3 @@ pub mod places;
 pub mod round;
 pub mod settling;
 pub mod verdict;
-
-// What one van can carry, and how far it may drive.
-pub struct Van {
-    pub capacity: usize,
-    pub limit: usize,
-}

@@ -16,6 +16,7 @@ use day::look::earliest;
 use day::look::metres;
 use day::look::seconds;
 use day::look::service;
+use rules::Node;
 use sheet::Layout;
 
 // Window: x between p, which is left at `leave`, and k, which has to be started by `last`.
@@ -60,10 +61,10 @@ fn tried(
     x: usize,
     p: usize,
     i: usize,
-    route: &[usize; 64],
-    leave: &[usize; 64],
-    l: &[i64; 64],
-    most: &[usize; 64],
+    route: &[usize; Node::MOST],
+    leave: &[usize; Node::MOST],
+    l: &[i64; Node::MOST],
+    most: &[usize; Node::MOST],
     total: usize,
 ) -> u64
     requires { ⌜ Laid (now s) at × (x < at .nodes) × PlaceAt (at .nodes) (now route) (now leave) p i × (total < 1099511627776) ⌝ }
@@ -86,10 +87,10 @@ pub fn legs_of(
     s: &[u8],
     at: Layout,
     limit: usize,
-    route: &[usize; 64],
+    route: &[usize; Node::MOST],
     legs: usize,
-    leave: &mut [usize; 64],
-    most: &mut [usize; 64],
+    leave: &mut [usize; Node::MOST],
+    most: &mut [usize; Node::MOST],
 ) -> usize
     requires { ⌜ Laid (now s) at × Route (at .nodes) (now route) (legs + 1) × (limit < 1099511627776) × (length (now leave) ≡ 64) × (length (now most) ≡ 64) ⌝ }
     ensures { λ r. ⌜ Filled 64 (leftAt (dayOf (now (s .entry))) (now (route .entry))) 0 legs (now (leave .exit)) × Filled 64 (mostAt (dayOf (now (s .entry))) limit (now (route .entry))) 0 legs (now (most .exit)) × (r ≡ driven (dayOf (now (s .entry))) (take (legs + 1) (now (route .entry)))) × (r < 1099511627776) ⌝ }
@@ -118,11 +119,11 @@ pub fn stand(
     at: Layout,
     word: u64,
     x: usize,
-    route: &[usize; 64],
-    spots: &[usize; 64],
-    leave: &[usize; 64],
-    l: &[i64; 64],
-    most: &[usize; 64],
+    route: &[usize; Node::MOST],
+    spots: &[usize; Node::MOST],
+    leave: &[usize; Node::MOST],
+    l: &[i64; Node::MOST],
+    most: &[usize; Node::MOST],
     total: usize,
 ) -> u64
     requires { ⌜ Laid (now s) at × (x < at .nodes) × PlacesAt (at .nodes) (now route) (now leave) (now spots) word × (total < 1099511627776) ⌝ }

@@ -11,9 +11,8 @@ ghost use Rattle.along.specs.Spots.{Spots, loadOf};
 ghost use Rattle.rules.specs.Metres.{driven};
 ghost use Rattle.rules.specs.Settle.{round};
 ghost use Rattle.settle.specs.Sets.{placesOf, setsOf};
-ghost use Rattle.settle.specs.Ready.{Ready, Read, vanIn};
+ghost use Rattle.settle.specs.Ready.{Ready, Read};
 ghost use Rattle.settle.specs.Round.{Kepts, Spotted, Named, standsAt, Walked, cleanOk, soiledOk, transferOk, pairOk, loadOk, jobsOk};
-use crate::Van;
 use crate::places::legs_of;
 use crate::places::stand;
 use along::walks::Ride;
@@ -21,14 +20,16 @@ use along::walks::backward;
 use along::walks::forward;
 use along::walks::roomy;
 use rules::Job;
+use rules::Node;
+use rules::Van;
 use sheet::Layout;
 
 // The places of x; a number that is no node has none.
-pub fn places(sets: &[u64; 64], x: usize) -> u64
+pub fn places(sets: &[u64; Node::MOST], x: usize) -> u64
     requires { ⌜ length (now sets) ≡ 64 ⌝ }
     ensures { λ r. ⌜ r ≡ getD (now (sets .entry)) x 0 ⌝ }
 {
-    if x < 64 { sets[x] } else { 0 }
+    if x < Node::MOST { sets[x] } else { 0 }
 }
 
 // One transfer against the places of its ends: each rides to where the other stands, or was open at the beginning.
@@ -37,11 +38,11 @@ fn strike_transfer(
     to: usize,
     load: usize,
     capacity: usize,
-    old: &[u64; 64],
-    new: &mut [u64; 64],
-    route: &[usize; 64],
-    heads: &[u64; 64],
-    h: &[usize; 64],
+    old: &[u64; Node::MOST],
+    new: &mut [u64; Node::MOST],
+    route: &[usize; Node::MOST],
+    heads: &[u64; Node::MOST],
+    h: &[usize; Node::MOST],
     highest: usize,
     legs: usize,
 )
@@ -65,10 +66,10 @@ fn strike_clean(
     node: usize,
     load: usize,
     capacity: usize,
-    new: &mut [u64; 64],
-    route: &[usize; 64],
-    heads: &[u64; 64],
-    h: &[usize; 64],
+    new: &mut [u64; Node::MOST],
+    route: &[usize; Node::MOST],
+    heads: &[u64; Node::MOST],
+    h: &[usize; Node::MOST],
     highest: usize,
     legs: usize,
 )
@@ -90,10 +91,10 @@ fn strike_soiled(
     node: usize,
     load: usize,
     capacity: usize,
-    new: &mut [u64; 64],
-    route: &[usize; 64],
-    heads: &[u64; 64],
-    h: &[usize; 64],
+    new: &mut [u64; Node::MOST],
+    route: &[usize; Node::MOST],
+    heads: &[u64; Node::MOST],
+    h: &[usize; Node::MOST],
     highest: usize,
     legs: usize,
 )
@@ -114,11 +115,11 @@ fn strike_soiled(
 fn strike_job(
     job: Job,
     capacity: usize,
-    old: &[u64; 64],
-    new: &mut [u64; 64],
-    route: &[usize; 64],
-    heads: &[u64; 64],
-    h: &[usize; 64],
+    old: &[u64; Node::MOST],
+    new: &mut [u64; Node::MOST],
+    route: &[usize; Node::MOST],
+    heads: &[u64; Node::MOST],
+    h: &[usize; Node::MOST],
     highest: usize,
     legs: usize,
 )
@@ -152,11 +153,11 @@ fn strike_job(
 fn strike_pair(
     job: Job,
     capacity: usize,
-    old: &[u64; 64],
-    new: &mut [u64; 64],
-    route: &[usize; 64],
-    heads: &[u64; 64],
-    h: &[usize; 64],
+    old: &[u64; Node::MOST],
+    new: &mut [u64; Node::MOST],
+    route: &[usize; Node::MOST],
+    heads: &[u64; Node::MOST],
+    h: &[usize; Node::MOST],
     highest: usize,
     legs: usize,
 )
@@ -187,11 +188,11 @@ fn strike_jobs(
     s: &[u8],
     at: Layout,
     capacity: usize,
-    old: &[u64; 64],
-    new: &mut [u64; 64],
-    route: &[usize; 64],
-    heads: &[u64; 64],
-    h: &[usize; 64],
+    old: &[u64; Node::MOST],
+    new: &mut [u64; Node::MOST],
+    route: &[usize; Node::MOST],
+    heads: &[u64; Node::MOST],
+    h: &[usize; Node::MOST],
     highest: usize,
     legs: usize,
 )
@@ -212,19 +213,19 @@ fn stand_all(
     s: &[u8],
     at: Layout,
     limit: usize,
-    old: &[u64; 64],
-    new: &mut [u64; 64],
-    route: &[usize; 64],
-    spots: &[usize; 64],
-    l: &[i64; 64],
+    old: &[u64; Node::MOST],
+    new: &mut [u64; Node::MOST],
+    route: &[usize; Node::MOST],
+    spots: &[usize; Node::MOST],
+    l: &[i64; Node::MOST],
     legs: usize,
 )
     requires { ⌜ Laid (now s) at × (length (now old) ≡ 64) × (now new ≡ now old) × ((y : ℕ) → at .nodes ≤ y → getD (now old) y 0 ≡ 0) × ((y : ℕ) → Named (now route) (now spots) legs (getD (now old) y 0)) ⌝ }
     requires { ⌜ Route (at .nodes) (now route) (legs + 1) × Spotted (now route) (now spots) legs × (limit < 1099511627776) ⌝ }
     ensures { λ _. ⌜ Kepts (now (route .entry)) legs (standsAt (dayOf (now (s .entry))) limit (now (route .entry)) (now (l .entry)) (driven (dayOf (now (s .entry))) (take (legs + 1) (now (route .entry))))) (now (old .entry)) (now (new .exit)) ⌝ }
 {
-    let mut leave = [0usize; 64];
-    let mut most = [0usize; 64];
+    let mut leave = [0usize; Node::MOST];
+    let mut most = [0usize; Node::MOST];
     let total = legs_of(s, at, limit, route, legs, &mut leave, &mut most);
     let n = at.nodes;
     let mut x = 0;
@@ -240,19 +241,19 @@ pub fn round(
     s: &[u8],
     at: Layout,
     van: Van,
-    old: &[u64; 64],
-    new: &mut [u64; 64],
-    route: &[usize; 64],
+    old: &[u64; Node::MOST],
+    new: &mut [u64; Node::MOST],
+    route: &[usize; Node::MOST],
     stops: usize,
-    spots: &[usize; 64],
-    l: &[i64; 64],
-    heads: &[u64; 64],
-    h: &[usize; 64],
+    spots: &[usize; Node::MOST],
+    l: &[i64; Node::MOST],
+    heads: &[u64; Node::MOST],
+    h: &[usize; Node::MOST],
     highest: usize,
 )
     requires { ⌜ Ready (now s) at (now route) stops (now old) 0 × Read (dayOf (now s)) (now route) stops (now l) (now h) × (van .limit < 1099511627776) ⌝ }
     requires { ⌜ (now new ≡ now old) × Spots (now route) stops (now spots) × Walked (now route) (now heads) (now h) highest (stops - 1) 0 ⌝ }
-    ensures { λ _. ⌜ now (new .exit) ≡ setsOf (round (vanIn van) (dayOf (now (s .entry))) (take stops (now (route .entry))) (placesOf (now (old .entry)))) ⌝ }
+    ensures { λ _. ⌜ now (new .exit) ≡ setsOf (round van (dayOf (now (s .entry))) (take stops (now (route .entry))) (placesOf (now (old .entry)))) ⌝ }
 {
     let legs = stops - 1;
     stand_all(s, at, van.limit, old, new, route, spots, l, legs);
@@ -276,11 +277,11 @@ pub fn again(
     s: &[u8],
     at: Layout,
     capacity: usize,
-    old: &[u64; 64],
-    new: &mut [u64; 64],
-    route: &[usize; 64],
-    heads: &[u64; 64],
-    h: &[usize; 64],
+    old: &[u64; Node::MOST],
+    new: &mut [u64; Node::MOST],
+    route: &[usize; Node::MOST],
+    heads: &[u64; Node::MOST],
+    h: &[usize; Node::MOST],
     highest: usize,
     legs: usize,
 )

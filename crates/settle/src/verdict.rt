@@ -13,24 +13,25 @@ ghost use Rattle.day.specs.Seen.{Placed};
 ghost use Rattle.day.specs.Tell.{dayOf};
 ghost use Rattle.along.specs.Route.{Route};
 ghost use Rattle.settle.specs.Sets.{planFrom};
-ghost use Rattle.settle.specs.Ready.{Ready, vanIn};
+ghost use Rattle.settle.specs.Ready.{Ready};
 ghost use Rattle.settle.specs.Verdict.{onSpot, called, standing, markOk, jobOk, roadOk, nodesOk};
-use crate::Van;
 use crate::round::places;
 use along::spots::spot;
 use rules::Job;
+use rules::Node;
+use rules::Van;
 use sheet::Layout;
 
 // Whether x is on the route.
-fn placed(spots: &[usize; 64], x: usize) -> bool
+fn placed(spots: &[usize; Node::MOST], x: usize) -> bool
     requires { ⌜ length (now spots) ≡ 64 ⌝ }
     ensures { λ r. ⌜ r ≡ onSpot (now (spots .entry)) x ⌝ }
 {
-    spot(spots, x) < 64
+    spot(spots, x) < Node::MOST
 }
 
 // Whether y is marked or on the route, so that its partner is owed.
-fn calls(spots: &[usize; 64], marks: u64, y: usize) -> bool
+fn calls(spots: &[usize; Node::MOST], marks: u64, y: usize) -> bool
     requires { ⌜ length (now spots) ≡ 64 ⌝ }
     ensures { λ r. ⌜ r ≡ called (onSpot (now (spots .entry))) marks y ⌝ }
 {
@@ -40,7 +41,7 @@ fn calls(spots: &[usize; 64], marks: u64, y: usize) -> bool
 }
 
 // Whether the job is a transfer with one end at x, and its other end is marked or on the route.
-fn pairs(job: Job, spots: &[usize; 64], marks: u64, x: usize) -> bool
+fn pairs(job: Job, spots: &[usize; Node::MOST], marks: u64, x: usize) -> bool
     requires { ⌜ length (now spots) ≡ 64 ⌝ }
     ensures { λ r. ⌜ r ≡ partnered (called (onSpot (now (spots .entry))) marks) x job ⌝ }
 {
@@ -56,7 +57,7 @@ fn pairs(job: Job, spots: &[usize; 64], marks: u64, x: usize) -> bool
 }
 
 // Whether a transfer partner of x is marked or on the route.
-fn paired(s: &[u8], at: Layout, spots: &[usize; 64], marks: u64, x: usize) -> bool
+fn paired(s: &[u8], at: Layout, spots: &[usize; Node::MOST], marks: u64, x: usize) -> bool
     requires { ⌜ Laid (now s) at × (length (now spots) ≡ 64) ⌝ }
     ensures { λ r. ⌜ r ≡ not (allBelow (at .jobs) (λ k. not (partnered (called (onSpot (now (spots .entry))) marks) x (jobIn (now (s .entry)) k)))) ⌝ }
 {
@@ -73,7 +74,7 @@ fn paired(s: &[u8], at: Layout, spots: &[usize; 64], marks: u64, x: usize) -> bo
 }
 
 // Whether x has an open place: the count of ones in its word is not 0.
-fn is_open(sets: &[u64; 64], x: usize) -> bool
+fn is_open(sets: &[u64; Node::MOST], x: usize) -> bool
     requires { ⌜ length (now sets) ≡ 64 ⌝ }
     ensures { λ r. ⌜ r ≡ not (eqb (getD (now (sets .entry)) x 0) 0) ⌝ }
 {
@@ -81,7 +82,7 @@ fn is_open(sets: &[u64; 64], x: usize) -> bool
 }
 
 // Whether x is on the route or has an open place.
-fn stands(spots: &[usize; 64], sets: &[u64; 64], x: usize) -> bool
+fn stands(spots: &[usize; Node::MOST], sets: &[u64; Node::MOST], x: usize) -> bool
     requires { ⌜ (length (now spots) ≡ 64) × (length (now sets) ≡ 64) ⌝ }
     ensures { λ r. ⌜ r ≡ standing (onSpot (now (spots .entry))) (now (sets .entry)) x ⌝ }
 {
@@ -91,7 +92,7 @@ fn stands(spots: &[usize; 64], sets: &[u64; 64], x: usize) -> bool
 }
 
 // Every marked node stands: each is asked, from the least on.
-fn marks_kept(spots: &[usize; 64], sets: &[u64; 64], marks: u64) -> bool
+fn marks_kept(spots: &[usize; Node::MOST], sets: &[u64; Node::MOST], marks: u64) -> bool
     requires { ⌜ (length (now spots) ≡ 64) × (length (now sets) ≡ 64) ⌝ }
     ensures { λ r. ⌜ r ≡ allBelow 64 (markOk (onSpot (now (spots .entry))) (now (sets .entry)) marks) ⌝ }
 {
@@ -107,7 +108,7 @@ fn marks_kept(spots: &[usize; 64], sets: &[u64; 64], marks: u64) -> bool
 }
 
 // Of a transfer, one end stands if the other is marked or on the route, and the second node does not stand before the first.
-fn job_kept(job: Job, spots: &[usize; 64], sets: &[u64; 64], marks: u64) -> bool
+fn job_kept(job: Job, spots: &[usize; Node::MOST], sets: &[u64; Node::MOST], marks: u64) -> bool
     requires { ⌜ Placed job × (length (now spots) ≡ 64) × (length (now sets) ≡ 64) ⌝ }
     ensures { λ r. ⌜ r ≡ jobOk (now (spots .entry)) (now (sets .entry)) marks job ⌝ }
 {
@@ -117,18 +118,24 @@ fn job_kept(job: Job, spots: &[usize; 64], sets: &[u64; 64], marks: u64) -> bool
         Job::Transfer { from, to, load: _ } => {
             let a = spots[from];
             let b = spots[to];
-            let first = bits::holds(marks, from) | (a < 64);
-            let second = bits::holds(marks, to) | (b < 64);
-            let after = (b < 64) | (bits::count(sets[to]) != 0);
-            let before = (a < 64) | (bits::count(sets[from]) != 0);
-            (!first | after) & (!second | before) & !((b < a) & (a < 64))
+            let first = bits::holds(marks, from) | (a < Node::MOST);
+            let second = bits::holds(marks, to) | (b < Node::MOST);
+            let after = (b < Node::MOST) | (bits::count(sets[to]) != 0);
+            let before = (a < Node::MOST) | (bits::count(sets[from]) != 0);
+            (!first | after) & (!second | before) & !((b < a) & (a < Node::MOST))
         },
     }
 }
 
 // Windows and metres in one pass along the route: no start is too late, and the legs are together within the limit. The first start need not
 // be asked: it is its node's earliest, which is after the latest on no sheet.
-fn on_the_road(s: &[u8], at: Layout, limit: usize, route: &[usize; 64], stops: usize) -> bool
+fn on_the_road(
+    s: &[u8],
+    at: Layout,
+    limit: usize,
+    route: &[usize; Node::MOST],
+    stops: usize,
+) -> bool
     requires { ⌜ Laid (now s) at × Route (at .nodes) (now route) stops ⌝ }
     ensures { λ r. ⌜ r ≡ roadOk limit (dayOf (now (s .entry))) (take stops (now (route .entry))) ⌝ }
 {
@@ -150,7 +157,7 @@ fn on_the_road(s: &[u8], at: Layout, limit: usize, route: &[usize; 64], stops: u
 }
 
 // No leg is above the capacity.
-fn in_capacity(h: &[usize; 64], legs: usize, capacity: usize) -> bool
+fn in_capacity(h: &[usize; Node::MOST], legs: usize, capacity: usize) -> bool
     requires { ⌜ (length (now h) ≡ 64) × (legs ≤ 64) ⌝ }
     ensures { λ r. ⌜ r ≡ allBelow legs (λ i. leb (getD (now (h .entry)) i 0) capacity) ⌝ }
 {
@@ -166,11 +173,18 @@ fn in_capacity(h: &[usize; 64], legs: usize, capacity: usize) -> bool
 }
 
 // Whether x is owed: unplaced, and marked or with a transfer partner that is marked or on the route.
-pub fn owed(s: &[u8], at: Layout, route: &[usize; 64], stops: usize, marks: u64, x: usize) -> bool
+pub fn owed(
+    s: &[u8],
+    at: Layout,
+    route: &[usize; Node::MOST],
+    stops: usize,
+    marks: u64,
+    x: usize,
+) -> bool
     requires { ⌜ Laid (now s) at × Route (at .nodes) (now route) stops ⌝ }
     ensures { λ r. ⌜ r ≡ owed (dayOf (now (s .entry))) (take stops (now (route .entry))) (has marks) x ⌝ }
 {
-    let mut spots = [64usize; 64];
+    let mut spots = [Node::MOST; Node::MOST];
     along::spots::spots(route, stops, &mut spots);
     let on = placed(&spots, x);
     let marked = bits::has(marks, x);
@@ -184,21 +198,21 @@ fn nodes_kept(
     s: &[u8],
     at: Layout,
     van: Van,
-    route: &[usize; 64],
+    route: &[usize; Node::MOST],
     stops: usize,
-    sets: &[u64; 64],
+    sets: &[u64; Node::MOST],
     marks: u64,
 ) -> bool
     requires { ⌜ Ready (now s) at (now route) stops (now sets) marks ⌝ }
-    ensures { λ r. ⌜ r ≡ nodesOk (vanIn van) (dayOf (now (s .entry))) (planFrom (now (route .entry)) stops (now (sets .entry)) marks) ⌝ }
+    ensures { λ r. ⌜ r ≡ nodesOk van (dayOf (now (s .entry))) (planFrom (now (route .entry)) stops (now (sets .entry)) marks) ⌝ }
 {
-    let mut spots = [64usize; 64];
+    let mut spots = [Node::MOST; Node::MOST];
     along::spots::spots(route, stops, &mut spots);
     if !marks_kept(&spots, sets, marks) {
         return false;
     }
-    let mut on = [0usize; 64];
-    let mut off = [0usize; 64];
+    let mut on = [0usize; Node::MOST];
+    let mut off = [0usize; Node::MOST];
     let m = at.jobs;
     let mut first = 0;
     let mut ok = true;
@@ -221,13 +235,13 @@ pub fn alive<'a>(
     s: &[u8],
     at: Layout,
     van: Van,
-    route: &'a [usize; 64],
+    route: &'a [usize; Node::MOST],
     stops: usize,
-    sets: &'a [u64; 64],
+    sets: &'a [u64; Node::MOST],
     marks: u64,
 ) -> bool
     requires { ⌜ Ready (now s) at (now route) stops (now sets) marks ⌝ }
-    ensures { λ r. ⌜ r ≡ alive (vanIn van) (dayOf (now (s .entry))) (planFrom (now (route .entry)) stops (now (sets .entry)) marks) ⌝ }
+    ensures { λ r. ⌜ r ≡ alive van (dayOf (now (s .entry))) (planFrom (now (route .entry)) stops (now (sets .entry)) marks) ⌝ }
 {
     if !on_the_road(s, at, van.limit, route, stops) {
         return false;

@@ -12,7 +12,7 @@ use Rattle.laws.specs.Logic.{and-true}
 use Rattle.sheet.specs.Word.{words, wordAt}
 use Rattle.sheet.specs.Rule.{limitsOk, nodeAtOk, jobAtOk, entryOk}
 use Rattle.sheet.specs.Section.{headRefusal, limitsRefusal, nodesRefusal, jobsRefusal, tableRefusal, stepsRefusal}
-use Rattle.sheet.specs.Section.{tablesRefusal, laterRefusal, refusal13}
+use Rattle.sheet.specs.Section.{tablesRefusal, laterRefusal, readRefusal}
 use Rattle.sheet.specs.Section.{jobsAt, secondsAt, metresAt, stepsAt, nOf, mOf, kOf}
 use Rattle.sheet.specs.declared.Layout.{Layout}
 
@@ -69,8 +69,8 @@ pub record Fine (s : List ℕ) : Type 0 where
   pub seconds : allBelow (nOf s * nOf s) (entryOk s (secondsAt (nOf s) (mOf s) + 1)) ≡ true
   pub metres : allBelow (nOf s * nOf s) (entryOk s (metresAt (nOf s) (mOf s) + 1)) ≡ true
 
-pub fine : (s : List ℕ) → refusal13 s ≡ 0 → Fine s
-unfolding refusal13 laterRefusal limitsRefusal nodesRefusal jobsRefusal tablesRefusal tableRefusal stepsRefusal
+pub fine : (s : List ℕ) → readRefusal s ≡ 0 → Fine s
+unfolding readRefusal laterRefusal limitsRefusal nodesRefusal jobsRefusal tablesRefusal tableRefusal stepsRefusal
 fine s h =
     let h0 = or-else-zero _ _ h in
     let h1 = or-else-zero _ _ (h0 .1) in

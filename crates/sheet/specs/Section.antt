@@ -7,7 +7,7 @@ use lib.Dec.{leb, ltb, eqb}
 use Rattle.laws.specs.Below.{allBelow}
 use Rattle.laws.specs.Choice.{orElse, unless}
 use Rattle.sheet.specs.Word.{words, wordAt}
-use Rattle.sheet.specs.Refusal.{SHORT, COUNT, VALUE}
+use Rattle.rules.specs.Refusal.{SHORT, COUNT, VALUE}
 use Rattle.sheet.specs.Rule.{limitsOk, nodeAtOk, jobAtOk, entryOk}
 
 -- count and shortness of a section whose count stands at word `at`, is to be lo to hi, and counts entries of `width` words
@@ -70,6 +70,6 @@ unfoldable pub laterRefusal : List ℕ → ℕ
 laterRefusal s = orElse (jobsRefusal s (nOf s) (jobsAt (nOf s))) (tablesRefusal s (nOf s) (mOf s))
 
 -- 1 to 3, or 0: the length, the sections in order, what is left over
-unfoldable pub refusal13 : List ℕ → ℕ
-refusal13 s =
+unfoldable pub readRefusal : List ℕ → ℕ
+readRefusal s =
     orElse (unless (eqb (length s % 4) 0) SHORT) (orElse (limitsRefusal s) (orElse (nodesRefusal s) (laterRefusal s)))

@@ -6,20 +6,12 @@ ghost use Rattle.laws.specs.Choice.{unless};
 ghost use Rattle.sheet.specs.Word.{words, wordAt, Reads};
 ghost use Rattle.sheet.specs.Rule.{limitsOk, nodeOk, isInner, jobOk, nodeAtOk, jobAtOk, entryOk};
 ghost use Rattle.sheet.specs.Section.{headRefusal, limitsRefusal, nodesRefusal, jobsRefusal, tableRefusal, stepsRefusal};
-ghost use Rattle.sheet.specs.Section.{tablesRefusal, laterRefusal, refusal13};
+ghost use Rattle.sheet.specs.Section.{tablesRefusal, laterRefusal, readRefusal};
 ghost use Rattle.sheet.specs.Place.{Laid};
 use rules::Job;
-
-// The numbers by which a sheet is refused.
-pub const SHORT: usize = 1;
-
-pub const COUNT: usize = 2;
-
-pub const VALUE: usize = 3;
-
-pub const TWICE: usize = 4;
-
-pub const TRIANGLE: usize = 5;
+use rules::Node;
+use rules::Refusal;
+use rules::Step;
 
 // Where an accepted sheet has what: how many nodes, jobs and steps, and the word of the first node, job, second, metre and step.
 pub struct Layout {
@@ -59,17 +51,17 @@ fn head(s: &[u8], at: usize, lo: usize, hi: usize, width: usize) -> usize
 {
     let have = s.len() / 4;
     if have <= at {
-        return SHORT;
+        return Refusal::SHORT;
     }
     let count = word(s, at) as usize;
     if count < lo {
-        return COUNT;
+        return Refusal::COUNT;
     }
     if hi < count {
-        return COUNT;
+        return Refusal::COUNT;
     }
     if have < at + 1 + width * count {
-        return SHORT;
+        return Refusal::SHORT;
     }
     0
 }
@@ -222,17 +214,17 @@ fn limits_refusal(s: &[u8]) -> usize
     if h != 0 {
         return h;
     }
-    number_of(limits_ok(word(s, 1), word(s, 2)), VALUE)
+    number_of(limits_ok(word(s, 1), word(s, 2)), Refusal::VALUE)
 }
 
 fn nodes_refusal(s: &[u8]) -> usize
     ensures { λ r. ⌜ r ≡ nodesRefusal (now (s .entry)) ⌝ }
 {
-    let h = head(s, 3, 2, 64, 3);
+    let h = head(s, 3, 2, Node::MOST, 3);
     if h != 0 {
         return h;
     }
-    number_of(nodes_ok(s, 4, word(s, 3) as usize), VALUE)
+    number_of(nodes_ok(s, 4, word(s, 3) as usize), Refusal::VALUE)
 }
 
 fn jobs_refusal(s: &[u8], n: u32, at: usize) -> usize
@@ -243,7 +235,7 @@ fn jobs_refusal(s: &[u8], n: u32, at: usize) -> usize
     if h != 0 {
         return h;
     }
-    number_of(jobs_ok(s, n, at + 1, word(s, at) as usize), VALUE)
+    number_of(jobs_ok(s, n, at + 1, word(s, at) as usize), Refusal::VALUE)
 }
 
 fn table_refusal(s: &[u8], n: usize, at: usize) -> usize
@@ -255,14 +247,14 @@ fn table_refusal(s: &[u8], n: usize, at: usize) -> usize
     if h != 0 {
         return h;
     }
-    number_of(entries_ok(s, at + 1, m), VALUE)
+    number_of(entries_ok(s, at + 1, m), Refusal::VALUE)
 }
 
 fn steps_refusal(s: &[u8], at: usize) -> usize
     requires { ⌜ at < 90000 ⌝ }
     ensures { λ r. ⌜ r ≡ stepsRefusal (now (s .entry)) at ⌝ }
 {
-    let h = head(s, at, 0, 2000, 3);
+    let h = head(s, at, 0, Step::MOST, 3);
     if h != 0 {
         return h;
     }
@@ -270,7 +262,7 @@ fn steps_refusal(s: &[u8], at: usize) -> usize
     if s.len() / 4 == at + 1 + 3 * steps {
         0
     } else {
-        SHORT
+        Refusal::SHORT
     }
 }
 
@@ -308,10 +300,10 @@ fn later_refusal(s: &[u8]) -> usize
 
 // 1 to 3, or 0: the length, the sections in order, what is left over.
 pub fn refusal_1_to_3(s: &[u8]) -> usize
-    ensures { λ r. ⌜ r ≡ refusal13 (now (s .entry)) ⌝ }
+    ensures { λ r. ⌜ r ≡ readRefusal (now (s .entry)) ⌝ }
 {
     if s.len() % 4 != 0 {
-        return SHORT;
+        return Refusal::SHORT;
     }
     let a = limits_refusal(s);
     if a != 0 {
@@ -326,7 +318,7 @@ pub fn refusal_1_to_3(s: &[u8]) -> usize
 
 // The layout of a sheet that 1 to 3 do not refuse, found once for all who read it.
 pub fn layout_of(s: &[u8]) -> Layout
-    requires { ⌜ refusal13 (now s) ≡ 0 ⌝ }
+    requires { ⌜ readRefusal (now s) ≡ 0 ⌝ }
     ensures { λ r. ⌜ Laid (now (s .entry)) r ⌝ }
 {
     let nodes = word(s, 3) as usize;

@@ -4,6 +4,7 @@ ghost use mathlib.Core.Bool.{cond};
 ghost use Prim.Native.Nat.{_+_, _^_, _≤_, _<_};
 ghost use lib.Dec.{eqb};
 ghost use Rattle.trail.specs.Trail.{roomOf, pushed, Alike, shrunk, noteOne, noteBelow};
+use rules::Node;
 
 // Record i written.
 pub fn push(trail: &mut [u64], i: usize, first: u64, second: u64)
@@ -23,7 +24,7 @@ fn one_more(w: u64, v: u64, k: usize) -> usize
 }
 
 // How many sets differ, which they do at the nodes only: the records that a settling needs.
-pub fn needed<'a>(old: &'a [u64; 64], new: &'a [u64; 64], n: usize) -> usize
+pub fn needed<'a>(old: &'a [u64; Node::MOST], new: &'a [u64; Node::MOST], n: usize) -> usize
     requires { ⌜ (n ≤ 64) × Alike n (now old) (now new) ⌝ }
     ensures { λ r. ⌜ (r ≡ shrunk (now (old .entry)) (now (new .entry)) 64) × (r ≤ 64) ⌝ }
 {
@@ -52,8 +53,8 @@ fn note_one(trail: &mut [u64], i: usize, w: u64, v: u64, y: usize) -> usize
 pub fn note<'a>(
     trail: &mut [u64],
     records: usize,
-    old: &'a [u64; 64],
-    new: &'a [u64; 64],
+    old: &'a [u64; Node::MOST],
+    new: &'a [u64; Node::MOST],
     n: usize,
 ) -> usize
     requires { ⌜ (n ≤ 64) × Alike n (now old) (now new) × (records + shrunk (now old) (now new) 64 ≤ roomOf (now trail)) ⌝ }

@@ -1,13 +1,9 @@
 // When a step is refused, in document 01's order. The state is in form, and the caller has asked so.
-use crate::NODE;
-use crate::OWED;
-use crate::PLACED;
-use crate::ROOM;
-use crate::SHUT;
-use crate::UNPLACED;
 use board::form::inner;
 use board::form::leg_node;
 use board::route::word;
+use rules::Node;
+use rules::Refusal;
 ghost use mathlib.Core.Path.{_≡_};
 ghost use mathlib.Core.List.{List};
 ghost use Prim.Native.Nat.{ℕ, _<_, _≤_};
@@ -17,9 +13,9 @@ ghost use Rattle.trail.specs.Refusals.{placeRefusal, excludeRefusal, req
 
 // Steps 1 and 2 are refused alike: place x after p, close the place p of x.
 pub fn place_refusal<'a>(
-    route: &'a [usize; 64],
+    route: &'a [usize; Node::MOST],
     stops: usize,
-    sets: &'a [u64; 64],
+    sets: &'a [u64; Node::MOST],
     records: usize,
     room: usize,
     n: usize,
@@ -30,29 +26,29 @@ pub fn place_refusal<'a>(
     ensures { λ r. ⌜ ((m : ℕ) → r ≡ placeRefusal n (board (now (route .entry)) stops (now (sets .entry)) m) records room p x) ⌝ }
 {
     if !inner(n, x) {
-        return NODE;
+        return Refusal::NODE;
     }
     if !leg_node(n, p) {
-        return NODE;
+        return Refusal::NODE;
     }
     let on = word(route, stops);
     if bits::has(on, x) {
-        return PLACED;
+        return Refusal::PLACED;
     }
     if !bits::has(on, p) {
-        return UNPLACED;
+        return Refusal::UNPLACED;
     }
     if !bits::has(sets[x], p) {
-        return SHUT;
+        return Refusal::SHUT;
     }
-    if records < room { 0 } else { ROOM }
+    if records < room { 0 } else { Refusal::ROOM }
 }
 
 // Step 3: exclude x.
 pub fn exclude_refusal<'a>(
-    route: &'a [usize; 64],
+    route: &'a [usize; Node::MOST],
     stops: usize,
-    sets: &'a [u64; 64],
+    sets: &'a [u64; Node::MOST],
     records: usize,
     room: usize,
     n: usize,
@@ -63,24 +59,24 @@ pub fn exclude_refusal<'a>(
     ensures { λ r. ⌜ ((m : ℕ) → r ≡ excludeRefusal n (board (now (route .entry)) stops (now (sets .entry)) m) records room owed x) ⌝ }
 {
     if !inner(n, x) {
-        return NODE;
+        return Refusal::NODE;
     }
     let on = word(route, stops);
     if bits::has(on, x) {
-        return PLACED;
+        return Refusal::PLACED;
     }
     if owed {
-        return OWED;
+        return Refusal::OWED;
     }
     if sets[x] == 0 {
         return 0;
     }
-    if records < room { 0 } else { ROOM }
+    if records < room { 0 } else { Refusal::ROOM }
 }
 
 // Step 4: require x.
 pub fn require_refusal(
-    route: &[usize; 64],
+    route: &[usize; Node::MOST],
     stops: usize,
     marks: u64,
     records: usize,
@@ -92,14 +88,14 @@ pub fn require_refusal(
     ensures { λ r. ⌜ ((l : List ℕ) → r ≡ requireRefusal n (board (now (route .entry)) stops l marks) records room x) ⌝ }
 {
     if !inner(n, x) {
-        return NODE;
+        return Refusal::NODE;
     }
     let on = word(route, stops);
     if bits::has(on, x) {
-        return PLACED;
+        return Refusal::PLACED;
     }
     if bits::has(marks, x) {
         return 0;
     }
-    if records < room { 0 } else { ROOM }
+    if records < room { 0 } else { Refusal::ROOM }
 }

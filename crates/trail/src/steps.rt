@@ -1,8 +1,5 @@
 // The steps on a state in form, asked so by the caller: the answer, and state and trail changed in place. Refused: state and trail as before.
-use crate::LEVEL;
-use crate::MISFIT;
 use crate::Outcome;
-use crate::ROOM;
 use crate::records::needed;
 use crate::records::note;
 use crate::records::push;
@@ -15,6 +12,8 @@ use board::State;
 use board::places::inherit;
 use board::route::insert;
 use board::route::position;
+use rules::Node;
+use rules::Refusal;
 ghost use mathlib.Core.Path.{_≡_};
 ghost use mathlib.Core.Bool.{true};
 ghost use mathlib.Core.List.{List};
@@ -39,8 +38,8 @@ fn same(answer: usize, f: Figures) -> Outcome
 
 // Step 1: place x after p.
 pub fn place(
-    route: &mut [usize; 64],
-    sets: &mut [u64; 64],
+    route: &mut [usize; Node::MOST],
+    sets: &mut [u64; Node::MOST],
     f: Figures,
     n: usize,
     p: usize,
@@ -74,7 +73,7 @@ pub fn place(
 }
 
 // The set of x becomes w, with its record.
-fn shrink(sets: &mut [u64; 64], f: Figures, x: usize, w: u64, trail: &mut [u64]) -> Outcome
+fn shrink(sets: &mut [u64; Node::MOST], f: Figures, x: usize, w: u64, trail: &mut [u64]) -> Outcome
     requires { ⌜ (x < 64) × (f .records < roomOf (now trail)) ⌝ }
     ensures { λ r. ⌜ ((route levels : List ℕ) → recorded (stateWith route (now (sets .entry)) levels f) (now (trail .entry)) (putSet (boardOf (stateWith route (now (sets .entry)) levels f)) x w) (256 + x) (setOf (boardOf (stateWith route (now (sets .entry)) levels f)) x) ≡ ran r route (now (sets .exit)) levels (now (trail .exit))) ⌝ }
 {
@@ -94,8 +93,8 @@ fn shrink(sets: &mut [u64; 64], f: Figures, x: usize, w: u64, trail: &mut [u64])
 
 // Step 2: close the place p of x.
 pub fn close(
-    route: &[usize; 64],
-    sets: &mut [u64; 64],
+    route: &[usize; Node::MOST],
+    sets: &mut [u64; Node::MOST],
     f: Figures,
     n: usize,
     p: usize,
@@ -116,8 +115,8 @@ pub fn close(
 
 // Step 3: exclude x, which is owed or not.
 pub fn exclude(
-    route: &[usize; 64],
-    sets: &mut [u64; 64],
+    route: &[usize; Node::MOST],
+    sets: &mut [u64; Node::MOST],
     f: Figures,
     n: usize,
     owed: bool,
@@ -139,7 +138,13 @@ pub fn exclude(
 }
 
 // Step 4: require x.
-pub fn require(route: &[usize; 64], f: Figures, n: usize, x: usize, trail: &mut [u64]) -> Outcome
+pub fn require(
+    route: &[usize; Node::MOST],
+    f: Figures,
+    n: usize,
+    x: usize,
+    trail: &mut [u64],
+) -> Outcome
     requires { ⌜ (n ≤ 64) × (length (now route) ≡ 64) × (f .stops ≤ 64) × ((i : ℕ) → i < f .stops → getD (now route) i 0 < 64) ⌝ }
     ensures { λ r. ⌜ ((sets levels : List ℕ) → requireStep n (stateWith (now (route .entry)) sets levels f) (now (trail .entry)) x ≡ ran r (now (route .entry)) sets levels (now (trail .exit))) ⌝ }
 {
@@ -167,9 +172,9 @@ pub fn require(route: &[usize; 64], f: Figures, n: usize, x: usize, trail: &mut 
 
 // Step 5, its sets known: the records of a settling, and the sets become the new ones.
 pub fn settle(
-    sets: &mut [u64; 64],
+    sets: &mut [u64; Node::MOST],
     f: Figures,
-    new: &[u64; 64],
+    new: &[u64; Node::MOST],
     n: usize,
     trail: &mut [u64],
 ) -> Outcome
@@ -180,7 +185,7 @@ pub fn settle(
     let i = f.records;
     let more = needed(sets, new, n);
     if room < i + more {
-        return same(ROOM, f);
+        return same(Refusal::ROOM, f);
     }
     let records = note(trail, i, sets, new, n);
     *sets = *new;
@@ -196,13 +201,13 @@ pub fn settle(
 }
 
 // Step 6: open a level.
-pub fn level(levels: &mut [usize; 64], f: Figures) -> Outcome
+pub fn level(levels: &mut [usize; State::LEVELS], f: Figures) -> Outcome
     requires { ⌜ length (now levels) ≡ 64 ⌝ }
     ensures { λ r. ⌜ ((route sets t : List ℕ) → levelStep (stateWith route sets (now (levels .entry)) f) t ≡ ran r route sets (now (levels .exit)) t) ⌝ }
 {
     let d = f.depth;
     if State::LEVELS <= d {
-        return same(LEVEL, f);
+        return same(Refusal::LEVEL, f);
     }
     levels[d] = f.records;
     Outcome {
@@ -218,9 +223,9 @@ pub fn level(levels: &mut [usize; 64], f: Figures) -> Outcome
 
 // Step 7: undo to the last level and drop it. The undoing is tried on copies, since a record that does not fit refuses all.
 pub fn back(
-    route: &mut [usize; 64],
-    sets: &mut [u64; 64],
-    levels: &mut [usize; 64],
+    route: &mut [usize; Node::MOST],
+    sets: &mut [u64; Node::MOST],
+    levels: &mut [usize; State::LEVELS],
     f: Figures,
     n: usize,
     trail: &[u64],
@@ -230,7 +235,7 @@ pub fn back(
 {
     let depth = f.depth;
     if depth < 1 {
-        return same(LEVEL, f);
+        return same(Refusal::LEVEL, f);
     }
     let base = levels[depth - 1];
     let mut stops = *route;
@@ -246,7 +251,7 @@ pub fn back(
         trail,
     );
     if !u.fits {
-        return same(MISFIT, f);
+        return same(Refusal::MISFIT, f);
     }
     levels[depth - 1] = 0;
     *route = stops;

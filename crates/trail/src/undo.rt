@@ -4,6 +4,7 @@ use board::places::strike_leg;
 use board::route::position;
 use board::route::remove;
 use board::route::word;
+use rules::Node;
 ghost use mathlib.Core.Path.{_≡_};
 ghost use mathlib.Core.Bool.{_&&_};
 ghost use Prim.Native.Nat.{_-_, _≤_};
@@ -28,8 +29,8 @@ fn grows(v: u64, w: u64, legs: u64) -> bool
 
 // Kind 1: x gets its larger set w back.
 fn undo_shrunk(
-    route: &[usize; 64],
-    sets: &mut [u64; 64],
+    route: &[usize; Node::MOST],
+    sets: &mut [u64; Node::MOST],
     stops: usize,
     marks: u64,
     n: usize,
@@ -72,8 +73,8 @@ fn left_legs(w: u64, legs: u64, x: usize, stop: usize) -> bool
 
 // Kind 2: x is taken off the route and gets its old set back; its leg goes out of every set.
 fn undo_placed(
-    route: &mut [usize; 64],
-    sets: &mut [u64; 64],
+    route: &mut [usize; Node::MOST],
+    sets: &mut [u64; Node::MOST],
     stops: usize,
     marks: u64,
     n: usize,
@@ -119,8 +120,8 @@ fn undo_placed(
 
 // Kind 3: the mark of x is taken off.
 fn undo_marked<'a>(
-    route: &'a [usize; 64],
-    sets: &'a [u64; 64],
+    route: &'a [usize; Node::MOST],
+    sets: &'a [u64; Node::MOST],
     stops: usize,
     marks: u64,
     n: usize,
@@ -148,8 +149,8 @@ fn undo_marked<'a>(
 
 // The record with these two words: 256 * kind + node, and the old set or 0.
 fn undo_one(
-    route: &mut [usize; 64],
-    sets: &mut [u64; 64],
+    route: &mut [usize; Node::MOST],
+    sets: &mut [u64; Node::MOST],
     stops: usize,
     marks: u64,
     n: usize,
@@ -179,8 +180,8 @@ fn undo_one(
 
 // The records from `base` on undone, newest first, as far as they fit.
 pub fn undo_many(
-    route: &mut [usize; 64],
-    sets: &mut [u64; 64],
+    route: &mut [usize; Node::MOST],
+    sets: &mut [u64; Node::MOST],
     stops: usize,
     marks: u64,
     n: usize,

@@ -1,6 +1,6 @@
 use mathlib.Core.Path.{sym, _∙_}
 use Rattle.laws.specs.Choice.{first-stops, first-goes}
-use Rattle.day.specs.Refuse.{refusal14}
+use Rattle.day.specs.Refuse.{callRefusal}
 use borrow.Author.Needs.{needs}
 use Rattle.day.proofs.refusal_1_to_4.Statement.{statement}
 use Rattle.day.proofs.refusal_1_to_4.Tie as tie
@@ -9,7 +9,7 @@ refusal-1-to-3-requires : tie.Need-refusal-1-to-3-requires
 refusal-1-to-3-requires c κs = search needs
 
 returns : tie.Need-returns
-unfolding refusal14
+unfolding callRefusal
 returns c = first-stops _ (c .before .refusal-1-to-3 .ensures) (c .if1 .taken)
 
 layout-of-requires : tie.Need-layout-of-requires
@@ -22,7 +22,7 @@ number-of-requires : tie.Need-number-of-requires
 number-of-requires c κs = search needs
 
 returns-2 : tie.Need-returns-2
-unfolding refusal14
+unfolding callRefusal
 returns-2 c = first-goes _ (c .before .before .before .before .refusal-1-to-3 .ensures) (c .before .before .before .if1 .left) (rw (c .number-of .ensures, c .before .all-apart .ensures, c .before .before .layout-of .ensures .jobs))
 
 pub refusal-1-to-4-spec : {M : Type 1} → statement M

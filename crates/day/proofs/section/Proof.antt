@@ -3,7 +3,7 @@ use native.Mathlib.Omega.{arith}
 use native.Mathlib.Nat.{add-sub-cancel-left}
 use mathlib.Core.Path.{sym, _∙_}
 use borrow.Author.Tests.{ne-eqb}
-use Rattle.day.specs.Refuse.{zero13}
+use Rattle.day.specs.Refuse.{read-zero}
 use Rattle.day.specs.Section.{section-is, span-fits, sectionOf}
 use Rattle.day.proofs.section.Statement.{statement}
 use Rattle.day.proofs.section.Tie as tie
@@ -19,7 +19,7 @@ unfolding sectionOf
 returns c = simp (← c .before .before .refusal-1-to-4 .ensures, ne-eqb _ _ (c .before .if1 .taken))
 
 layout-of-requires : tie.Need-layout-of-requires
-layout-of-requires c κs = zero13 _ (sym (c .before .refusal-1-to-4 .ensures) ∙ c .if1 .left)
+layout-of-requires c κs = read-zero _ (sym (c .before .refusal-1-to-4 .ensures) ∙ c .if1 .left)
 
 span-of-requires : tie.Need-span-of-requires
 span-of-requires c κs = search needs

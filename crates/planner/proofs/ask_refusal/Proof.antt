@@ -1,6 +1,6 @@
 use mathlib.Core.Path.{sym, _∙_}
 use Rattle.laws.specs.Choice.{first-stops, first-goes}
-use Rattle.day.specs.Refuse.{zero13}
+use Rattle.day.specs.Refuse.{read-zero}
 use Rattle.planner.specs.Face.{askRefusal}
 use borrow.Author.Needs.{needs}
 use Rattle.planner.proofs.ask_refusal.Statement.{statement}
@@ -14,7 +14,7 @@ unfolding askRefusal
 returns c = first-stops _ (c .before .refusal-1-to-4 .ensures) (c .if1 .taken)
 
 layout-of-requires : tie.Need-layout-of-requires
-layout-of-requires c κs = zero13 _ (sym (c .before .refusal-1-to-4 .ensures) ∙ c .if1 .left)
+layout-of-requires c κs = read-zero _ (sym (c .before .refusal-1-to-4 .ensures) ∙ c .if1 .left)
 
 in-form-requires : tie.Need-in-form-requires
 in-form-requires c κs = search needs

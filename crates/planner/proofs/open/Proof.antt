@@ -1,19 +1,19 @@
 use mathlib.Core.Path.{_≡_, sym, _∙_}
 use borrow.Author.Tests.{ne-eqb}
-use Rattle.day.specs.Refuse.{refusal15, zero14, zero13}
+use Rattle.day.specs.Refuse.{openRefusal, call-zero, read-zero}
 use Rattle.planner.specs.Face.{openOf}
 use borrow.Author.Needs.{needs}
 use Rattle.planner.proofs.open.Statement.{statement}
 use Rattle.planner.proofs.open.Tie as tie
 
-zero : (c : tie.Then1) → refusal15 (c .before .before .before .args .sheet .now) ≡ 0
+zero : (c : tie.Then1) → openRefusal (c .before .before .before .args .sheet .now) ≡ 0
 zero c = sym (c .before .refusal-1-to-5 .ensures) ∙ c .if1 .taken
 
 refusal-1-to-5-requires : tie.Need-refusal-1-to-5-requires
 refusal-1-to-5-requires c κs = search needs
 
 layout-of-requires : tie.Need-layout-of-requires
-layout-of-requires c κs = zero13 _ (zero14 _ (zero c))
+layout-of-requires c κs = read-zero _ (call-zero _ (zero c))
 
 fresh-requires : tie.Need-fresh-requires
 fresh-requires c κs = search needs

@@ -1,6 +1,6 @@
 use mathlib.Core.Path.{_≡_, sym, _∙_}
 use borrow.Author.Tests.{ne-eqb}
-use Rattle.day.specs.Refuse.{zero13}
+use Rattle.day.specs.Refuse.{read-zero}
 use Rattle.board.specs.Ends.{sets-end, places-end}
 use Rattle.board.proofs.Told.{told}
 use Rattle.settle.specs.Ready.{nodes-most}
@@ -28,7 +28,7 @@ unfolding countOf
 returns c = rw (sym (asks (c .before)), ne-eqb _ _ (c .if1 .taken))
 
 layout-of-requires : tie.Need-layout-of-requires
-layout-of-requires c κs = zero13 _ (asked _ _ (zero c) .0)
+layout-of-requires c κs = read-zero _ (asked _ _ (zero c) .0)
 
 count-requires : tie.Need-count-requires
 count-requires c κs = nodes-most (c .before .before .layout-of .ensures)

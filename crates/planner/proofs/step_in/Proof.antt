@@ -1,7 +1,7 @@
 use mathlib.Core.Path.{_≡_, sym, _∙_}
-use Rattle.day.specs.Refuse.{zero13}
+use Rattle.day.specs.Refuse.{read-zero}
 use Rattle.board.specs.Board.{stateWith}
-use Rattle.planner.specs.Face.{callRefusal}
+use Rattle.planner.specs.Face.{stepRefusal}
 use Rattle.planner.proofs.Answers.{called, call-yes}
 use Rattle.planner.proofs.FaceLaws.{step-refused}
 use borrow.Author.Needs.{needs}
@@ -9,20 +9,20 @@ use Rattle.planner.proofs.step_in.Statement.{statement}
 use Rattle.planner.proofs.step_in.Tie as tie
 
 zero : (c : tie.Else1) → let a = c .before .before .before .before .before .before .before .before .args in
-    callRefusal (a .sheet .now) (stateWith (a .route .now) (a .sets .now) (a .levels .now) (a .f)) (a .trail .now) ≡ 0
-zero c = sym (c .before .call-refusal .ensures) ∙ c .if1 .left
+    stepRefusal (a .sheet .now) (stateWith (a .route .now) (a .sets .now) (a .levels .now) (a .f)) (a .trail .now) ≡ 0
+zero c = sym (c .before .step-refusal .ensures) ∙ c .if1 .left
 
-call-refusal-requires : tie.Need-call-refusal-requires
-call-refusal-requires c κs = search needs
+step-refusal-requires : tie.Need-step-refusal-requires
+step-refusal-requires c κs = search needs
 
 same-length : tie.Need-same-length
 same-length c = search needs
 
 returns : tie.Need-returns
-returns c = step-refused _ _ _ _ _ _ (c .before .call-refusal .ensures) (c .if1 .taken)
+returns c = step-refused _ _ _ _ _ _ (c .before .step-refusal .ensures) (c .if1 .taken)
 
 layout-of-requires : tie.Need-layout-of-requires
-layout-of-requires c κs = zero13 _ (called _ _ _ (zero c) .read)
+layout-of-requires c κs = read-zero _ (called _ _ _ (zero c) .read)
 
 act-requires : tie.Need-act-requires
 act-requires c κs =
@@ -40,7 +40,7 @@ pub step-in-spec : {M : Type 1} → statement M
 step-in-spec =
     tie.close
     (tie.spec
-    call-refusal-requires
+    step-refusal-requires
     same-length
     returns
     layout-of-requires

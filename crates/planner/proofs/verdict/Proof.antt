@@ -1,6 +1,6 @@
 use mathlib.Core.Path.{_≡_, sym, _∙_}
 use borrow.Author.Tests.{ne-eqb}
-use Rattle.day.specs.Refuse.{zero13}
+use Rattle.day.specs.Refuse.{read-zero}
 use Rattle.board.proofs.Told.{told}
 use Rattle.planner.specs.Face.{askRefusal, judgeOf}
 use Rattle.planner.proofs.FaceLaws.{whole, asked}
@@ -26,7 +26,7 @@ unfolding judgeOf
 returns c = rw (sym (asks (c .before)), ne-eqb _ _ (c .if1 .taken))
 
 layout-of-requires : tie.Need-layout-of-requires
-layout-of-requires c κs = zero13 _ (asked _ _ (zero c) .0)
+layout-of-requires c κs = read-zero _ (asked _ _ (zero c) .0)
 
 alive-requires : tie.Need-alive-requires
 alive-requires c κs =

@@ -1,4 +1,4 @@
-use Rattle.day.specs.Refuse.{zero14, zero13}
+use Rattle.day.specs.Refuse.{call-zero, read-zero}
 use Rattle.dock.proofs.Reach.{opened}
 use borrow.Author.Needs.{needs}
 use Rattle.round.proofs.list.Statement.{statement}
@@ -17,7 +17,7 @@ returns : tie.Need-returns
 returns c = search needs
 
 layout-of-requires : tie.Need-layout-of-requires
-layout-of-requires c κs = zero13 _ (zero14 _ (opened _ (c .before .before .«open» .ensures) (c .if1 .left) .0))
+layout-of-requires c κs = read-zero _ (call-zero _ (opened _ (c .before .before .«open» .ensures) (c .if1 .left) .0))
 
 run-requires : tie.Need-run-requires
 run-requires c κs =
@@ -25,7 +25,7 @@ run-requires c κs =
     let e = l .before in
     let d = e .before .before .before .before .before .before in
     let o = opened _ (e .before .before .«open» .ensures) (e .if1 .left) in
-    (zero14 _ (o .0), l .layout-of .ensures, d .pre, o .1)
+    (call-zero _ (o .0), l .layout-of .ensures, d .pre, o .1)
 
 same-length-2 : tie.Need-same-length-2
 same-length-2 c = search needs

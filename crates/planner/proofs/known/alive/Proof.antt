@@ -1,5 +1,5 @@
 use mathlib.Core.Path.{ap, _∙_}
-use Rattle.rules.specs.Day.{Van}
+use Rattle.rules.specs.declared.Van.{Van}
 use Rattle.rules.specs.Verdict.{alive}
 use Rattle.day.specs.Tell.{dayOf}
 use Rattle.board.specs.Board.{stateWith, routeOf, setOf, openAt}

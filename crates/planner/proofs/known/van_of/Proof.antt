@@ -1,7 +1,7 @@
 use mathlib.Core.Path.{ap₂}
 use Prim.Native.Nat.{ℕ}
 use native.Mathlib.Omega.{arith}
-use Rattle.rules.specs.Day.{Van}
+use Rattle.rules.specs.declared.Van.{Van}
 use borrow.Author.Needs.{needs}
 use Rattle.planner.proofs.known.van_of.Statement.{statement}
 use Rattle.planner.proofs.known.van_of.Tie as tie

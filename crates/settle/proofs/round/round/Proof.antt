@@ -5,7 +5,7 @@ use Rattle.laws.specs.Table.{tab}
 use Rattle.day.specs.Jobs.{jobIn}
 use Rattle.day.specs.Tell.{dayOf}
 use Rattle.settle.specs.Round.{kepts-both}
-use Rattle.settle.specs.Ready.{vanIn, jobs-are}
+use Rattle.settle.specs.Ready.{jobs-are}
 use Rattle.settle.proofs.Facts.{two-stops, legs-stops, route-of, few-nodes, past-nodes, spotted, named}
 use Rattle.settle.proofs.Rounds.{round-sets}
 use Rattle.settle.proofs.round.round.Statement.{statement}
@@ -30,7 +30,7 @@ returns c =
     let a = b .args in
     let r = b .pre .0 .0 in
     let e = b .pre .0 .1 in
-    round-sets (vanIn (a .van)) (dayOf (a .s .now)) (jobIn (a .s .now)) (a .at .jobs) (ap (λ (k : ℕ). tab k (jobIn (a .s .now))) (sym (jobs-are (r .laid))))
+    round-sets (a .van) (dayOf (a .s .now)) (jobIn (a .s .now)) (a .at .jobs) (ap (λ (k : ℕ). tab k (jobIn (a .s .now))) (sym (jobs-are (r .laid))))
     (a .route .now) (a .stops) (r .long) (two-stops r) (r .most) (few-nodes r) (r .form .nodes) (a .h .now) (e .loads) (a .old .now) (r .form .off)
     (r .form .leg) (a .l .now) (e .lasts) _ (kepts-both (rw (legs-stops r) at (c .before .before .stand-all .ensures)) (c .strike-jobs .ensures))
 

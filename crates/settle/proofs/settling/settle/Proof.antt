@@ -1,5 +1,4 @@
 use mathlib.Core.Path.{refl, sym, _∙_}
-use Rattle.settle.specs.Ready.{vanIn}
 use Rattle.settle.proofs.Facts.{route-of, near-nodes}
 use Rattle.settle.proofs.Again.{none-open}
 use Rattle.settle.proofs.settling.settle.Statement.{statement}
@@ -10,7 +9,7 @@ none-open-requires c κs = c .before .pre .0 .sized
 
 returns : tie.Need-returns
 returns c =
-    let b = c .before .before .before in none-open (vanIn (b .args .van)) (b .pre .0) (sym (c .before .none-open .ensures) ∙ c .if1 .taken) (b .pre .1)
+    let b = c .before .before .before in none-open (b .args .van) (b .pre .0) (sym (c .before .none-open .ensures) ∙ c .if1 .taken) (b .pre .1)
 
 lasts-requires : tie.Need-lasts-requires
 lasts-requires c κs = let r = c .before .before .before .before .pre .0 in (r .laid, route-of r, refl)

@@ -8,7 +8,7 @@ use Rattle.day.specs.Fit.{placed-read}
 use Rattle.along.specs.Spots.{loadOf}
 use Rattle.along.specs.Route.{job-low}
 use Rattle.along.specs.Loads.{Stowed, stowed-none, stowed-run}
-use Rattle.settle.specs.Ready.{vanIn, jobs-are}
+use Rattle.settle.specs.Ready.{jobs-are}
 use Rattle.settle.specs.Verdict.{jobOk, ofJob}
 use Rattle.settle.proofs.Facts.{near-nodes, two-stops}
 use Rattle.settle.proofs.Road.{stow-next, loads-told, nodes-ready}
@@ -31,7 +31,7 @@ marks-kept-requires c κs = (c .before .spots2 .ensures .long, c .before .before
 returns : tie.Need-returns Inv-loop μ-loop
 returns c =
     let o = c .before .before .before .before .before .before in
-    nodes-ready (o .pre) (vanIn (o .args .van)) (c .before .before .before .spots2 .ensures)
+    nodes-ready (o .pre) (o .args .van) (c .before .before .before .spots2 .ensures)
     (sym (not-true _ (c .if1 .taken)) ∙ c .before .marks-kept .ensures) refl refl
 
 loop-holds : tie.Need-loop-holds Inv-loop μ-loop
@@ -91,7 +91,7 @@ returns-2 : tie.Need-returns-2 Inv-loop μ-loop
 returns-2 c =
     let o = c .before .before .before .before .before .before .before .before .before in
     let l = c .before .before .loop in
-    nodes-ready (o .pre) (vanIn (o .args .van)) (c .before .before .before .before .before .before .spots2 .ensures)
+    nodes-ready (o .pre) (o .args .van) (c .before .before .before .before .before .before .spots2 .ensures)
     (sym (not-false _ (c .before .before .before .if1 .left)) ∙ c .before .before .before .before .marks-kept .ensures)
     (sym (not-true _ (c .if2 .taken)) ∙ flag-done _ (l .j) _ (l .inv .0) (c .before .loop-test .left) (l .inv .2)) refl
 
@@ -112,7 +112,7 @@ in-capacity-requires c κs =
 returns-3 : tie.Need-returns-3 Inv-loop μ-loop
 returns-3 c =
     let o = c .before .before .before .before .before .before .before .before .before .before .before .before .before .before in
-    let v = vanIn (o .args .van) in
+    let v = o .args .van in
     let b = c .before .before .before .before .before .before in
     let l = b .before .loop in
     nodes-ready (o .pre) v (c .before .before .before .before .before .before .before .before .before .before .before .spots2 .ensures)

@@ -4,8 +4,8 @@ use Rattle.laws.specs.Choice.{first-stops, first-goes}
 use Rattle.trail.specs.Trail.{roomOf}
 use Rattle.planner.proofs.FaceLaws.{call-last}
 use borrow.Author.Needs.{needs}
-use Rattle.planner.proofs.call_refusal.Statement.{statement}
-use Rattle.planner.proofs.call_refusal.Tie as tie
+use Rattle.planner.proofs.step_refusal.Statement.{statement}
+use Rattle.planner.proofs.step_refusal.Tie as tie
 
 ask-refusal-requires : tie.Need-ask-refusal-requires
 ask-refusal-requires c κs = search needs
@@ -25,5 +25,5 @@ returns-3 c =
     let e = c .before .before in
     first-goes _ (e .before .ask-refusal .ensures) (e .if1 .left) (rw (le-leb _ _ (c .if2 .left))) ∙ sym (call-last _ _ (e .before .before .before .before .args .trail .now))
 
-pub call-refusal-spec : {M : Type 1} → statement M
-call-refusal-spec = tie.close (tie.spec ask-refusal-requires returns returns-2 returns-3)
+pub step-refusal-spec : {M : Type 1} → statement M
+step-refusal-spec = tie.close (tie.spec ask-refusal-requires returns returns-2 returns-3)
