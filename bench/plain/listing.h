@@ -34,14 +34,25 @@ static u64 on_route(const State *state)
     return on;
 }
 
-static void put_step(Text *t, const Sheet *s, const State *state, u64 number, Answer a)
+/* What a line tells of a state beside its records. */
+typedef struct {
+    u64 places;
+    int alive;
+} Told;
+
+static Told tell(const Sheet *s, const State *state)
+{
+    return (Told){count_places(state, s->n), alive_formed(s, state, on_route(state))};
+}
+
+static void put_step(Text *t, const State *state, u64 number, Answer a, Told told)
 {
     put_field(t, "step ", number);
     put_field(t, " answer ", a.answer);
-    put_field(t, " open ", count_places(state));
+    put_field(t, " open ", told.places);
     put_field(t, " records ", state->records);
     put_field(t, " rounds ", a.rounds);
-    put_field(t, " alive ", (u64)alive_formed(s, state, on_route(state)));
+    put_field(t, " alive ", (u64)told.alive);
     put(t, "\n");
 }
 
@@ -59,11 +70,15 @@ static void listing(const u8 *bytes, u64 length, Text *t)
         put(t, "\n");
         return;
     }
+    Told told = tell(&s, &state);
     for (u32 i = 0; i < s.step_count; i++) {
         const u8 *w = s.steps + 12 * i;
         Trail trail = {listing_trail, ROOM};
+        u64 before = state.records;
         Answer a = step_formed(&s, &state, on_route(&state), trail, word(w), word(w + 4), word(w + 8));
-        put_step(t, &s, &state, i + 1, a);
+        /* every change of route, sets or marks writes or takes back a record */
+        if (state.records != before) told = tell(&s, &state);
+        put_step(t, &state, i + 1, a, told);
     }
     put(t, "route");
     for (u64 i = 0; i < state.stops; i++) put_field(t, " ", state.route[i]);

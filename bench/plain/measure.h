@@ -44,7 +44,7 @@ static __attribute__((noinline)) u64 one_step(const u8 *sheet, u64 length, const
 {
     State state = *from;
     Answer a = step(sheet, length, &state, trail, 2 * ROOM, kind, first, second);
-    return a.answer + a.rounds + state.records + count_places(&state);
+    return a.answer + a.rounds + state.records + count_places(&state, MOST_NODES);
 }
 
 static __attribute__((noinline)) u64 one_listing(const u8 *sheet, u64 length)

@@ -10,7 +10,8 @@ typedef struct {
     i32 metres;
 } Route;
 
-static void times(const Sheet *s, Route *r)
+/* E and the metres. */
+static void starts(const Sheet *s, Route *r)
 {
     u32 last = r->stops - 1;
     r->e[0] = s->earliest[0];
@@ -21,6 +22,12 @@ static void times(const Sheet *s, Route *r)
         r->e[i] = arrival > s->earliest[x] ? arrival : s->earliest[x];
         r->metres += metres(s, p, x);
     }
+}
+
+/* L. */
+static void lasts(const Sheet *s, Route *r)
+{
+    u32 last = r->stops - 1;
     r->l[last] = s->latest[s->n - 1];
     for (u32 i = last; i-- > 0;) {
         u32 x = r->at[i];
@@ -29,6 +36,7 @@ static void times(const Sheet *s, Route *r)
     }
 }
 
+/* H, and the greatest of it up to each leg. */
 static void loads(const Sheet *s, u64 on, Route *r)
 {
     i32 change[MOST_NODES] = {0}, aboard = 0;
@@ -51,13 +59,18 @@ static void loads(const Sheet *s, u64 on, Route *r)
         most = aboard > most ? aboard : most;
         r->most_before[i] = most;
     }
-    most = 0;
+}
+
+static void peaks_after(Route *r)
+{
+    i32 most = 0;
     for (u32 i = r->stops - 1; i-- > 0;) {
         most = r->h[i] > most ? r->h[i] : most;
         r->most_after[i] = most;
     }
 }
 
+/* What the verdict asks: where the stops are, E, metres and H. */
 static void look_along(const Sheet *s, const State *state, u64 on, Route *r)
 {
     r->stops = (u32)state->stops;
@@ -65,6 +78,13 @@ static void look_along(const Sheet *s, const State *state, u64 on, Route *r)
         r->at[i] = (u8)state->route[i];
         r->stop_of[state->route[i]] = (u8)i;
     }
-    times(s, r);
+    starts(s, r);
     loads(s, on, r);
+}
+
+/* And what settling asks besides. */
+static void look_back(const Sheet *s, Route *r)
+{
+    lasts(s, r);
+    peaks_after(r);
 }

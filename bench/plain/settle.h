@@ -76,6 +76,7 @@ static u64 settle_sets(const Sheet *s, const State *state, u64 on, u64 *sets)
     u64 begin[MOST_NODES] = {0}, pairs = 0, rounds = 0;
     int struck = 0;
     look_along(s, state, on, &r);
+    look_back(s, &r);
     for (u32 x = 0; x < s->n; x++) {
         sets[x] = begin[x] = state->sets[x];
         int carries = s->transfers >> x & 1 && !(on >> x & 1);

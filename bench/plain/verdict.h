@@ -1,9 +1,10 @@
 /* Open places in all, and the verdict. */
 
-static u64 count_places(const State *state)
+/* Of the first n nodes. */
+static u64 count_places(const State *state, u32 n)
 {
     u64 sum = 0;
-    for (u32 x = 0; x < MOST_NODES; x++) sum += (u64)__builtin_popcountll(state->sets[x]);
+    for (u32 x = 0; x < n; x++) sum += (u64)__builtin_popcountll(state->sets[x]);
     return sum;
 }
 
@@ -18,7 +19,7 @@ static int alive_formed(const Sheet *s, const State *state, u64 on)
         else if (s->pickups >> x & 1 && on >> s->partner[x] & 1) dead |= r.stop_of[x] > r.stop_of[s->partner[x]];
     }
     for (u32 i = 0; i < r.stops; i++) dead |= r.e[i] > s->latest[r.at[i]];
-    return !dead && r.metres <= s->limit && r.most_after[0] <= s->capacity;
+    return !dead && r.metres <= s->limit && r.most_before[r.stops - 2] <= s->capacity;
 }
 
 static u64 verdict(const u8 *bytes, u64 length, const State *state, int *alive)
@@ -41,6 +42,6 @@ static u64 open_places(const u8 *bytes, u64 length, const State *state, u64 *pla
     *places = 0;
     if (no) return no;
     if (!in_form(&s, state, &on)) return 19;
-    *places = count_places(state);
+    *places = count_places(state, s.n);
     return 0;
 }
