@@ -1,8 +1,10 @@
 -- The first refusal: the first number of several that is not 0. (A choice by a test is mathlib's `cond`.)
 use Prim.Native.Nat.{ℕ, zero, suc}
-use mathlib.Core.Bool.{Bool, true, false, cond}
+use mathlib.Core.Bool.{Bool, true, false}
 use mathlib.Core.Path.{_≡_, refl, sym, _∙_}
 use native.Mathlib.Nat.{suc-ne-zero}
+use lib.Dec.{eqb}
+use borrow.Author.Tests.{eqb-false}
 
 -- a where a is not 0, else b
 unfoldable pub orElse : ℕ → ℕ → ℕ
@@ -33,14 +35,10 @@ pub unless-zero : (b : Bool) (k : ℕ) → unless b (suc k) ≡ 0 → b ≡ true
 unless-zero true k e = refl
 unless-zero false k e = absurd (suc-ne-zero k e)
 
--- a choice between 0 and a number that is not 0, or the other way round
-pub cond-zero-then : (b : Bool) (a k : ℕ) → cond b a (suc k) ≡ 0 → b ≡ true
-cond-zero-then true a k e = refl
-cond-zero-then false a k e = absurd (suc-ne-zero k e)
-
-pub cond-zero-else : (b : Bool) (k a : ℕ) → cond b (suc k) a ≡ 0 → b ≡ false
-cond-zero-else true k a e = absurd (suc-ne-zero k e)
-cond-zero-else false k a e = refl
+-- the same for a number by its name
+pub passed : (b : Bool) (k : ℕ) → eqb k 0 ≡ false → unless b k ≡ 0 → b ≡ true
+passed true k n e = refl
+passed false k n e = absurd (eqb-false k 0 n e)
 
 -- ---- code that asks for h, returns it if it is not 0 and goes on to r otherwise
 pub first-stops : {h a : ℕ} (b : ℕ) → h ≡ a → (h ≡ 0 → ⊥) → h ≡ orElse a b

@@ -98,10 +98,6 @@ pub any-none : {A : Type 0} (f : A → Bool) (l : List A) → ((a : A) → T (f 
 any-none f [] g h = h
 any-none f (x ∷ l) g h = ⊎-elim (g x) (any-none f l g) (or-e (f x) (any f l) h)
 
-pub any-mono : {A : Type 0} (f g : A → Bool) (l : List A) → ((a : A) → T (f a) → T (g a)) → T (any f l) → T (any g l)
-any-mono f g [] h t = t
-any-mono f g (x ∷ l) h t = or-mono (f x) (any f l) (g x) (any g l) (h x) (any-mono f g l h) t
-
 -- ---- subsequences
 
 pub sub-refl : (l : List ℕ) → Sub l l

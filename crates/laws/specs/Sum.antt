@@ -1,7 +1,7 @@
 -- A sum over the numbers below one, and the law of a loop that makes it.
-use mathlib.Core.Path.{_≡_, refl, ap₂}
+use mathlib.Core.Path.{_≡_, refl, ap₂, sym}
 use mathlib.Core.Logic.{⊎-elim}
-use Prim.Native.Nat.{ℕ, zero, suc, _+_, _*_, _≤_, _<_}
+use Prim.Native.Nat.{ℕ, zero, suc, _+_, _-_, _*_, _≤_, _<_}
 use native.Mathlib.Nat.{eq-or-lt-of-le, le-of-suc-le-suc, suc-mul}
 use native.Mathlib.Numerals.{add-one}
 use native.Mathlib.Omega.{arith}
@@ -45,3 +45,12 @@ pub sum-most : (n m : ℕ) (f : ℕ → ℕ) → ((i : ℕ) → i < n → f i �
 unfolding sumBelow
 sum-most zero m f h = omega arith
 sum-most (suc n) m f h = omega (arith, sum-most n m f (λ i l. h i (omega arith)), h n (omega arith), suc-mul n m)
+
+-- what is 0 from n on adds nothing
+sum-more : (j n : ℕ) (f : ℕ → ℕ) → ((i : ℕ) → n ≤ i → f i ≡ 0) → sumBelow (j + n) f ≡ sumBelow n f
+unfolding sumBelow
+sum-more zero n f h = let e : 0 + n ≡ n = omega arith in rw e refl
+sum-more (suc j) n f h = let e : suc j + n ≡ suc (j + n) = omega arith in rw e (omega (arith, sum-more j n f h, h (j + n) (omega arith)))
+
+pub sum-end : (n k : ℕ) (f : ℕ → ℕ) → n ≤ k → ((i : ℕ) → n ≤ i → f i ≡ 0) → sumBelow n f ≡ sumBelow k f
+sum-end n k f l h = let e : (k - n) + n ≡ k = omega arith in sym (rw e at (sum-more (k - n) n f h))

@@ -21,7 +21,7 @@ use Rattle.rules.proofs.Inner.{inner-low}
 use Rattle.rules.proofs.Left.{_⊆_}
 use Rattle.rules.proofs.Fixpoint.{Seen, settle-less, settle-fixed, settle-greatest, settle-wider}
 use Rattle.rules.proofs.Longer.{lies-one, lies-same, leg-named, leg-mem, Ancestor, Comes, within-self}
-use Rattle.rules.proofs.Forms.{Laid, formed-laid, laid-seen}
+use Rattle.rules.proofs.Forms.{LaidOut, formed-laid, laid-seen}
 use Rattle.rules.proofs.Runs.{Course, course-laid, coursed, course-within, course-from, course-shut, course-kept}
 use Rattle.rules.proofs.Origin.{origin-leg}
 use Rattle.rules.proofs.Verdicts.{alive-same}
@@ -44,7 +44,7 @@ worked-same : (a : Plan) {e e′ : List ℕ} (X X′ : List ℕ) → e ≡ e′ 
 unfolding workedPlaces
 worked-same a X X′ e x = λ i y q. mem q (legStops (e i)) && not (x y i) && not (mem y (e i)) && a .places y (origin (a .route) (hd (e i)) (e i) q)
 
-module _ (v : Van) (d : Day) (tri : Triangle d) (one : OneEnd (d .jobs)) (z : ℕ) (r₀ : List ℕ) (o₀ : Places) (m₀ : Marks) (l₀ : Laid d z r₀ o₀)
+module _ (v : Van) (d : Day) (tri : Triangle d) (one : OneEnd (d .jobs)) (z : ℕ) (r₀ : List ℕ) (o₀ : Places) (m₀ : Marks) (l₀ : LaidOut d z r₀ o₀)
     (e X : List ℕ) (o : Places) (c : Course v d z r₀ o₀ e o X) where
   abbrev outset : Plan
   outset = record { route = z ∷ r₀; places = o₀; marks = m₀ }
@@ -52,7 +52,7 @@ module _ (v : Van) (d : Day) (tri : Triangle d) (one : OneEnd (d .jobs)) (z : �
   abbrev W : Places
   W = workedPlaces outset (z ∷ e) X
 
-  laid : Laid d z e o
+  laid : LaidOut d z e o
   laid = course-laid l₀ c
 
   end-origin : {q k′ : ℕ} {A′ B′ : List ℕ} → Cut (z ∷ []) e (q ∷ A′) (k′ ∷ B′) → (i : Ancestor z e r₀ (q ∷ A′) k′ B′) × (origin (z ∷ r₀) z (z ∷ e) q ≡ i .p)
@@ -100,7 +100,7 @@ module _ (v : Van) (d : Day) (tri : Triangle d) (one : OneEnd (d .jobs)) (z : �
 -- ---- demand 3
 
 -- the same open places and the same verdict
-pub record Alike (v : Van) (d : Day) (a b : Plan) : Type 0 where
+pub record EndAlike (v : Van) (d : Day) (a b : Plan) : Type 0 where
   pub places : (y q : ℕ) → a .places y q ≡ b .places y q
   pub verdict : alive v d a ≡ alive v d b
 
@@ -115,7 +115,7 @@ module _ (v : Van) (d : Day) (tri : Triangle d) (one : OneEnd (d .jobs)) (a : Pl
       front = λ i. record { route = f .starts i; places = a .places; marks = a .marks }
 
   -- the end of a run, settled, and the plan worked out, settled
-  pub run-alike : {b : Plan} {X : List ℕ} → Run v d a b X → Alike v d (settled v d b) (settled v d (worked a (b .route) X (b .marks)))
+  pub run-alike : {b : Plan} {X : List ℕ} → Run v d a b X → EndAlike v d (settled v d b) (settled v d (worked a (b .route) X (b .marks)))
   run-alike {b} {X} run = record {
     places = end-places run;
     verdict = alive-same v d (settled v d b) (settled v d (worked a (b .route) X (b .marks))) refl (end-places run)
@@ -124,7 +124,7 @@ module _ (v : Van) (d : Day) (tri : Triangle d) (one : OneEnd (d .jobs)) (a : Pl
 
   -- two runs with the same end route, the same excluded nodes and the same marks on unplaced nodes
   pub runs-alike : {b b′ : Plan} {X X′ : List ℕ} → Run v d a b X → Run v d a b′ X′ → b .route ≡ b′ .route → ((y : ℕ) → mem y X ≡ mem y X′)
-      → ((y : ℕ) → T (not (mem y (b .route))) → b .marks y ≡ b′ .marks y) → Alike v d (settled v d b) (settled v d b′)
+      → ((y : ℕ) → T (not (mem y (b .route))) → b .marks y ≡ b′ .marks y) → EndAlike v d (settled v d b) (settled v d b′)
   runs-alike {b} {b′} {X} {X′} run run′ e shut marks = record { places = same-places; verdict = alive-same v d (settled v d b) (settled v d b′) e same-places marks }
     where
       same-places : (y q : ℕ) → settle v d (b .route) (b .places) y q ≡ settle v d (b′ .route) (b′ .places) y q

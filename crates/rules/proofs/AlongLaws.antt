@@ -3,7 +3,7 @@
 use mathlib.Core.Path.{_≡_, refl, sym, ap, _∙_}
 use Prim.Native.Nat.{ℕ, zero, suc, _+_, _-_, _≤_, _<_, max}
 use native.Mathlib.Omega.{arith}
-use mathlib.Core.Bool.{Bool, true, false, not, _&&_, _||_, and-comm, and-true}
+use mathlib.Core.Bool.{Bool, true, false, _&&_, _||_, and-comm, and-true}
 use mathlib.Core.List.{List, [], _∷_, _++_}
 use mathlib.Core.Logic.{⊎-elim}
 use lib.Dec.{T, T-not, leb, eqb, eqb-refl, eqb→eq, leb→le, le→leb}
@@ -12,8 +12,8 @@ use lib.IntN.{pos, _-ℤ_}
 use lib.Signed.{leZ}
 use lib.ListN.{getD, drop, take, length, drop-of-length-le}
 use lib.Seq.{drop-cons, drop-length, take-suc, getD-take}
-use Rattle.laws.specs.Logic.{T-ext, or-l, or-r, or-e, not-or-l, not-or-r, N→false, decided}
-use Rattle.laws.specs.Below.{allBelow, below-split, below-all}
+use Rattle.laws.specs.Logic.{T-ext, or-l, or-r, or-e, decided}
+use Rattle.laws.specs.Below.{allBelow, below-all}
 use Rattle.laws.specs.Lists.{mem, hd, all}
 use Rattle.rules.specs.Day.{Day, downFrom}
 use Rattle.rules.specs.declared.Van.{Van}
@@ -104,13 +104,6 @@ module _ (f : OfLeg) (l : List ℕ) where
   pub back-next : (i : ℕ) → suc i < length l → atLeg (legsBehind f) l (suc i) ≡ (atLeg f l (suc i) && atLeg (legsBehind f) l i)
   back-next i h = ap (λ (B : List ℕ). atLeg f l (suc i) && legsBehind f (behind l (suc i)) B) (sym (drop-cons l (suc i) 0 h))
 
-  -- every leg up to the i-th
-  pub back-all : (i : ℕ) → i < length l → atLeg (legsBehind f) l i ≡ allBelow (suc i) (atLeg f l)
-  unfolding allBelow
-  back-all zero h = back-first
-  back-all (suc i) h =
-      back-next i h ∙ and-comm (atLeg f l (suc i)) (atLeg (legsBehind f) l i) ∙ ap (λ (b : Bool). b && atLeg f l (suc i)) (back-all i (omega arith))
-
 -- every leg of the route
 pub every-all : (f : OfLeg) (l : List ℕ) → everyLeg f l ≡ allBelow (length l - 1) (atLeg f l)
 unfolding allBelow
@@ -119,12 +112,6 @@ every-all f (z ∷ r) =
     let e : suc (length r) - 1 ≡ length r = omega arith in
     rw e (below-all (length r) (atLeg f (z ∷ r)) (atLeg (legsAhead f) (z ∷ r)) (λ i h. ahead-next f (z ∷ r) i (omega arith))
     (ahead-end f (z ∷ r) (length r) (omega arith)))
-
--- the legs before the i-th, and those from it on
-pub every-split : (f : OfLeg) (l : List ℕ) (i : ℕ) → i < length l → everyLeg f l ≡ (allBelow i (atLeg f l) && atLeg (legsAhead f) l i)
-every-split f [] i h = absurd (omega arith)
-every-split f (z ∷ r) i h =
-    sym (below-split (length r) (atLeg f (z ∷ r)) (atLeg (legsAhead f) (z ∷ r)) (λ j k. ahead-next f (z ∷ r) j (omega arith)) i (omega arith))
 
 -- ---- how far a load reaches
 
@@ -196,14 +183,3 @@ on-leg-from f {l} g (suc k) j i e h =
 pub on-leg : {n : ℕ} (f : OfLeg) (l : List ℕ) → Distinct n l → (i : ℕ) → suc i < length l → onLeg f (getD l i 0) l ≡ atLeg f l i
 on-leg f [] g i h = absurd (omega arith)
 on-leg f (z ∷ r) g i h = on-leg-from f g i 0 i (omega arith) h
-
-off-leg-from : (f : OfLeg) (p : ℕ) (A B : List ℕ) → T (not (mem p (legStops (hd A ∷ B)))) → legFrom f p A B ≡ false
-off-leg-from f p A [] h = refl
-off-leg-from f p A (k ∷ B) h =
-    rw (N→false (eqb (hd A) p) (not-or-l (eqb (hd A) p) (mem p (legStops (k ∷ B))) h))
-    (off-leg-from f p (k ∷ A) B (not-or-r (eqb (hd A) p) (mem p (legStops (k ∷ B))) h))
-
--- a stop that no leg leaves names none
-pub off-leg : (f : OfLeg) (p : ℕ) (l : List ℕ) → T (not (mem p (legStops l))) → onLeg f p l ≡ false
-off-leg f p [] h = refl
-off-leg f p (z ∷ r) h = off-leg-from f p (z ∷ []) r h

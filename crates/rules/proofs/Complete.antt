@@ -6,22 +6,22 @@ use native.Mathlib.Omega.{arith}
 use mathlib.Core.Bool.{Bool, not, _&&_, _||_}
 use mathlib.Core.List.{List, [], _∷_}
 use mathlib.Core.Logic.{_⊎_, inl, inr, ⊎-elim, _≢_}
-use lib.Dec.{T, T-not, not-T, leb, eqb, eqb→eq, eqb-refl, le→leb}
+use lib.Dec.{T, T-not, not-T, eqb, eqb→eq, eqb-refl, le→leb}
 use Rattle.laws.specs.Logic.{and-i, and-l, and-r, and-mono, or-l, or-r, or-e, tf, imp-i, imp-e, not-or-l, not-or-r, contra, cond-yes-i, cond-no-i}
-use Rattle.laws.specs.Lists.{mem, all, any, In, Sub, nil, keep, mem-sub, all-in, all-i, any-i, any-none, any-e, mem-tl, mem-rest}
+use Rattle.laws.specs.Lists.{mem, any, In, Each, end, also, each-in, Sub, nil, keep, mem-sub, all-in, all-i, any-i, any-none, any-e, mem-tl, mem-rest}
 use Rattle.rules.specs.Day.{Day, inner}
 use Rattle.rules.specs.declared.Van.{Van}
-use Rattle.rules.specs.Leg.{everyLeg}
 use Rattle.rules.specs.Time.{start, inTime, onTime}
 use Rattle.rules.specs.Metres.{driven}
 use Rattle.rules.specs.Load.{carries}
-use Rattle.rules.specs.Plan.{Plan, Places}
-use Rattle.rules.specs.Rounds.{Distinct, Within, done, stop, Inside, Belongs, ordered, inOrder, keeps}
-use Rattle.rules.specs.Verdict.{partnered, owed, hasPlace, wrong, wrongWay, alive}
+use Rattle.rules.specs.Plan.{Plan, Places, Marks}
+use Rattle.rules.specs.Rounds.{Distinct, Within, done, stop, Inside, both, Belongs, ordered, inOrder, Rule, windowRule, metreRule, transferRule, loadRule, rules, keeps}
+use Rattle.rules.specs.Verdict.{partnered, owed, hasPlace, wrong, wrongWay, Check, owedOpen, ofRoute, noneWrong, checks, alive}
 use Rattle.rules.specs.Asked.{Triangle, Proper, Formed}
 use Rattle.rules.specs.declared.Job.{Job}
 use Rattle.rules.specs.declared.Job.the-variants.{Clean, Soiled, Transfer}
 use Rattle.rules.proofs.Cuts.{same}
+use Rattle.rules.proofs.Entries.{keeps-i, alive-e, alive-i, owedOpen-checked, windowRule-checked, metreRule-checked, loadRule-checked, noneWrong-checked}
 use Rattle.rules.proofs.Grows.{driven-grows, carries-grows, ahead-grows}
 use Rattle.rules.proofs.Keeps.{keeps-time, keeps-metres, keeps-order, keeps-loads}
 use Rattle.rules.proofs.Around.{time-grows, not-wrong, ordered-both, within-place}
@@ -47,34 +47,32 @@ ordered-i a b (x ∷ R) ne f g w = go (tf (eqb x a)) (tf (eqb x b)) (ordered-i a
 abbrev wanted : Plan → ℕ → Bool
 wanted a y = a .marks y || mem y (a .route)
 
+-- the law, of a rule: the verdict vouches for it, where no place is open and the plan is alive
+abbrev pub Vouched : Rule → Type 0
+Vouched r = (v : Van) (d : Day) (a : Plan) → ((x p : ℕ) → T (not (a .places x p))) → Proper d → T (alive v d a) → T (r v d (a .route))
+
+-- it does for what it checks
+checked-vouched : (r : Rule) → In (ofRoute r) checks → Vouched r
+checked-vouched r i v d a shut proper h = alive-e v d a h (ofRoute r) i
+
 module _ (v : Van) (d : Day) (a : Plan) (shut : (x p : ℕ) → T (not (a .places x p))) where
   -- nobody is owed: who is wanted, and whose partner is, is on the route
   none-owed : T (alive v d a) → (x : ℕ) → In x (inner d) → T (a .marks x || any (partnered (wanted a) x) (d .jobs)) → T (mem x (a .route))
-  unfolding alive owed
+  unfolding owed
   none-owed h x i t = ⊎-elim (λ m. m) (λ n. absurd (any-none (a .places x) (a .route) (λ p. T-not (a .places x p) (shut x p)) (place n))) (tf (mem x (a .route)))
     where
-      owes : T (all (λ x. not (owed d (a .route) (a .marks) x) || hasPlace a x) (inner d))
-      owes = search (and-l, and-r)
-
       place : T (not (mem x (a .route))) → T (hasPlace a x)
-      place n = imp-e (owed d (a .route) (a .marks) x) (hasPlace a x) (all-in (λ x. not (owed d (a .route) (a .marks) x) || hasPlace a x) owes i)
+      place n = imp-e (owed d (a .route) (a .marks) x) (hasPlace a x)
+          (all-in (λ x. not (owed d (a .route) (a .marks) x) || hasPlace a x) (alive-e v d a h owedOpen owedOpen-checked) i)
           (and-i (not (mem x (a .route))) (a .marks x || any (partnered (wanted a) x) (d .jobs)) n t)
 
   module _ (proper : Proper d) (h : T (alive v d a)) where
     partner : (x y : ℕ) → In x (inner d) → (j : Job) → In j (d .jobs) → (T (wanted a y) → T (partnered (wanted a) x j)) → T (mem y (a .route)) → T (mem x (a .route))
     partner x y i j k f m = none-owed h x i (or-r (a .marks x) (any (partnered (wanted a) x) (d .jobs)) (any-i (partnered (wanted a) x) k (f (or-r (a .marks y) (mem y (a .route)) m))))
 
-    route-keeps : T (keeps v d (a .route))
-    unfolding alive keeps
-    route-keeps =
-        and-i (onTime d [] (a .route) && leb (driven d (a .route)) (v .limit) && all (inOrder (a .route)) (d .jobs)) (everyLeg (carries v d) (a .route))
-        (and-i (onTime d [] (a .route) && leb (driven d (a .route)) (v .limit)) (all (inOrder (a .route)) (d .jobs))
-        (and-i (onTime d [] (a .route)) (leb (driven d (a .route)) (v .limit)) (search (and-l, and-r)) (search (and-l, and-r)))
-        (all-i (inOrder (a .route)) (d .jobs) order)) (search (and-l, and-r))
+    transfers-vouched : T (transferRule v d (a .route))
+    transfers-vouched = all-i (inOrder (a .route)) (d .jobs) order
       where
-        right : T (all (λ j. not (wrongWay (a .route) j)) (d .jobs))
-        right = search (and-l, and-r)
-
         order : (j : Job) → In j (d .jobs) → T (inOrder (a .route) j)
         order (Clean b w) i = tt
         order (Soiled b w) i = tt
@@ -83,11 +81,18 @@ module _ (v : Van) (d : Day) (a : Plan) (shut : (x p : ℕ) → T (not (a .place
             ordered-i b c (a .route) (e .2)
             (partner c b (e .1) (Transfer b c w) i (λ t. or-r (eqb b c && wanted a c) (eqb c c && wanted a b) (and-i (eqb c c) (wanted a b) (eqb-refl c) t)))
             (partner b c (e .0) (Transfer b c w) i (λ t. or-l (eqb b b && wanted a c) (eqb c b && wanted a b) (and-i (eqb b b) (wanted a c) (eqb-refl b) t)))
-            (all-in (λ j. not (wrongWay (a .route) j)) right i)
+            (all-in (λ j. not (wrongWay (a .route) j)) (alive-e v d a h (ofRoute noneWrong) noneWrong-checked) i)
+
+each-vouched : Each Vouched rules
+each-vouched =
+    also (checked-vouched windowRule windowRule-checked)
+    (also (checked-vouched metreRule metreRule-checked)
+    (also transfers-vouched
+    (also (checked-vouched loadRule loadRule-checked) end)))
 
 -- a route runs through itself
 inside-self : (o : Places) {z : ℕ} {l : List ℕ} (rt : List ℕ) → rt ≡ z ∷ l → Inside o rt rt
-inside-self o {z} {l} rt e = subst (λ (m : List ℕ). Inside o m m) (sym e) (Rattle.rules.specs.Rounds.start (self z l))
+inside-self o {z} {l} rt e = subst (λ (m : List ℕ). Inside o m m) (sym e) (both (self z l))
   where
     self : (p : ℕ) (l : List ℕ) → Within o p l l
     self p [] = done
@@ -97,7 +102,7 @@ inside-self o {z} {l} rt e = subst (λ (m : List ℕ). Inside o m m) (sym e) (Ra
 pub no-gap-alive : (v : Van) (d : Day) (a : Plan) → Proper d → Formed d a → ((x p : ℕ) → T (not (a .places x p))) → T (alive v d a)
     → T (keeps v d (a .route)) × Belongs d a (a .route)
 no-gap-alive v d a proper form shut h = (
-  route-keeps v d a shut proper h,
+  keeps-i v d (a .route) (λ r i. each-in i each-vouched v d a shut proper h),
   record {
     nodes = form .nodes;
     inside = inside-self (a .places) (a .route) (form .starts);
@@ -107,7 +112,13 @@ no-gap-alive v d a proper form shut h = (
 
 -- ---- a round that keeps the rules: alive
 
-module _ (v : Van) (d : Day) (o : Places) (marks : ℕ → Bool) {z : ℕ} {r R : List ℕ} (tri : Triangle d) (nodes : Distinct (d .n) (z ∷ R)) (w : Within o z r R)
+-- the law, of a check: it is fair, passed by every plan with a round that keeps the rules, on a triangle day
+abbrev pub Fair : Check → Type 0
+Fair c =
+    (v : Van) (d : Day) (o : Places) (marks : Marks) (z : ℕ) (r R : List ℕ) → Triangle d → Distinct (d .n) (z ∷ R) → Within o z r R
+    → ((x : ℕ) → T (marks x) → T (mem x (z ∷ R))) → T (keeps v d (z ∷ R)) → T (c v d (record { route = z ∷ r; places = o; marks = marks }))
+
+module _ (v : Van) (d : Day) (o : Places) (marks : Marks) (z : ℕ) (r R : List ℕ) (tri : Triangle d) (nodes : Distinct (d .n) (z ∷ R)) (w : Within o z r R)
     (needed : (x : ℕ) → T (marks x) → T (mem x (z ∷ R))) (h : T (keeps v d (z ∷ R))) where
   whole : Sub (z ∷ r) (z ∷ R)
   whole = keep (within-sub w)
@@ -135,38 +146,40 @@ module _ (v : Van) (d : Day) (o : Places) (marks : ℕ → Bool) {z : ℕ} {r R 
       let m : T (mem x (z ∷ R)) = ⊎-elim (needed x) (any-e (partnered f x) (d .jobs) (owed-here x)) (or-e (marks x) (any (partnered f x) (d .jobs)) (and-r (not (mem x (z ∷ r))) (marks x || any (partnered f x) (d .jobs)) t)) in
       within-place x w (mem-rest x z R (not-or-l (eqb z x) (mem x r) n) m) (not-or-r (eqb z x) (mem x r) n)
 
+  owed-fair : T (owedOpen v d (record { route = z ∷ r; places = o; marks = marks }))
+  owed-fair = all-i (λ x. not (owed d (z ∷ r) marks x) || any (o x) (z ∷ r)) (inner d) (λ x i. imp-i (owed d (z ∷ r) marks x) (any (o x) (z ∷ r)) (owed-open x))
+
   right-way : (j : Job) → In j (d .jobs) → T (not (wrongWay (z ∷ r) j))
   right-way (Clean a l) i = tt
   right-way (Soiled a l) i = tt
   right-way (Transfer a b l) i = not-T (wrong a b (z ∷ r)) (not-wrong a b whole nodes (keeps-order v d (z ∷ R) h a b l i))
 
-  route-time : T (onTime d [] (z ∷ r))
-  route-time = and-mono (inTime d z (start d [] z)) (onTime d (z ∷ []) R) (inTime d z (start d [] z)) (onTime d (z ∷ []) r) (λ t. t)
+  order-fair : T (noneWrong v d (z ∷ r))
+  order-fair = all-i (λ j. not (wrongWay (z ∷ r) j)) (d .jobs) right-way
+
+  window-fair : T (windowRule v d (z ∷ r))
+  window-fair = and-mono (inTime d z (start d [] z)) (onTime d (z ∷ []) R) (inTime d z (start d [] z)) (onTime d (z ∷ []) r) (λ t. t)
       (time-grows d tri nodes same (keep nil) (within-sub w)) (keeps-time v d (z ∷ R) h)
 
-  route-metres : T (leb (driven d (z ∷ r)) (v .limit))
-  route-metres = le→leb (driven d (z ∷ r)) (v .limit) (omega (arith, driven-grows d tri (within-sub w) nodes, keeps-metres v d (z ∷ R) h))
+  metre-fair : T (metreRule v d (z ∷ r))
+  metre-fair = le→leb (driven d (z ∷ r)) (v .limit) (omega (arith, driven-grows d tri (within-sub w) nodes, keeps-metres v d (z ∷ R) h))
 
-  route-loads : T (everyLeg (carries v d) (z ∷ r))
-  route-loads = ahead-grows (carries v d) (λ A A′ B B′. carries-grows v d) (keep nil) (within-sub w) (keeps-loads v d (z ∷ R) h)
+  load-fair : T (loadRule v d (z ∷ r))
+  load-fair = ahead-grows (carries v d) (λ A A′ B B′. carries-grows v d) (keep nil) (within-sub w) (keeps-loads v d (z ∷ R) h)
 
-  plan-alive : T (alive v d (record { route = z ∷ r; places = o; marks = marks }))
-  unfolding alive
-  plan-alive =
-      let owing = all (λ x. not (owed d (z ∷ r) marks x) || any (o x) (z ∷ r)) (inner d) in
-      let time = onTime d [] (z ∷ r) in
-      let metres = leb (driven d (z ∷ r)) (v .limit) in
-      let loads = everyLeg (carries v d) (z ∷ r) in
-      and-i (owing && time && metres && loads) (all (λ j. not (wrongWay (z ∷ r) j)) (d .jobs))
-      (and-i (owing && time && metres) loads
-      (and-i (owing && time) metres
-      (and-i owing time (all-i (λ x. not (owed d (z ∷ r) marks x) || any (o x) (z ∷ r)) (inner d) (λ x i. imp-i (owed d (z ∷ r) marks x) (any (o x) (z ∷ r)) (owed-open x))) route-time)
-      route-metres) route-loads) (all-i (λ j. not (wrongWay (z ∷ r) j)) (d .jobs) right-way)
+each-fair : Each Fair checks
+each-fair =
+    also owed-fair
+    (also window-fair
+    (also metre-fair
+    (also load-fair
+    (also order-fair end))))
 
 inside-alive : (v : Van) (d : Day) (marks : ℕ → Bool) {o : Places} {rt R : List ℕ} → Triangle d → Distinct (d .n) R → Inside o rt R
     → ((x : ℕ) → T (marks x) → T (mem x R)) → T (keeps v d R)
     → T (alive v d (record { route = rt; places = o; marks = marks }))
-inside-alive v d marks {o} tri nodes (Rattle.rules.specs.Rounds.start w) needed h = plan-alive v d o marks tri nodes w needed h
+inside-alive v d marks {o} tri nodes (both w) needed h =
+    alive-i v d _ (λ c i. each-in i each-fair v d o marks _ _ _ tri nodes w needed h)
 
 -- on a triangle day a plan with a round that keeps the rules is alive
 pub round-alive : (v : Van) (d : Day) (a : Plan) (R : List ℕ) → Triangle d → Belongs d a R → T (keeps v d R) → T (alive v d a)

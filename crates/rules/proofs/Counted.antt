@@ -12,41 +12,41 @@ use Rattle.laws.specs.Lists.{mem, hd, all, In, all-in, all-i}
 use Rattle.laws.specs.Once.{Once, once-length, only, only-in, in-only, once-only}
 use Rattle.rules.specs.Day.{Day, inner}
 use Rattle.rules.specs.Plan.{Plan, Places}
-use Rattle.rules.specs.Rounds.{Distinct, Within, done, stop, extra, Inside, start, Belongs}
+use Rattle.rules.specs.Rounds.{Distinct, Within, done, stop, extra, Inside, both, Belongs}
 use Rattle.rules.specs.Asked.{Formed, endsWith}
-use Rattle.rules.specs.Every.{Round, everyRound, count, within, inside, belongs}
+use Rattle.rules.specs.Every.{RoundOf, everyRound, count, withinTest, insideTest, belongs}
 use Rattle.rules.proofs.EveryRound.{ends-cons, every-round, every-once}
 use Rattle.rules.proofs.Nodes.{distinct-tail, distinct-skip, within-sub}
-use Rattle.rules.proofs.Using.{between}
+use Rattle.rules.proofs.Using.{apart-ahead}
 
 -- ---- belonging as a test
 
-within-of : (o : Places) (p : ℕ) (r R : List ℕ) → T (within o p r R) → Within o p r R
+within-of : (o : Places) (p : ℕ) (r R : List ℕ) → T (withinTest o p r R) → Within o p r R
 within-of o p [] [] h = done
 within-of o p (k ∷ r) [] h = absurd h
 within-of o p [] (x ∷ R) h = absurd h
 within-of o p (k ∷ r) (x ∷ R) h = go (tf (eqb x k)) (within-of o x r R) (within-of o p (k ∷ r) R)
   where
-    go : T (eqb x k) ⊎ T (not (eqb x k)) → (T (within o x r R) → Within o x r R) → (T (within o p (k ∷ r) R) → Within o p (k ∷ r) R) → Within o p (k ∷ r) (x ∷ R)
-    go (inl e) f g = subst (λ (m : ℕ). Within o p (m ∷ r) (x ∷ R)) (eqb→eq x k e) (stop (f (cond-yes (eqb x k) (within o x r R) (o x p && within o p (k ∷ r) R) e h)))
+    go : T (eqb x k) ⊎ T (not (eqb x k)) → (T (withinTest o x r R) → Within o x r R) → (T (withinTest o p (k ∷ r) R) → Within o p (k ∷ r) R) → Within o p (k ∷ r) (x ∷ R)
+    go (inl e) f g = subst (λ (m : ℕ). Within o p (m ∷ r) (x ∷ R)) (eqb→eq x k e) (stop (f (cond-yes (eqb x k) (withinTest o x r R) (o x p && withinTest o p (k ∷ r) R) e h)))
     go (inr n) f g =
-        let t = cond-no (eqb x k) (within o x r R) (o x p && within o p (k ∷ r) R) n h in
-        extra (and-l (o x p) (within o p (k ∷ r) R) t) (g (and-r (o x p) (within o p (k ∷ r) R) t))
+        let t = cond-no (eqb x k) (withinTest o x r R) (o x p && withinTest o p (k ∷ r) R) n h in
+        extra (and-l (o x p) (withinTest o p (k ∷ r) R) t) (g (and-r (o x p) (withinTest o p (k ∷ r) R) t))
 
-within-is : {n : ℕ} {o : Places} {p : ℕ} {r R : List ℕ} → Distinct n (p ∷ R) → Within o p r R → T (within o p r R)
+within-is : {n : ℕ} {o : Places} {p : ℕ} {r R : List ℕ} → Distinct n (p ∷ R) → Within o p r R → T (withinTest o p r R)
 within-is g done = tt
-within-is {o = o} {p = p} g (stop {k = k} {r = r} {R = R} w) = cond-yes-i (eqb k k) (within o k r R) (o k p && within o p (k ∷ r) R) (eqb-refl k) (within-is (distinct-tail g) w)
+within-is {o = o} {p = p} g (stop {k = k} {r = r} {R = R} w) = cond-yes-i (eqb k k) (withinTest o k r R) (o k p && withinTest o p (k ∷ r) R) (eqb-refl k) (within-is (distinct-tail g) w)
 within-is {o = o} {p = p} g (extra {x = x} {k = k} {r = r} {R = R} t w) =
-    cond-no-i (eqb x k) (within o x r R) (o x p && within o p (k ∷ r) R) (between (distinct-tail g) (within-sub w)) (and-i (o x p) (within o p (k ∷ r) R) t (within-is (distinct-skip g) w))
+    cond-no-i (eqb x k) (withinTest o x r R) (o x p && withinTest o p (k ∷ r) R) (apart-ahead (distinct-tail g) (within-sub w)) (and-i (o x p) (withinTest o p (k ∷ r) R) t (within-is (distinct-skip g) w))
 
-inside-of : (o : Places) (rt R : List ℕ) → T (inside o rt R) → Inside o rt R
+inside-of : (o : Places) (rt R : List ℕ) → T (insideTest o rt R) → Inside o rt R
 inside-of o [] R h = absurd h
 inside-of o (z ∷ r) [] h = absurd h
 inside-of o (z ∷ r) (y ∷ R) h =
-    subst (λ (m : ℕ). Inside o (z ∷ r) (m ∷ R)) (eqb→eq z y (and-l (eqb z y) (within o z r R) h)) (start (within-of o z r R (and-r (eqb z y) (within o z r R) h)))
+    subst (λ (m : ℕ). Inside o (z ∷ r) (m ∷ R)) (eqb→eq z y (and-l (eqb z y) (withinTest o z r R) h)) (both (within-of o z r R (and-r (eqb z y) (withinTest o z r R) h)))
 
-inside-is : {n : ℕ} {o : Places} {rt R : List ℕ} → Distinct n R → Inside o rt R → T (inside o rt R)
-inside-is {o = o} g (start {z = z} {r = r} {R = R} w) = and-i (eqb z z) (within o z r R) (eqb-refl z) (within-is g w)
+inside-is : {n : ℕ} {o : Places} {rt R : List ℕ} → Distinct n R → Inside o rt R → T (insideTest o rt R)
+inside-is {o = o} g (both {z = z} {r = r} {R = R} w) = and-i (eqb z z) (withinTest o z r R) (eqb-refl z) (within-is g w)
 
 module _ (d : Day) (a : Plan) (form : Formed d a) where
   -- the test is belonging, for distinct nodes
@@ -61,7 +61,7 @@ module _ (d : Day) (a : Plan) (form : Formed d a) where
   )
     where
       in′ : Bool
-      in′ = inside (a .places) (a .route) R
+      in′ = insideTest (a .places) (a .route) R
 
       needed′ : Bool
       needed′ = all (λ x. not (a .marks x) || mem x R) (inner d)
@@ -79,12 +79,12 @@ within-ends e (stop w) h = ends-stop e w (within-ends e w) h
 within-ends e (extra {x = x} {R = R} t w) h = ends-cons e x R (within-ends e w h)
 
 inside-ends : {o : Places} {rt R : List ℕ} (e : ℕ) → Inside o rt R → T (endsWith e rt) → T (endsWith e R)
-inside-ends e (start w) h = ends-stop e w (within-ends e w) h
+inside-ends e (both w) h = ends-stop e w (within-ends e w) h
 
 inside-hd : {o : Places} {rt R : List ℕ} → Inside o rt R → hd R ≡ hd rt
-inside-hd (start w) = refl
+inside-hd (both w) = refl
 
-pub belongs-round : (d : Day) (a : Plan) (R : List ℕ) → Formed d a → Belongs d a R → Round d R
+pub belongs-round : (d : Day) (a : Plan) (R : List ℕ) → Formed d a → Belongs d a R → RoundOf d R
 belongs-round d a R form b = record { nodes = b .nodes; starts = inside-hd (b .inside) ∙ ap hd (form .starts); ends = inside-ends (d .n - 1) (b .inside) (form .ends) }
 
 -- ---- counting

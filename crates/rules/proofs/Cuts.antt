@@ -75,7 +75,7 @@ leg-cut f {A = A} {A′ = A′} (move {k = k} {B = B} c) (more a b g) =
     ∙ leg-cut f c g
 
 -- the leg that p names, and f on it
-pub record Found (f : OfLeg) (p : ℕ) (A B : List ℕ) : Type 0 where
+pub record LegFound (f : OfLeg) (p : ℕ) (A B : List ℕ) : Type 0 where
   pub A′ : List ℕ
   pub B′ : List ℕ
   pub k′ : ℕ
@@ -83,11 +83,11 @@ pub record Found (f : OfLeg) (p : ℕ) (A B : List ℕ) : Type 0 where
   pub name : hd A′ ≡ p
   pub holds : T (f A′ (k′ ∷ B′))
 
-pub leg-found : (f : OfLeg) (p : ℕ) (A B : List ℕ) → T (legFrom f p A B) → Found f p A B
+pub leg-found : (f : OfLeg) (p : ℕ) (A B : List ℕ) → T (legFrom f p A B) → LegFound f p A B
 leg-found f p A [] h = absurd h
 leg-found f p A (k ∷ B) h = go (eqb (hd A) p) (eqb→eq (hd A) p) h (leg-found f p (k ∷ A) B)
   where
-    go : (c : Bool) → (T c → hd A ≡ p) → T (cond c (f A (k ∷ B)) (legFrom f p (k ∷ A) B)) → (T (legFrom f p (k ∷ A) B) → Found f p (k ∷ A) B) → Found f p A (k ∷ B)
+    go : (c : Bool) → (T c → hd A ≡ p) → T (cond c (f A (k ∷ B)) (legFrom f p (k ∷ A) B)) → (T (legFrom f p (k ∷ A) B) → LegFound f p (k ∷ A) B) → LegFound f p A (k ∷ B)
     go true e t r = record { A′ = A; B′ = B; k′ = k; cut = same; name = e tt; holds = t }
     go false e t r = let u = r t in record { A′ = u .A′; B′ = u .B′; k′ = u .k′; cut = move (u .cut); name = u .name; holds = u .holds }
 

@@ -13,7 +13,7 @@ use Rattle.laws.specs.Once.{Once, clear, new, in-none, in-cons, append-in, in-a
 use Rattle.rules.specs.Day.{Day, downFrom, inner}
 use Rattle.rules.specs.Rounds.{Distinct, none, more}
 use Rattle.rules.specs.Asked.{endsWith}
-use Rattle.rules.specs.Every.{Round, less, concatMap, tails, everyRound}
+use Rattle.rules.specs.Every.{RoundOf, less, concatMap, tails, everyRound}
 use Rattle.rules.proofs.Inner.{down-mem, mem-down}
 use Rattle.rules.proofs.Nodes.{distinct-tail, distinct-off, off-sub, distinct-sub}
 
@@ -171,14 +171,14 @@ module _ (d : Day) (two : 2 ≤ d .n) where
   length-down zero = refl
   length-down (suc m) = ap suc (length-down m)
 
-  order-round : {t : List ℕ} → Order (d .n) (d .n - 1) (inner d) t → Round d (0 ∷ t)
+  order-round : {t : List ℕ} → Order (d .n) (d .n - 1) (inner d) t → RoundOf d (0 ∷ t)
   order-round {t} k = record {
     nodes = more {x = 0} (omega arith) (not-T (mem 0 t) (λ q. ⊎-elim (λ p. omega (arith, p)) (λ i. let w = down-mem (d .n - 2) 0 i in omega (arith, w)) (k .others 0 q))) (k .nodes);
     starts = refl;
     ends = ends-cons (d .n - 1) 0 t (k .ends);
   }
 
-  round-tail : (x : ℕ) (t : List ℕ) → Round d (x ∷ t) → Tail (d .n - 1) (inner d) t
+  round-tail : (x : ℕ) (t : List ℕ) → RoundOf d (x ∷ t) → Tail (d .n - 1) (inner d) t
   round-tail x [] k = let q = eqb→eq x (d .n - 1) (k .ends) in absurd (omega (arith, q, k .starts))
   round-tail x (y ∷ t) k = order-tail (y ∷ t) (distinct-tail (k .nodes)) (k .ends) others
     where
@@ -189,15 +189,15 @@ module _ (d : Day) (two : 2 ≤ d .n) where
           ⊎-elim (λ e. inl (eqb→eq (d .n - 1) w e)) (λ n. let q = neqb (d .n - 1) w n in inr (mem-down (d .n - 2) w (omega (arith, ne, k .starts)) (omega (arith, q, low)))) (tf (eqb (d .n - 1) w))
 
   -- every round of the day, and nothing else
-  pub every-round : (R : List ℕ) → In R (everyRound d) ↔ Round d R
+  pub every-round : (R : List ℕ) → In R (everyRound d) ↔ RoundOf d R
   unfolding everyRound
   every-round R = (
     λ i. let u = map-in (λ t. 0 ∷ t) (tails (d .n - 2) (d .n - 1) (inner d)) i in
-        subst (Round d) (sym (u .is)) (order-round (tail-order (omega arith) low-inner end-off (tails-tail (d .n - 1) (d .n - 2) (inner d) (u .x) (u .at)))),
+        subst (RoundOf d) (sym (u .is)) (order-round (tail-order (omega arith) low-inner end-off (tails-tail (d .n - 1) (d .n - 2) (inner d) (u .x) (u .at)))),
     listed R,
   )
     where
-      listed : (R : List ℕ) → Round d R → In R (map (λ t. 0 ∷ t) (tails (d .n - 2) (d .n - 1) (inner d)))
+      listed : (R : List ℕ) → RoundOf d R → In R (map (λ t. 0 ∷ t) (tails (d .n - 2) (d .n - 1) (inner d)))
       listed [] k = absurd (k .ends)
       listed (x ∷ t) k =
           subst (λ (z : ℕ). In (z ∷ t) (map (λ t. 0 ∷ t) (tails (d .n - 2) (d .n - 1) (inner d)))) (sym (k .starts))

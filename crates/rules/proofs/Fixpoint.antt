@@ -19,8 +19,9 @@ use Rattle.rules.specs.Settle.{round, strikes, settleIn, settle}
 use Rattle.rules.specs.Asked.{OneEnd}
 use Rattle.rules.proofs.Inner.{inner-low}
 use Rattle.rules.proofs.Transfers.{supports-e, supports-i}
-use Rattle.rules.proofs.Left.{_⊆_, stays-e, stays-i, round-less, round-leg, round-left}
-use Rattle.rules.proofs.Twice.{Rests, steady, paired, all-rest, third, calm}
+use Rattle.rules.proofs.Entries.{stays-e, stays-i}
+use Rattle.rules.proofs.Left.{_⊆_, round-less, round-leg, round-left}
+use Rattle.rules.proofs.Twice.{Rests, steady, paired, each-rests, third, calm}
 use Rattle.rules.proofs.Ways.{reach-way, way-reach, back-way, way-from}
 
 -- ---- more places open, more places stay
@@ -43,7 +44,7 @@ module _ (v : Van) (d : Day) (rt : List ℕ) (o o′ : Places) (h : o ⊆ o′) 
   })
 
   wider-stays : (x : ℕ) (A : List ℕ) (k : ℕ) (B : List ℕ) → T (stays v d rt o x A (k ∷ B)) → T (stays v d rt o′ x A (k ∷ B))
-  wider-stays x A k B t = stays-i v d rt o′ x A (k ∷ B) (λ test i. one test (each-in i all-rest) (stays-e v d rt o x A (k ∷ B) t test i))
+  wider-stays x A k B t = stays-i v d rt o′ x A (k ∷ B) (λ test i. one test (each-in i each-rests) (stays-e v d rt o x A (k ∷ B) t test i))
     where
       one : (t : Test) → Rests t → T (t v d rt o x A (k ∷ B)) → T (t v d rt o′ x A (k ∷ B))
       one _ (steady s) = s v d rt o o′ x A (k ∷ B)
@@ -161,8 +162,8 @@ module _ (v : Van) (d : Day) (one : OneEnd (d .jobs)) (rt : List ℕ) (g : Disti
   settle-rests = N→false (strikes v d rt (settle v d rt o)) (not-T (strikes v d rt (settle v d rt o)) (calm v d rt (settle v d rt o) settle-fixed))
 
   -- settled again, nothing changes
-  pub settle-again : (x p : ℕ) → settle v d rt (settle v d rt o) x p ≡ settle v d rt o x p
-  settle-again x p = T-ext (settle v d rt (settle v d rt o) x p) (settle v d rt o x p) (settle-less v d rt (settle v d rt o) x p)
+  pub settle-settle : (x p : ℕ) → settle v d rt (settle v d rt o) x p ≡ settle v d rt o x p
+  settle-settle x p = T-ext (settle v d rt (settle v d rt o) x p) (settle v d rt o x p) (settle-less v d rt (settle v d rt o) x p)
       (settle-greatest v d rt (settle v d rt o) (settle v d rt o) (λ y q t. t) settle-fixed x p)
 
   -- of more places settling leaves more

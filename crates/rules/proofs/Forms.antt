@@ -7,7 +7,7 @@ use mathlib.Core.List.{List, [], _∷_}
 use mathlib.Core.Logic.{⊎-elim}
 use lib.Dec.{T, not-T, eqb, eqb→eq, eqb-refl}
 use Rattle.laws.specs.Logic.{tf, and-l, and-r, or-e, or-mono, not-or-i, not-or-l, not-or-r, ne-sym}
-use Rattle.laws.specs.Lists.{mem, In, mem-in, Sub, keep, skip, sub-refl, mem-hd, mem-tl}
+use Rattle.laws.specs.Lists.{mem, In, mem-in, mem-hd, mem-tl}
 use Rattle.rules.specs.Day.{Day, inner}
 use Rattle.rules.specs.declared.Van.{Van}
 use Rattle.rules.specs.Leg.{legStops}
@@ -19,17 +19,17 @@ use Rattle.rules.specs.Asked.{endsWith, Formed}
 use Rattle.rules.proofs.Inner.{inner-low}
 use Rattle.rules.proofs.Longer.{leg-mem}
 use Rattle.rules.proofs.Left.{_⊆_}
-use Rattle.rules.proofs.Placing.{Ins, at, on, Put, put-ins, split-ne, split-e, split-half}
+use Rattle.rules.proofs.Placing.{Ins, at, on, PutIn, put-ins, split-ne, split-e, split-half}
 use Rattle.rules.proofs.Fixpoint.{Seen, settle-less}
 
 -- the route z ∷ r and the places o are in form
-pub record Laid (d : Day) (z : ℕ) (r : List ℕ) (o : Places) : Type 0 where
+pub record LaidOut (d : Day) (z : ℕ) (r : List ℕ) (o : Places) : Type 0 where
   pub nodes : Distinct (d .n) (z ∷ r)
   pub inside : (y q : ℕ) → T (o y q) → In y (inner d)
   pub off : (y q : ℕ) → T (o y q) → T (not (mem y (z ∷ r)))
   pub leg : (y q : ℕ) → T (o y q) → T (mem q (legStops (z ∷ r)))
 
-pub formed-laid : {d : Day} {a : Plan} → (f : Formed d a) → Laid d 0 (f .tail) (a .places)
+pub formed-laid : {d : Day} {a : Plan} → (f : Formed d a) → LaidOut d 0 (f .tail) (a .places)
 formed-laid {d} {a} f = record {
   nodes = rw (f .starts) at (f .nodes);
   inside = f .inside;
@@ -38,14 +38,14 @@ formed-laid {d} {a} f = record {
 }
 
 -- so a round of settling looks at every open place
-pub laid-seen : {d : Day} {z : ℕ} {r : List ℕ} {o : Places} → Laid d z r o → Seen d (z ∷ r) o
+pub laid-seen : {d : Day} {z : ℕ} {r : List ℕ} {o : Places} → LaidOut d z r o → Seen d (z ∷ r) o
 laid-seen {z = z} {r = r} l = λ y q t. (l .inside y q t, leg-mem q z r (l .leg y q t))
 
 pub formed-seen : {d : Day} {a : Plan} → Formed d a → Seen d (a .route) (a .places)
 formed-seen f = rw (f .starts) (laid-seen (formed-laid f))
 
 -- fewer places
-pub laid-fewer : {d : Day} {z : ℕ} {r : List ℕ} {o o′ : Places} → o′ ⊆ o → Laid d z r o → Laid d z r o′
+pub laid-fewer : {d : Day} {z : ℕ} {r : List ℕ} {o o′ : Places} → o′ ⊆ o → LaidOut d z r o → LaidOut d z r o′
 laid-fewer h l = record {
   nodes = l .nodes;
   inside = λ y q t. l .inside y q (h y q t);
@@ -54,10 +54,6 @@ laid-fewer h l = record {
 }
 
 -- ---- one stop more
-
-pub ins-sub : {p x c : ℕ} {r r′ : List ℕ} → Ins p x c r r′ → Sub r r′
-ins-sub (at {k = k} {r = r}) = skip (sub-refl (k ∷ r))
-ins-sub (on i) = keep (ins-sub i)
 
 pub ins-new : {p x c : ℕ} {r r′ : List ℕ} → Ins p x c r r′ → T (mem x r′)
 ins-new {x = x} (at {k = k} {r = r}) = mem-hd x (k ∷ r)
@@ -87,7 +83,7 @@ ins-leg-new {p} {x} (at {k = k} {r = r}) = mem-tl x p (legStops (x ∷ k ∷ r))
 ins-leg-new {x = x} {c = c} (on {k = k} {r′ = r′} i) = mem-tl x c (legStops (k ∷ r′)) (ins-leg-new i)
 
 -- x placed after p
-pub laid-placed : {d : Day} {z p x : ℕ} {r r′ : List ℕ} {o : Places} → Ins p x z r r′ → T (o x p) → Laid d z r o → Laid d z r′ (split p x o)
+pub laid-placed : {d : Day} {z p x : ℕ} {r r′ : List ℕ} {o : Places} → Ins p x z r r′ → T (o x p) → LaidOut d z r o → LaidOut d z r′ (split p x o)
 laid-placed {d} {z} {p} {x} {r} {r′} {o} i t l = record {
   nodes = ins-distinct (on {c = z} i) (omega (arith, inner-low d (l .inside x p t))) (l .off x p t) (l .nodes);
   inside = λ y q h. let u = old y q h in l .inside y (u .0) (u .1);
@@ -130,10 +126,10 @@ placed-formed d a p x f t = record {
   marked = f .marked;
 }
   where
-    u : Put p x 0 (f .tail)
+    u : PutIn p x 0 (f .tail)
     u = put-ins p x 0 (f .tail) (formed-laid f .leg x p t)
 
-    l : Laid d 0 (u .rest) (split p x (a .places))
+    l : LaidOut d 0 (u .rest) (split p x (a .places))
     l = laid-placed (u .ins) t (formed-laid f)
 
     is : putAfter p x (a .route) ≡ 0 ∷ u .rest

@@ -2,10 +2,11 @@
 use mathlib.Core.Path.{_≡_, refl, subst, sym}
 use Prim.Native.Nat.{ℕ, zero, suc, _+_, _-_, _<_}
 use native.Mathlib.Omega.{arith}
-use mathlib.Core.Bool.{false, not, _&&_, _||_}
+use mathlib.Core.Bool.{true, false, not, _&&_, _||_}
 use mathlib.Core.List.{List, [], _∷_}
 use mathlib.Core.Logic.{_⊎_, inl, inr, ⊎-elim, _≢_}
-use lib.Dec.{T, leb, ltb, eqb, eqb→eq, eqb-refl, leb→le, ltb→lt}
+use lib.Dec.{T, ltb, eqb, eqb→eq, eqb-refl, ltb→lt}
+use borrow.Author.Tests.{leb-true, ne-eqb}
 use lib.ListN.{length, getD}
 use Rattle.laws.specs.Logic.{T→true, true→T, and-l, and-r, or-e, imp-e, neqb}
 use Rattle.laws.specs.Below.{allBelow, below-at}
@@ -15,28 +16,23 @@ use Rattle.rules.specs.Day.{Day, inner}
 use Rattle.rules.specs.Leg.{legStops}
 use Rattle.rules.specs.Plan.{Plan, fresh}
 use Rattle.rules.specs.Rounds.{Distinct, none, more}
-use Rattle.rules.specs.Asked.{Shortest, Triangle, OneEnd, Proper, Formed, endsWith, shortestAt, shortestTest, triangleTest, noClash, oneEndTest, properJob, properTest, distinctTest, placeTest, formedTest}
+use Rattle.rules.specs.Asked.{Shortest, Triangle, OneEnd, Proper, Formed, endsWith, shortestAt, shortestLine, shortestRow, triangle, triangleTest, noClash, oneEndTest, properJob, properTest, distinctTest, placeTest, formedTest}
 use Rattle.rules.specs.Examples.{day}
 use Rattle.rules.specs.declared.Job.{Job}
 use Rattle.rules.specs.declared.Job.the-variants.{Transfer}
 
 -- ---- the triangle rule
 
-different : (i j : ℕ) → i ≢ j → T (eqb i j) → ⊥
-different i j h t = h (eqb→eq i j t)
-
-shortest-of : (n : ℕ) (t : ℕ → ℕ → ℕ) → T (shortestTest n t) → Shortest n t
-shortest-of n t h i j k hi hj hk ij jk ik =
-    let row = below-at n i (λ i. allBelow n (λ j. allBelow n (λ k. shortestAt t i j k))) (T→true (shortestTest n t) h) hi in
-    let cell = below-at n j (λ j. allBelow n (λ k. shortestAt t i j k)) row hj in
-    let at = true→T (shortestAt t i j k) (below-at n k (λ k. shortestAt t i j k) cell hk) in
-    ⊎-elim (λ a. absurd (⊎-elim (λ b. ⊎-elim (different i j ij) (different j k jk) (or-e (eqb i j) (eqb j k) b)) (different i k ik) (or-e (eqb i j || eqb j k) (eqb i k) a)))
-    (leb→le (t i k) (t i j + t j k)) (or-e (eqb i j || eqb j k || eqb i k) (leb (t i k) (t i j + t j k)) at)
+pub shortest-of : (n : ℕ) (t : ℕ → ℕ → ℕ) → triangle n t ≡ true → Shortest n t
+unfolding triangle shortestRow shortestLine
+shortest-of n t e i j k a b c ij jk ik =
+    let p : shortestAt t i j k ≡ true = below-at n k (shortestAt t i j) (below-at n j (shortestLine n t i) (below-at n i (shortestRow n t) e a) b) c in
+    leb-true (t i k) (t i j + t j k) (rw (ne-eqb i j ij, ne-eqb j k jk, ne-eqb i k ik) at p)
 
 pub triangle-of : (d : Day) → T (triangleTest d) → Triangle d
 triangle-of d h = record {
-  seconds = shortest-of (d .n) (d .seconds) (and-l (shortestTest (d .n) (d .seconds)) (shortestTest (d .n) (d .metres)) h);
-  metres = shortest-of (d .n) (d .metres) (and-r (shortestTest (d .n) (d .seconds)) (shortestTest (d .n) (d .metres)) h);
+  seconds = shortest-of (d .n) (d .seconds) (T→true _ (and-l (triangle (d .n) (d .seconds)) (triangle (d .n) (d .metres)) h));
+  metres = shortest-of (d .n) (d .metres) (T→true _ (and-r (triangle (d .n) (d .seconds)) (triangle (d .n) (d .metres)) h));
 }
 
 -- ---- the jobs
@@ -151,7 +147,7 @@ formed-of d a low few h = record {
 -- ---- none of it is empty: 01's own sheet, and its fresh plan
 
 pub day-triangle : Triangle day
-unfolding allBelow
+unfolding allBelow triangle shortestRow shortestLine
 day-triangle = triangle-of day tt
 
 pub day-proper : Proper day
@@ -160,9 +156,9 @@ day-proper = proper-of day tt
 pub day-one-end : OneEnd (day .jobs)
 day-one-end = one-end-of day tt day-proper
 
-pub fresh-formed : Formed day (fresh day)
+pub day-formed : Formed day (fresh day)
 unfolding allBelow
-fresh-formed = formed-of day (fresh day) low (λ y t. absurd t) tt
+day-formed = formed-of day (fresh day) low (λ y t. absurd t) tt
   where
     low : (y q : ℕ) → T (mem y (inner day) && eqb q 0) → (y < 4) × (q < 4)
     low y q t =

@@ -1,11 +1,14 @@
 -- The inner nodes are those from 1 to n − 2.
-use Prim.Native.Nat.{ℕ, zero, suc, _-_, _≤_, _<_}
+use Prim.Native.Nat.{ℕ, zero, suc, _+_, _-_, _≤_, _<_}
 use native.Mathlib.Omega.{arith}
 use mathlib.Core.Logic.{⊎-elim}
-use lib.Dec.{T, eqb, eqb→eq}
-use Rattle.laws.specs.Logic.{tf, or-l, or-r, or-e, neqb}
-use Rattle.laws.specs.Lists.{mem, In, in-mem}
-use Rattle.rules.specs.Day.{Day, downFrom, inner}
+use mathlib.Core.Path.{_≡_}
+use mathlib.Core.Bool.{true}
+use lib.Dec.{T, eqb, eqb→eq, leb, ltb}
+use borrow.Author.Tests.{leb-true, ltb-true}
+use Rattle.laws.specs.Logic.{tf, or-l, or-r, or-e, neqb, and-true}
+use Rattle.laws.specs.Lists.{mem, In, in-mem, mem-in}
+use Rattle.rules.specs.Day.{Day, downFrom, inner, isInner}
 
 pub down-mem : (m y : ℕ) → T (mem y (downFrom m)) → (1 ≤ y) × (y ≤ m)
 down-mem zero y h = absurd h
@@ -22,3 +25,11 @@ mem-down (suc m) y a b =
 -- an inner node is neither end
 pub inner-low : (d : Day) {y : ℕ} → In y (inner d) → (1 ≤ y) × (suc y < d .n)
 inner-low d {y} i = let u = down-mem (d .n - 2) y (in-mem i) in (u .0, omega (arith, u))
+
+-- what the test says, and that it finds just the inner nodes
+pub is-inner : (n x : ℕ) → isInner n x ≡ true → (1 ≤ x) × (x + 1 < n)
+unfolding isInner
+is-inner n x e = let p = and-true (leb 1 x) (ltb (x + 1) n) e in (leb-true 1 x (p .0), ltb-true (x + 1) n (p .1))
+
+pub is-inner-in : (n x : ℕ) → isInner n x ≡ true → In x (downFrom (n - 2))
+is-inner-in n x e = let p = is-inner n x e in mem-in x (downFrom (n - 2)) (mem-down (n - 2) x (p .0) (omega (arith, p .1)))

@@ -3,37 +3,34 @@ use Prim.Native.Nat.{ℕ, _≤_}
 use mathlib.Core.Bool.{not, _&&_}
 use mathlib.Core.List.{List, [], _∷_}
 use mathlib.Core.Logic.{_⊎_, inl, inr, ⊎-elim}
-use lib.Dec.{T, T-not, leb, eqb, eqb-refl, leb→le}
+use lib.Dec.{T, T-not, eqb, eqb-refl, leb→le}
 use Rattle.laws.specs.Logic.{and-l, and-r, or-l, tf, cond-yes, cond-no}
-use Rattle.laws.specs.Lists.{mem, all, In, all-in, mem-tl}
+use Rattle.laws.specs.Lists.{mem, In, all-in, mem-tl}
 use Rattle.rules.specs.Day.{Day}
 use Rattle.rules.specs.declared.Van.{Van}
 use Rattle.rules.specs.Leg.{everyLeg}
 use Rattle.rules.specs.Time.{onTime}
 use Rattle.rules.specs.Metres.{driven}
 use Rattle.rules.specs.Load.{carries}
-use Rattle.rules.specs.Rounds.{ordered, inOrder, keeps}
+use Rattle.rules.specs.Rounds.{ordered, inOrder, windowRule, metreRule, transferRule, loadRule, keeps}
 use Rattle.rules.specs.declared.Job.the-variants.{Transfer}
 use Rattle.rules.proofs.Cuts.{Cut, same, move}
+use Rattle.rules.proofs.Entries.{keeps-e, windowRule-in, metreRule-in, transferRule-in, loadRule-in}
 
 -- ---- the four rules
 
 module _ (v : Van) (d : Day) (R : List ℕ) (h : T (keeps v d R)) where
   pub keeps-time : T (onTime d [] R)
-  unfolding keeps
-  keeps-time = search (and-l, and-r)
+  keeps-time = keeps-e v d R h windowRule windowRule-in
 
   pub keeps-metres : driven d R ≤ v .limit
-  unfolding keeps
-  keeps-metres = let t : T (leb (driven d R) (v .limit)) = search (and-l, and-r) in leb→le (driven d R) (v .limit) t
+  keeps-metres = leb→le (driven d R) (v .limit) (keeps-e v d R h metreRule metreRule-in)
 
   pub keeps-order : (a b w : ℕ) → In (Transfer a b w) (d .jobs) → T (ordered a b R)
-  unfolding keeps
-  keeps-order a b w i = let t : T (all (inOrder R) (d .jobs)) = search (and-l, and-r) in all-in (inOrder R) t i
+  keeps-order a b w i = all-in (inOrder R) (keeps-e v d R h transferRule transferRule-in) i
 
   pub keeps-loads : T (everyLeg (carries v d) R)
-  unfolding keeps
-  keeps-loads = search (and-l, and-r)
+  keeps-loads = keeps-e v d R h loadRule loadRule-in
 
 -- ---- the partners of a transfer at a cut
 

@@ -5,29 +5,20 @@ use mathlib.Core.Bool.{Bool}
 use mathlib.Core.List.{List, [], _∷_}
 use lib.Dec.{T}
 use Rattle.laws.specs.Logic.{and-i, and-l, and-r}
-use Rattle.laws.specs.Lists.{hd, In, all-in, all-i}
+use Rattle.laws.specs.Lists.{hd}
 use Rattle.rules.specs.Day.{Day}
 use Rattle.rules.specs.declared.Van.{Van}
 use Rattle.rules.specs.Leg.{onLeg}
 use Rattle.rules.specs.Plan.{Places}
 use Rattle.rules.specs.Rounds.{Distinct}
-use Rattle.rules.specs.Tests.{Test, tests, stays}
+use Rattle.rules.specs.Tests.{stays}
 use Rattle.rules.specs.Settle.{round}
-use Rattle.rules.proofs.Cuts.{Cut, leg-cut, Found, leg-found}
+use Rattle.rules.proofs.Cuts.{Cut, leg-cut, LegFound, leg-found}
 
 -- every place of o is one of o′
 infix 50 _⊆_
 abbrev pub _⊆_ : Places → Places → Type 0
 o ⊆ o′ = (x p : ℕ) → T (o x p) → T (o′ x p)
-
-module _ (v : Van) (d : Day) (rt : List ℕ) (o : Places) (x : ℕ) (A B : List ℕ) where
-  pub stays-e : T (stays v d rt o x A B) → (t : Test) → In t tests → T (t v d rt o x A B)
-  unfolding stays
-  stays-e h t i = all-in (λ t. t v d rt o x A B) h i
-
-  pub stays-i : ((t : Test) → In t tests → T (t v d rt o x A B)) → T (stays v d rt o x A B)
-  unfolding stays
-  stays-i f = all-i (λ t. t v d rt o x A B) tests f
 
 module _ (v : Van) (d : Day) (rt : List ℕ) (o : Places) where
   pub round-less : round v d rt o ⊆ o
@@ -44,7 +35,7 @@ module _ (v : Van) (d : Day) (rt : List ℕ) (o : Places) where
 
 module _ (v : Van) (d : Day) (z : ℕ) (r : List ℕ) (o : Places) (x : ℕ) where
   -- the leg of a place that a round leaves
-  pub round-found : (p : ℕ) → T (round v d (z ∷ r) o x p) → Found (stays v d (z ∷ r) o x) p (z ∷ []) r
+  pub round-found : (p : ℕ) → T (round v d (z ∷ r) o x p) → LegFound (stays v d (z ∷ r) o x) p (z ∷ []) r
   round-found p h = leg-found (stays v d (z ∷ r) o x) p (z ∷ []) r (round-leg v d (z ∷ r) o x p h)
 
   module _ (g : Distinct (d .n) (z ∷ r)) {A B : List ℕ} {k : ℕ} (c : Cut (z ∷ []) r A (k ∷ B)) where

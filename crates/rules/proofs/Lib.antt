@@ -5,7 +5,7 @@
 --   no others: StepRounds `placed-rounds`, `closed-rounds`, `excluded-rounds`, `required-rounds`.
 -- * Settling strikes what the tests strike, to the last gap, and nothing else: Fixpoint `settle-exact`. What it leaves is what was open and
 --   passes every test against what it leaves; the greatest such set (`settle-greatest`); a further round strikes nothing (`settle-rests`,
---   `settle-again`). It is two rounds, whatever the fuel (`settle-twice`, `fuel-enough`).
+--   `settle-settle`). It is two rounds, whatever the fuel (`settle-twice`, `fuel-enough`).
 -- * The number of rounds that strike something is never above 2: Twice `at-most-two`.
 -- * On a triangle day settling loses no round that keeps the rules: NoneLost `settling-keeps`. It adds none (`settled-rounds`), and no place
 --   that such a round uses is struck (`used-stays`).
@@ -17,12 +17,16 @@
 -- * The end of a run, settled, has the open places and the verdict of the plan worked out from the start, settled: Alike `run-alike`.
 -- * Two runs with the same end route, excluded nodes and marks on unplaced nodes, settled, have the same places and verdict: `runs-alike`.
 --
--- The theorems know the tests of settling by three laws, each over the list of them, so that a further test is one definition and its laws:
--- Sound `all-sound` (no place is struck that a rule-keeping round uses), Monotone `all-monotone` (struck stays struck on every longer route),
--- Twice `all-rest` (the test does not look at the places, or it is 'neither placed').
+-- The tests of settling, the rules of rounds and the checks of the verdict are three lists, and the theorems know them by laws over the lists.
+-- A further entry is its definition, its place in the list, the name of its being there (Entries), and one line in each value below:
+-- * a test: Sound `each-sound` (no place is struck that a rule-keeping round uses), Monotone `each-monotone` (struck stays struck on every
+--   longer route), Twice `each-rests` (it does not look at the places, or it is 'neither placed').
+-- * a rule: Complete `each-vouched` (alive with no place open, the route keeps it). Keeps says what it asks, for the tests that need it.
+-- * a check: Complete `each-fair` (a plan with a rule-keeping round passes it), Verdicts `each-sees` (it reads the route, the open places and
+--   the marks of unplaced nodes). A rule of rounds is made a check of the route by `ofRoute`.
 --
--- What they ask of a day and a plan comes from tests that compute, and 01's own sheet meets it: Given. Fresh is in form and the steps keep it: Forms.
--- All rounds of a day, each once, and counts over them: EveryRound, Counted. For code that keeps the route in an array: AlongLaws.
+-- What they ask of a day and a plan comes from tests that compute, and 01's own sheet meets it: Given. Fresh is in form and the steps keep
+-- it: Forms. All rounds of a day, each once, and counts over them: EveryRound, Counted. For code that keeps the route in an array: AlongLaws.
 
 -- nodes, routes, their legs, and what grows with them
 pub mod Inner
@@ -34,6 +38,7 @@ pub mod Grows
 pub mod Longer
 pub mod AlongLaws
 -- the tests, and what a round of settling leaves
+pub mod Entries
 pub mod Transfers
 pub mod Left
 pub mod Twice

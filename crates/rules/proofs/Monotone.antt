@@ -8,7 +8,7 @@ use mathlib.Core.List.{List, [], _∷_}
 use mathlib.Core.Logic.{⊎-elim, _⊎_, inl, inr}
 use lib.Dec.{T, T-not, eqb, eqb→eq}
 use Rattle.laws.specs.Logic.{tf, or-mono}
-use Rattle.laws.specs.Lists.{mem, hd, In, here, there, Each, end, also, each-in, all-mono, Sub, keep, skip, mem-sub}
+use Rattle.laws.specs.Lists.{mem, hd, In, Each, end, also, each-in, all-mono, Sub, keep, skip, mem-sub}
 use Rattle.rules.specs.Day.{Day}
 use Rattle.rules.specs.declared.Van.{Van}
 use Rattle.rules.specs.Leg.{legsAhead, legsBehind}
@@ -22,11 +22,11 @@ use Rattle.rules.specs.declared.Job.{Job}
 use Rattle.rules.specs.declared.Job.the-variants.{Clean, Soiled, Transfer}
 use Rattle.rules.proofs.Nodes.{distinct-tail, within-sub, distinct-behind, distinct-ahead}
 use Rattle.rules.proofs.Cuts.{Cut, cut-next, cut-nil, cut-trans}
-use Rattle.rules.proofs.Ways.{Way, next, way-cut, reach-way, way-reach, back-way, way-from, way-source}
+use Rattle.rules.proofs.Ways.{Way, single, onward, way-cut, reach-way, way-reach, back-way, way-from, way-source}
 use Rattle.rules.proofs.Windows.{window-fits, fits-sooner}
 use Rattle.rules.proofs.Grows.{start-grows, fits-grows, short-around, around-grows, room-grows, ahead-grows, behind-grows}
 use Rattle.rules.proofs.Transfers.{Meets, meets-e, meets-i, Supports, supports-e, supports-i}
-use Rattle.rules.proofs.Left.{stays-e, stays-i}
+use Rattle.rules.proofs.Entries.{stays-e, stays-i, window-in, short-in, clean-in, soiled-in, partnerPlaced-in, neitherPlaced-in}
 use Rattle.rules.proofs.Longer.{off-sides, Lies, entered-on, left-on, lies-one, Comes, ancestor, enters, leaves, follow}
 
 -- the route z ∷ e with the places W is longer than z ∷ r with the places o: its further stops stand in open places of o, and each place of W
@@ -50,15 +50,15 @@ Monotone t =
 module _ (v : Van) (d : Day) (z : ℕ) (r e : List ℕ) (o W : Places) (over : Over d z r e o W) where
   way-end : {w k k′ : ℕ} {A A′ B B′ A₁ B₁ : List ℕ} → Lies z e r A′ (k′ ∷ B′) A (k ∷ B) → T (room v d w A′ (k′ ∷ B′)) → Lies z e r A′ (k′ ∷ B′) A₁ B₁
       → Way v d w A (k ∷ B) A₁ B₁
-  way-end {w} m t l = let q = lies-one (over .nodes) m l in rw (← q .0, ← q .1) (Way.here (room-grows v d w (m .behind) (m .ahead) t))
+  way-end {w} m t l = let q = lies-one (over .nodes) m l in rw (← q .0, ← q .1) (single (room-grows v d w (m .behind) (m .ahead) t))
 
   -- a way along the longer route is a way along the shorter one, from the leg in which it begins to the leg in which it ends
   way-grows : {w p q : ℕ} {A A′ B B′ A₁ B₁ A₂ B₂ : List ℕ} → Within o p B B′ → Cut (z ∷ []) r (p ∷ A) B → Cut (z ∷ []) e (q ∷ A′) B′ → Sub (p ∷ A) (q ∷ A′)
       → Way v d w (q ∷ A′) B′ A₂ B₂ → Lies z e r A₂ B₂ A₁ B₁ → Way v d w (p ∷ A) B A₁ B₁
-  way-grows (stop s) c c′ u (Way.here t) l = way-end (record { long = c′; short = c; behind = u; ahead = keep (within-sub s) }) t l
-  way-grows {w} (stop s) c c′ u (next t y) l = next (room-grows v d w u (keep (within-sub s)) t) (way-grows s (cut-next c) (cut-next c′) (keep u) y l)
-  way-grows (extra x s) c c′ u (Way.here t) l = way-end (record { long = c′; short = c; behind = u; ahead = skip (within-sub s) }) t l
-  way-grows (extra x s) c c′ u (next t y) l = way-grows s c (cut-next c′) (skip u) y l
+  way-grows (stop s) c c′ u (single t) l = way-end (record { long = c′; short = c; behind = u; ahead = keep (within-sub s) }) t l
+  way-grows {w} (stop s) c c′ u (onward t y) l = onward (room-grows v d w u (keep (within-sub s)) t) (way-grows s (cut-next c) (cut-next c′) (keep u) y l)
+  way-grows (extra x s) c c′ u (single t) l = way-end (record { long = c′; short = c; behind = u; ahead = skip (within-sub s) }) t l
+  way-grows (extra x s) c c′ u (onward t y) l = way-grows s c (cut-next c′) (skip u) y l
 
   -- a leg with g′ lies in a leg with g
   abbrev Goes : (ℕ → ℕ → Bool) → (ℕ → ℕ → Bool) → Type 0
@@ -124,14 +124,14 @@ module _ (v : Van) (d : Day) (tri : Triangle d) (z : ℕ) (r e : List ℕ) (o W 
   window-grows : T (window v d (z ∷ r) o y (p ∷ A) (k ∷ B))
   window-grows = window-fits v d (z ∷ r) o y (p ∷ A) (k ∷ B) .1
       (fits-sooner d y (k ∷ B) (start-grows d tri (l .behind) behind-y)
-      (fits-grows d tri (start d (q ∷ A′) y) (l .ahead) ahead-y (window-fits v d (z ∷ e) W y (q ∷ A′) (k′ ∷ B′) .0 (passes window here))))
+      (fits-grows d tri (start d (q ∷ A′) y) (l .ahead) ahead-y (window-fits v d (z ∷ e) W y (q ∷ A′) (k′ ∷ B′) .0 (passes window window-in))))
 
   short-grows : T (short v d (z ∷ r) o y (p ∷ A) (k ∷ B))
   short-grows = short-around v d o y (l .short) .1
-      (omega (arith, short-around v d W y (l .long) .0 (passes short (there here)), around-grows d tri (l .behind) (l .ahead) behind-y ahead-y))
+      (omega (arith, short-around v d W y (l .long) .0 (passes short short-in), around-grows d tri (l .behind) (l .ahead) behind-y ahead-y))
 
   clean-grows : T (clean v d (z ∷ r) o y (p ∷ A) (k ∷ B))
-  clean-grows = all-mono (cleanFits v d y (q ∷ A′) (k′ ∷ B′)) (cleanFits v d y (p ∷ A) (k ∷ B)) (d .jobs) job (passes clean (there (there here)))
+  clean-grows = all-mono (cleanFits v d y (q ∷ A′) (k′ ∷ B′)) (cleanFits v d y (p ∷ A) (k ∷ B)) (d .jobs) job (passes clean clean-in)
     where
       job : (j : Job) → T (cleanFits v d y (q ∷ A′) (k′ ∷ B′) j) → T (cleanFits v d y (p ∷ A) (k ∷ B) j)
       job (Clean a w) = or-mono (not (eqb a y)) (legsBehind (room v d w) (q ∷ A′) (k′ ∷ B′)) (not (eqb a y)) (legsBehind (room v d w) (p ∷ A) (k ∷ B))
@@ -140,7 +140,7 @@ module _ (v : Van) (d : Day) (tri : Triangle d) (z : ℕ) (r e : List ℕ) (o W 
       job (Transfer a b w) = λ t. t
 
   soiled-grows : T (soiled v d (z ∷ r) o y (p ∷ A) (k ∷ B))
-  soiled-grows = all-mono (soiledFits v d y (q ∷ A′) (k′ ∷ B′)) (soiledFits v d y (p ∷ A) (k ∷ B)) (d .jobs) job (passes soiled (there (there (there here))))
+  soiled-grows = all-mono (soiledFits v d y (q ∷ A′) (k′ ∷ B′)) (soiledFits v d y (p ∷ A) (k ∷ B)) (d .jobs) job (passes soiled soiled-in)
     where
       job : (j : Job) → T (soiledFits v d y (q ∷ A′) (k′ ∷ B′) j) → T (soiledFits v d y (p ∷ A) (k ∷ B) j)
       job (Clean a w) = λ t. t
@@ -154,10 +154,10 @@ module _ (v : Van) (d : Day) (tri : Triangle d) (z : ℕ) (r e : List ℕ) (o W 
   longer x = mem-sub x (keep (within-sub (over .inside)))
 
   met : Meets v d (z ∷ e) W y (q ∷ A′) (k′ ∷ B′)
-  met = meets-e v d (z ∷ e) W y (q ∷ A′) (k′ ∷ B′) (passes partnerPlaced (there (there (there (there here)))))
+  met = meets-e v d (z ∷ e) W y (q ∷ A′) (k′ ∷ B′) (passes partnerPlaced partnerPlaced-in)
 
   supported : Supports v d (z ∷ e) W y (q ∷ A′) (k′ ∷ B′)
-  supported = supports-e v d (z ∷ e) W y (q ∷ A′) (k′ ∷ B′) (passes neitherPlaced (there (there (there (there (there here))))))
+  supported = supports-e v d (z ∷ e) W y (q ∷ A′) (k′ ∷ B′) (passes neitherPlaced neitherPlaced-in)
 
   partner-grows : T (partnerPlaced v d (z ∷ r) o y (p ∷ A) (k ∷ B))
   partner-grows = meets-i v d (z ∷ r) o y (p ∷ A) (k ∷ B) (record {
@@ -182,12 +182,15 @@ module _ (v : Van) (d : Day) (tri : Triangle d) (z : ℕ) (r e : List ℕ) (o W 
 -- ---- the law, of every test
 
 each-monotone : Each Monotone tests
-each-monotone = also window-grows (also short-grows (also clean-grows (also soiled-grows (also partner-grows (also neither-grows end)))))
-
-pub all-monotone : (t : Test) → In t tests → Monotone t
-all-monotone t i = each-in i each-monotone
+each-monotone =
+    also window-grows
+    (also short-grows
+    (also clean-grows
+    (also soiled-grows
+    (also partner-grows
+    (also neither-grows end)))))
 
 -- what stays on the longer route stays on the shorter
 pub stays-grows : Monotone stays
 stays-grows v d tri z r e o W over q k′ p k A′ B′ A B l y low off st =
-    stays-i v d (z ∷ r) o y (p ∷ A) (k ∷ B) (λ t i. all-monotone t i v d tri z r e o W over q k′ p k A′ B′ A B l y low off st)
+    stays-i v d (z ∷ r) o y (p ∷ A) (k ∷ B) (λ t i. each-in i each-monotone v d tri z r e o W over q k′ p k A′ B′ A B l y low off st)

@@ -4,18 +4,19 @@ use mathlib.Core.Bool.{Bool, true, false}
 use mathlib.Core.List.{List, [], _∷_}
 use mathlib.Core.Logic.{_↔_}
 use lib.Dec.{T}
-use Rattle.laws.specs.Lists.{keep}
+use Rattle.laws.specs.Lists.{each-in, keep}
 use Rattle.rules.specs.Day.{Day}
 use Rattle.rules.specs.declared.Van.{Van}
 use Rattle.rules.specs.Plan.{Plan, Places}
-use Rattle.rules.specs.Rounds.{Distinct, Within, done, stop, extra, Inside, start, Belongs, keeps}
+use Rattle.rules.specs.Rounds.{Distinct, Within, done, stop, extra, Inside, both, Belongs, keeps}
 use Rattle.rules.specs.Steps.{uses}
 use Rattle.rules.specs.Settle.{round, strikes, settleIn, settled}
 use Rattle.rules.specs.Asked.{Triangle}
 use Rattle.rules.proofs.Cuts.{Cut, same, cut-next}
 use Rattle.rules.proofs.Longer.{Past, begun, halt, between}
-use Rattle.rules.proofs.Sound.{all-sound}
-use Rattle.rules.proofs.Left.{stays-i, round-i}
+use Rattle.rules.proofs.Sound.{each-sound}
+use Rattle.rules.proofs.Entries.{stays-i}
+use Rattle.rules.proofs.Left.{round-i}
 use Rattle.rules.proofs.Fixpoint.{settle-less}
 use Rattle.rules.proofs.Nodes.{distinct-sub, within-sub}
 use Rattle.rules.proofs.Using.{inside-more, uses-open}
@@ -30,7 +31,7 @@ module _ (v : Van) (d : Day) (tri : Triangle d) {z : ℕ} {r R : List ℕ} (node
   walk o {p} {q} {A} {A′} g c at u (extra {x = x} {k = k} {r = B} {R = B′} t w) =
       extra
       (round-i v d z r o x g c t (stays-i v d (z ∷ r) o x (p ∷ A) (k ∷ B)
-      (λ s i. all-sound s i v d tri o z x p k r R A B (record { nodes = nodes; rules = rules; leg = c; q = q; A′ = A′; B′ = B′; at = at; behind = u; ahead = w }))))
+      (λ s i. each-in i each-sound v d tri o z x p k r R A B (record { nodes = nodes; rules = rules; leg = c; q = q; A′ = A′; B′ = B′; at = at; behind = u; ahead = w }))))
       (walk o g c (cut-next at) (between t u) w)
 
   -- one round of settling
@@ -49,7 +50,7 @@ module _ (v : Van) (d : Day) (tri : Triangle d) {z : ℕ} {r R : List ℕ} (node
 
 settling-inside : (v : Van) (d : Day) (f : ℕ) {o : Places} {rt R : List ℕ} → Triangle d → Distinct (d .n) R → T (keeps v d R) → Inside o rt R
     → Inside (settleIn f v d rt o) rt R
-settling-inside v d f {o} tri g h (start w) = start (settle-keeps v d tri g h f o w)
+settling-inside v d f {o} tri g h (both w) = both (settle-keeps v d tri g h f o w)
 
 -- every rule-keeping round that belongs to a plan belongs to the settled plan
 pub settling-keeps : (v : Van) (d : Day) (a : Plan) (R : List ℕ) → Triangle d → T (keeps v d R) → Belongs d a R → Belongs d (settled v d a) R
@@ -64,7 +65,7 @@ settled-rounds v d a R tri h = (
 
 inside-uses : (v : Van) (d : Day) (p x : ℕ) {o : Places} {rt R : List ℕ} → Triangle d → Distinct (d .n) R → T (keeps v d R) → Inside o rt R → T (uses p x rt R)
     → T (round v d rt o x p)
-inside-uses v d p x {o} tri g h (start {z = z} {r = r} {R = R} w) t = uses-open p x g (round-keeps v d tri g h o w) t
+inside-uses v d p x {o} tri g h (both {z = z} {r = r} {R = R} w) t = uses-open p x g (round-keeps v d tri g h o w) t
 
 -- no test strikes a place that a rule-keeping round of the plan uses
 pub used-stays : (v : Van) (d : Day) (a : Plan) (R : List ℕ) (p x : ℕ) → Triangle d → T (keeps v d R) → Belongs d a R → T (uses p x (a .route) R)

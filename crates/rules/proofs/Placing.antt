@@ -17,16 +17,16 @@ pub data Ins (p x : ℕ) : ℕ → List ℕ → List ℕ → Type 0 where
   on : {c k : ℕ} {r r′ : List ℕ} → Ins p x k r r′ → Ins p x c (k ∷ r) (k ∷ r′)
 
 -- the route with x after p, as the step makes it
-pub record Put (p x c : ℕ) (r : List ℕ) : Type 0 where
+pub record PutIn (p x c : ℕ) (r : List ℕ) : Type 0 where
   pub rest : List ℕ
   pub is : putAfter p x (c ∷ r) ≡ c ∷ rest
   pub ins : Ins p x c r rest
 
-pub put-ins : (p x c : ℕ) (r : List ℕ) → T (mem p (legStops (c ∷ r))) → Put p x c r
+pub put-ins : (p x c : ℕ) (r : List ℕ) → T (mem p (legStops (c ∷ r))) → PutIn p x c r
 put-ins p x c [] h = absurd h
 put-ins p x c (k ∷ r) h = go (tf (eqb c p)) (put-ins p x k r)
   where
-    go : T (eqb c p) ⊎ T (not (eqb c p)) → (T (mem p (legStops (k ∷ r))) → Put p x k r) → Put p x c (k ∷ r)
+    go : T (eqb c p) ⊎ T (not (eqb c p)) → (T (mem p (legStops (k ∷ r))) → PutIn p x k r) → PutIn p x c (k ∷ r)
     go (inl e) f = record {
       rest = x ∷ k ∷ r;
       is = ap (λ (b : Bool). cond b (c ∷ x ∷ k ∷ r) (c ∷ putAfter p x (k ∷ r))) (T→true (eqb c p) e);

@@ -20,7 +20,7 @@ use Rattle.rules.proofs.Placing.{Ins, at, on, put-ins, split-e, split-i
 use Rattle.rules.proofs.StepRounds.{place-old}
 use Rattle.rules.proofs.Longer.{Lies, lies-one, lies-same, lies-trans, left-on, Comes, within-self, ancestor, leaves, follow}
 use Rattle.rules.proofs.Monotone.{Over, stays-grows}
-use Rattle.rules.proofs.Forms.{Laid, laid-fewer, laid-placed, ins-new}
+use Rattle.rules.proofs.Forms.{LaidOut, laid-fewer, laid-placed, ins-new}
 use Rattle.rules.proofs.Nodes.{within-sub}
 use Rattle.rules.proofs.Using.{within-more}
 
@@ -34,7 +34,7 @@ pub data Course (v : Van) (d : Day) (z : ℕ) (r₀ : List ℕ) (o₀ : Places) 
   strike : {r X : List ℕ} {o : Places} → Course v d z r₀ o₀ r o X → Course v d z r₀ o₀ r (round v d (z ∷ r) o) X
 
 module _ {v : Van} {d : Day} {z : ℕ} {r₀ : List ℕ} {o₀ : Places} where
-  pub course-laid : {r X : List ℕ} {o : Places} → Laid d z r₀ o₀ → Course v d z r₀ o₀ r o X → Laid d z r o
+  pub course-laid : {r X : List ℕ} {o : Places} → LaidOut d z r₀ o₀ → Course v d z r₀ o₀ r o X → LaidOut d z r o
   course-laid l outset = l
   course-laid l (put c t i) = laid-placed i t (course-laid l c)
   course-laid l (shut {o = o} x c) = laid-fewer (λ y q. and-l (o y q) (not (eqb y x))) (course-laid l c)
@@ -56,7 +56,7 @@ pub record Coursed (v : Van) (d : Day) (z : ℕ) (r₀ : List ℕ) (o₀ : Place
   pub is : b .route ≡ z ∷ rest
   pub course : Course v d z r₀ o₀ rest (b .places) X
 
-pub coursed : {v : Van} {d : Day} {z : ℕ} {r₀ X : List ℕ} {a b : Plan} → a .route ≡ z ∷ r₀ → Laid d z r₀ (a .places) → Run v d a b X
+pub coursed : {v : Van} {d : Day} {z : ℕ} {r₀ X : List ℕ} {a b : Plan} → a .route ≡ z ∷ r₀ → LaidOut d z r₀ (a .places) → Run v d a b X
     → Coursed v d z r₀ (a .places) b X
 coursed {r₀ = r₀} e l begin = record { rest = r₀; is = e; course = outset }
 coursed e l (place p x run off open′) =
@@ -100,7 +100,7 @@ module _ {n p x z q k′ p₀ k : ℕ} {r r′ A′ B′ A B : List ℕ} (o : Pl
 
 -- ---- where the places of a run come from
 
-module _ {v : Van} {d : Day} {z : ℕ} {r₀ : List ℕ} {o₀ : Places} (l₀ : Laid d z r₀ o₀) where
+module _ {v : Van} {d : Day} {z : ℕ} {r₀ : List ℕ} {o₀ : Places} (l₀ : LaidOut d z r₀ o₀) where
   -- who stands between the stops at the end had a place at the outset
   pub course-within : {r X e : List ℕ} {o : Places} → Course v d z r₀ o₀ r o X → Within o z r e → Within o₀ z r₀ e
   course-within outset w = w

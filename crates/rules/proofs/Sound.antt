@@ -1,5 +1,5 @@
 -- Sound: no test strikes a place that a rule-keeping round of the plan uses. The tests have this law one by one; the theorems read
--- `all-sound` only.
+-- `each-sound` only.
 use mathlib.Core.Path.{subst}
 use Prim.Native.Nat.{ℕ}
 use native.Mathlib.Omega.{arith}
@@ -8,7 +8,7 @@ use mathlib.Core.List.{List, [], _∷_}
 use mathlib.Core.Logic.{_⊎_, inl, inr, ⊎-elim}
 use lib.Dec.{T, T-not, eqb, eqb→eq}
 use Rattle.laws.specs.Logic.{and-i, and-l, and-r, or-l, or-r, or-mono, tf, not-or-i, not-or-l, not-or-r, contra, imp-i, cond-new}
-use Rattle.laws.specs.Lists.{mem, hd, In, end, also, each-in, Sub, nil, keep, skip, mem-sub, all-i, mem-hd, mem-tl, mem-rest}
+use Rattle.laws.specs.Lists.{mem, hd, In, Each, end, also, Sub, nil, keep, skip, mem-sub, all-i, mem-hd, mem-tl, mem-rest}
 use Rattle.rules.specs.Day.{Day}
 use Rattle.rules.specs.declared.Van.{Van}
 use Rattle.rules.specs.Leg.{legsAhead, legsBehind}
@@ -235,6 +235,13 @@ neitherPlaced-sound v d tri o z x p k r R A B u = supports-i v d (z ∷ r) o x (
       (contra (mem a (p ∷ A)) (mem a (z ∷ r)) (λ m. ⊎-elim (λ f. absurd f) (λ h. h) (cut-behind a (move (u .leg)) m)) n) (first u a w i) (loadsBehind u);
 })
 
--- every test of settling is sound
-pub all-sound : (t : Test) → In t tests → Sound t
-all-sound t i = each-in {P = Sound} i (also window-sound (also short-sound (also clean-sound (also soiled-sound (also partnerPlaced-sound (also neitherPlaced-sound end))))))
+-- ---- the law, of every test
+
+pub each-sound : Each Sound tests
+each-sound =
+    also window-sound
+    (also short-sound
+    (also clean-sound
+    (also soiled-sound
+    (also partnerPlaced-sound
+    (also neitherPlaced-sound end)))))

@@ -11,12 +11,12 @@ use Rattle.laws.specs.Lists.{mem, keep, mem-sub, mem-hd, mem-tl, mem-ne}
 use Rattle.rules.specs.Day.{Day}
 use Rattle.rules.specs.Leg.{legStops}
 use Rattle.rules.specs.Plan.{Plan, Places}
-use Rattle.rules.specs.Rounds.{Distinct, Within, done, stop, extra, Inside, start, Belongs}
+use Rattle.rules.specs.Rounds.{Distinct, Within, done, stop, extra, Inside, both, Belongs}
 use Rattle.rules.specs.Steps.{putAfter, split, placed, closed, excluded, required, usesAfter, uses}
 use Rattle.rules.specs.Asked.{Formed}
 use Rattle.rules.proofs.Placing.{Ins, at, on, put-ins, ins-mem, split-ne, split-e, split-i, split-half, split-half-i}
 use Rattle.rules.proofs.Nodes.{distinct-tail, distinct-off, distinct-skip, off-sub, within-sub}
-use Rattle.rules.proofs.Using.{between, within-more, uses-stop, uses-here, uses-past, uses-none, uses-mem}
+use Rattle.rules.proofs.Using.{apart-ahead, within-more, uses-stop, uses-here, uses-past, uses-none, uses-mem}
 
 module _ (o : Places) (p x : ℕ) where
   -- ---- placing: the rounds of the new plan are rounds of the old one
@@ -38,12 +38,12 @@ module _ (o : Places) (p x : ℕ) where
 
   -- and use the place
   place-uses : {n c : ℕ} {r r′ R : List ℕ} → Distinct n (c ∷ R) → T (not (mem x (c ∷ r))) → Ins p x c r r′ → Within (split p x o) c r′ R → T (usesAfter p x c r R)
-  place-uses g h (at {k = k} {r = r}) (stop {R = R} w) = uses-here p x p k r R x (between (distinct-tail g) (within-sub w)) (eqb-refl x) .1 (eqb-refl p)
+  place-uses g h (at {k = k} {r = r}) (stop {R = R} w) = uses-here p x p k r R x (apart-ahead (distinct-tail g) (within-sub w)) (eqb-refl x) .1 (eqb-refl p)
   place-uses g h (at {k = k} {r = r}) (extra {x = y} {R = R} t w) =
       uses-past p x p k r R y (mem-ne y k R (distinct-off (distinct-tail g)) (mem-sub k (within-sub w) (mem-tl k x (k ∷ r) (mem-hd k r)))) (split-ne p x o y p t) .1 (place-uses (distinct-skip g) h at w)
   place-uses {c = c} g h (on {k = k} {r = r} i) (stop {R = R} w) = uses-stop p x c k r R .1 (place-uses (distinct-tail g) (not-or-r (eqb c x) (mem x (k ∷ r)) h) i w)
   place-uses {c = c} g h (on {k = k} {r = r} i) (extra {x = y} {R = R} t w) =
-      uses-past p x c k r R y (between (distinct-tail g) (within-sub w)) (split-ne p x o y c t) .1 (place-uses (distinct-skip g) h (on i) w)
+      uses-past p x c k r R y (apart-ahead (distinct-tail g) (within-sub w)) (split-ne p x o y c t) .1 (place-uses (distinct-skip g) h (on i) w)
 
   -- ---- placing: the rounds of the old plan that use the place are rounds of the new one
 
@@ -69,12 +69,12 @@ module _ (o : Places) (p x : ℕ) where
       go (inl e) f =
           let y≡x = eqb→eq y x e in
           subst (λ (m : ℕ). Within (split p x o) p (x ∷ k ∷ r) (m ∷ R)) (sym y≡x) (stop (half-new (subst (λ (m : ℕ). T (not (mem m R))) y≡x (distinct-off (distinct-tail g))) w))
-      go (inr n) f = extra (split-i p x o y p n (not-or-l (eqb p x) (mem x (k ∷ r)) h) v) (f (uses-past p x p k r R y (between (distinct-tail g) (within-sub w)) n .0 t))
+      go (inr n) f = extra (split-i p x o y p n (not-or-l (eqb p x) (mem x (k ∷ r)) h) v) (f (uses-past p x p k r R y (apart-ahead (distinct-tail g) (within-sub w)) n .0 t))
   place-new {c = c} g h (on {k = k} {r = r} i) (stop {R = R} w) t = stop (place-new (distinct-tail g) (not-or-r (eqb c x) (mem x (k ∷ r)) h) i w (uses-stop p x c k r R .0 t))
   place-new {c = c} g h (on {k = k} {r = r} {r′ = r′} i) (extra {x = y} {R = R} v w) t = go (tf (eqb y x)) (place-new (distinct-skip g) h (on i) w)
     where
       n₀ : T (not (eqb y k))
-      n₀ = between (distinct-tail g) (within-sub w)
+      n₀ = apart-ahead (distinct-tail g) (within-sub w)
 
       go : T (eqb y x) ⊎ T (not (eqb y x)) → (T (usesAfter p x c (k ∷ r) R) → Within (split p x o) c (k ∷ r′) R) → Within (split p x o) c (k ∷ r′) (y ∷ R)
       go (inl e) f =
@@ -93,7 +93,7 @@ module _ (o : Places) (p x : ℕ) where
   close-not {c = c} g (extra {x = y} {k = k} {r = r} {R = R} v w) t = go (tf (eqb y x)) (close-not (distinct-skip g) w)
     where
       n : T (not (eqb y k))
-      n = between (distinct-tail g) (within-sub w)
+      n = apart-ahead (distinct-tail g) (within-sub w)
 
       go : T (eqb y x) ⊎ T (not (eqb y x)) → (T (usesAfter p x c (k ∷ r) R) → ⊥) → ⊥
       go (inl e) f = T-not (eqb y x && eqb c p) (and-r (o y c) (not (eqb y x && eqb c p)) v) (and-i (eqb y x) (eqb c p) e (uses-here p x c k r R y n e .0 t))
@@ -105,7 +105,7 @@ module _ (o : Places) (p x : ℕ) where
   close-new {c = c} g (extra {x = y} {k = k} {r = r} {R = R} v w) t = go (tf (eqb y x)) (close-new (distinct-skip g) w)
     where
       n : T (not (eqb y k))
-      n = between (distinct-tail g) (within-sub w)
+      n = apart-ahead (distinct-tail g) (within-sub w)
 
       gone : T (eqb y x) → T (usesAfter p x c (k ∷ r) R) → ⊥
       gone e u = T-not (mem x R) (subst (λ (m : ℕ). T (not (mem m R))) (eqb→eq y x e) (distinct-off (distinct-tail g))) (uses-mem p x (distinct-skip g) w u)
@@ -134,11 +134,11 @@ module _ (o : Places) (x : ℕ) where
 
 place-inside : {n : ℕ} (o : Places) (p x : ℕ) {z : ℕ} {r r′ R : List ℕ} → Distinct n R → T (o x p) → T (not (mem x (z ∷ r))) → Ins p x z r r′
     → Inside (split p x o) (z ∷ r′) R → Inside o (z ∷ r) R × T (uses p x (z ∷ r) R)
-place-inside o p x g t h i (start w) = (start (place-old o p x t h i w), place-uses o p x g h i w)
+place-inside o p x g t h i (both w) = (both (place-old o p x t h i w), place-uses o p x g h i w)
 
 inside-place : {n : ℕ} (o : Places) (p x : ℕ) {z : ℕ} {r r′ R : List ℕ} → Distinct n R → T (not (mem x (z ∷ r))) → Ins p x z r r′
     → Inside o (z ∷ r) R → T (uses p x (z ∷ r) R) → Inside (split p x o) (z ∷ r′) R
-inside-place o p x g h i (start w) t = start (place-new o p x g h i w t)
+inside-place o p x g h i (both w) t = both (place-new o p x g h i w t)
 
 place-both : {n : ℕ} (o : Places) (p x : ℕ) {z : ℕ} {r : List ℕ} (rt R : List ℕ) → rt ≡ z ∷ r → Distinct n R → T (o x p) → T (not (mem x rt)) → T (mem p (legStops rt))
     → Inside (split p x o) (putAfter p x rt) R ↔ (Inside o rt R × T (uses p x rt R))
@@ -152,20 +152,20 @@ place-both o p x {z} {r} rt R e g t h m =
         (place-inside o p x g t h (u .ins), λ k. inside-place o p x g h (u .ins) (k .0) (k .1))
 
 close-inside : {n : ℕ} (o : Places) (p x : ℕ) {rt R : List ℕ} → Distinct n R → Inside (shut o p x) rt R → Inside o rt R × T (not (uses p x rt R))
-close-inside o p x g (start {z = z} {r = r} {R = R} w) =
-    (start (within-more (λ y q. and-l (o y q) (not (eqb y x && eqb q p))) w), not-T (usesAfter p x z r R) (close-not o p x g w))
+close-inside o p x g (both {z = z} {r = r} {R = R} w) =
+    (both (within-more (λ y q. and-l (o y q) (not (eqb y x && eqb q p))) w), not-T (usesAfter p x z r R) (close-not o p x g w))
 
 inside-close : {n : ℕ} (o : Places) (p x : ℕ) {rt R : List ℕ} → Distinct n R → Inside o rt R → T (not (uses p x rt R)) → Inside (shut o p x) rt R
-inside-close o p x g (start {z = z} {r = r} {R = R} w) t = start (close-new o p x g w (T-not (usesAfter p x z r R) t))
+inside-close o p x g (both {z = z} {r = r} {R = R} w) t = both (close-new o p x g w (T-not (usesAfter p x z r R) t))
 
 exclude-inside : (o : Places) (x : ℕ) {rt R : List ℕ} → T (not (mem x rt)) → Inside (without o x) rt R → Inside o rt R × T (not (mem x R))
-exclude-inside o x h (start {z = z} {r = r} {R = R} w) = (
-  start (within-more (λ y q. and-l (o y q) (not (eqb y x))) w),
+exclude-inside o x h (both {z = z} {r = r} {R = R} w) = (
+  both (within-more (λ y q. and-l (o y q) (not (eqb y x))) w),
   not-or-i (eqb z x) (mem x R) (not-or-l (eqb z x) (mem x r) h) (exclude-not o x (not-or-r (eqb z x) (mem x r) h) w),
 )
 
 inside-exclude : (o : Places) (x : ℕ) {rt R : List ℕ} → T (not (mem x R)) → Inside o rt R → Inside (without o x) rt R
-inside-exclude o x h (start {z = z} {R = R} w) = start (exclude-new o x (not-or-r (eqb z x) (mem x R) h) w)
+inside-exclude o x h (both {z = z} {R = R} w) = both (exclude-new o x (not-or-r (eqb z x) (mem x R) h) w)
 
 -- ---- the four steps
 

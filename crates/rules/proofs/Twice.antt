@@ -1,14 +1,14 @@
 -- At most two rounds of settling strike. Every test but 'neither placed' reads the route only, so what it strikes it strikes in the first
 -- round. 'Neither placed' strikes in the second what has lost its support; support goes both ways, so a place that is left then still
 -- has its support, and the third round strikes nothing.
-use mathlib.Core.Path.{_≡_, ap}
+use mathlib.Core.Path.{_≡_}
 use Prim.Native.Nat.{ℕ, zero, suc, _*_, _≤_}
 use native.Mathlib.Omega.{arith}
 use mathlib.Core.Bool.{Bool, true, false, not, _&&_}
 use mathlib.Core.List.{List, [], _∷_}
 use lib.Dec.{T, T-not}
 use Rattle.laws.specs.Logic.{and-l, and-r}
-use Rattle.laws.specs.Lists.{hd, any, In, here, there, Each, end, also, each-in, any-none}
+use Rattle.laws.specs.Lists.{hd, any, In, Each, end, also, each-in, any-none}
 use Rattle.rules.specs.Day.{Day, inner}
 use Rattle.rules.specs.declared.Van.{Van}
 use Rattle.rules.specs.Plan.{Places}
@@ -19,7 +19,8 @@ use Rattle.rules.specs.Asked.{OneEnd}
 use Rattle.rules.specs.declared.Job.the-variants.{Transfer}
 use Rattle.rules.proofs.Cuts.{Cut, cut-trans, cut-nil}
 use Rattle.rules.proofs.Transfers.{Supports, supports-e, supports-i}
-use Rattle.rules.proofs.Left.{_⊆_, stays-e, stays-i, round-less, round-found, round-stays, round-i}
+use Rattle.rules.proofs.Entries.{stays-e, stays-i, neitherPlaced-in}
+use Rattle.rules.proofs.Left.{_⊆_, round-less, round-found, round-stays, round-i}
 use Rattle.rules.proofs.Ways.{Way, way-cut, way-reach, way-from, reach-way, back-way, way-source}
 
 -- ---- what two rounds ask of each test
@@ -37,8 +38,8 @@ window-steady : Steady window
 window-steady v d rt o o′ x A [] h = h
 window-steady v d rt o o′ x A (k ∷ B) h = h
 
-pub all-rest : Each Rests tests
-all-rest =
+pub each-rests : Each Rests tests
+each-rests =
     also (steady window-steady)
     (also (steady (λ v d rt o o′ x A B h. h))
     (also (steady (λ v d rt o o′ x A B h. h))
@@ -49,7 +50,7 @@ all-rest =
 -- what stays with the places o stays with the places o′, if 'neither placed' does not strike it
 pub restays : (v : Van) (d : Day) (rt : List ℕ) (o o′ : Places) (x : ℕ) (A B : List ℕ)
     → T (stays v d rt o x A B) → T (neitherPlaced v d rt o′ x A B) → T (stays v d rt o′ x A B)
-restays v d rt o o′ x A B h n = stays-i v d rt o′ x A B (λ t i. test t (each-in i all-rest) (stays-e v d rt o x A B h t i))
+restays v d rt o o′ x A B h n = stays-i v d rt o′ x A B (λ t i. test t (each-in i each-rests) (stays-e v d rt o x A B h t i))
   where
     test : (t : Test) → Rests t → T (t v d rt o x A B) → T (t v d rt o′ x A B)
     test _ (steady s) = s v d rt o o′ x A B
@@ -96,7 +97,7 @@ module _ (v : Van) (d : Day) (one : OneEnd (d .jobs)) (z : ℕ) (r : List ℕ) (
   }))
     where
       s : Supports v d (z ∷ r) o₁ x (p ∷ A) (k ∷ B)
-      s = supports-e v d (z ∷ r) o₁ x (p ∷ A) (k ∷ B) (stays-e v d (z ∷ r) o₁ x (p ∷ A) (k ∷ B) st neitherPlaced (there (there (there (there (there here))))))
+      s = supports-e v d (z ∷ r) o₁ x (p ∷ A) (k ∷ B) (stays-e v d (z ∷ r) o₁ x (p ∷ A) (k ∷ B) st neitherPlaced neitherPlaced-in)
 
   third-from : (x p : ℕ) → T (o₂ x p) → T (round v d (z ∷ r) o₂ x p)
   third-from x p h = let f = round-found v d z r o₁ x p h in go (f .A′) (f .cut) (f .name) (f .holds)
@@ -153,18 +154,6 @@ module _ (v : Van) (d : Day) (rt : List ℕ) where
     roundsIn-next f (round v d rt o),
     roundsIn-calm f (round v d rt (round v d rt o)) (calm v d rt (round v d rt (round v d rt o)) (third v d one rt g o)),
   )
-
-  -- any fuel from 2 on counts the same
-  pub roundsIn-fuel : OneEnd (d .jobs) → Distinct (d .n) rt → (f : ℕ) (o : Places) → 2 ≤ f → roundsIn f v d rt o ≡ roundsIn 2 v d rt o
-  unfolding roundsIn
-  roundsIn-fuel one g zero o h = absurd (omega arith)
-  roundsIn-fuel one g (suc zero) o h = absurd (omega arith)
-  roundsIn-fuel one g (suc (suc f)) o h =
-      ap (λ (m : ℕ). elim (strikes v d rt o) as (λ b. ℕ) [ true ↦ suc (elim (strikes v d rt (round v d rt o)) as (λ b. ℕ) [ true ↦ suc m | false ↦ 0 ]) | false ↦ 0 ])
-      (le-zero (roundsIn-calm f (round v d rt (round v d rt o)) (calm v d rt (round v d rt (round v d rt o)) (third v d one rt g o))))
-    where
-      le-zero : {m : ℕ} → m ≤ 0 → m ≡ 0
-      le-zero k = omega arith
 
 -- 01: the number of rounds that strike something is never above 2
 pub at-most-two : (v : Van) (d : Day) → OneEnd (d .jobs) → (rt : List ℕ) → Distinct (d .n) rt → (o : Places) → rounds v d rt o ≤ 2

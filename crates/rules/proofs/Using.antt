@@ -8,14 +8,14 @@ use lib.Dec.{T, T-not, eqb, eqb→eq, eqb-refl}
 use Rattle.laws.specs.Logic.{or-l, tf, not-or-l, not-or-r, cond-yes, cond-no, cond-yes-i, cond-no-i}
 use Rattle.laws.specs.Lists.{mem, Sub, mem-sub, mem-hd, mem-tl, mem-ne}
 use Rattle.rules.specs.Plan.{Places}
-use Rattle.rules.specs.Rounds.{Distinct, Within, done, stop, extra, Inside, start}
+use Rattle.rules.specs.Rounds.{Distinct, Within, done, stop, extra, Inside, both}
 use Rattle.rules.specs.Steps.{usesAfter}
 use Rattle.rules.proofs.Left.{_⊆_}
 use Rattle.rules.proofs.Nodes.{distinct-tail, distinct-off, distinct-skip, within-sub}
 
 -- a node between two stops of the route is not the second of them
-pub between : {n y k : ℕ} {r R : List ℕ} → Distinct n (y ∷ R) → Sub (k ∷ r) R → T (not (eqb y k))
-between {y = y} {k = k} {r = r} {R = R} g u = mem-ne y k R (distinct-off g) (mem-sub k u (mem-hd k r))
+pub apart-ahead : {n y k : ℕ} {r R : List ℕ} → Distinct n (y ∷ R) → Sub (k ∷ r) R → T (not (eqb y k))
+apart-ahead {y = y} {k = k} {r = r} {R = R} g u = mem-ne y k R (distinct-off g) (mem-sub k u (mem-hd k r))
 
 -- with more open, the round stays within
 pub within-more : {o o′ : Places} {p : ℕ} {r R : List ℕ} → o ⊆ o′ → Within o p r R → Within o′ p r R
@@ -24,7 +24,7 @@ within-more f (stop w) = stop (within-more f w)
 within-more {p = p} f (extra {x = x} t w) = extra (f x p t) (within-more f w)
 
 pub inside-more : {o o′ : Places} {rt R : List ℕ} → o ⊆ o′ → Inside o rt R → Inside o′ rt R
-inside-more f (start w) = start (within-more f w)
+inside-more f (both w) = both (within-more f w)
 
 module _ (p x c k : ℕ) (r R : List ℕ) where
   abbrev elsewhere : ℕ → Bool
@@ -55,7 +55,7 @@ module _ {o : Places} (p x : ℕ) where
   uses-none {c = c} g (extra {x = y} {k = k} {r = r} {R = R} v w) h t = go (tf (eqb y x)) (uses-none (distinct-skip g) w h)
     where
       n : T (not (eqb y k))
-      n = between (distinct-tail g) (within-sub w)
+      n = apart-ahead (distinct-tail g) (within-sub w)
 
       go : T (eqb y x) ⊎ T (not (eqb y x)) → (T (usesAfter p x c (k ∷ r) R) → ⊥) → ⊥
       go (inl e) f = T-not (eqb c p) (not-or-l (eqb c p) (mem p (k ∷ r)) h) (uses-here p x c k r R y n e .0 t)
@@ -69,7 +69,7 @@ module _ {o : Places} (p x : ℕ) where
     where
       go : T (eqb y x) ⊎ T (not (eqb y x)) → (T (usesAfter p x c (k ∷ r) R) → T (mem x R)) → T (mem x (y ∷ R))
       go (inl e) f = or-l (eqb y x) (mem x R) e
-      go (inr m) f = mem-tl x y R (f (uses-past p x c k r R y (between (distinct-tail g) (within-sub w)) m .0 t))
+      go (inr m) f = mem-tl x y R (f (uses-past p x c k r R y (apart-ahead (distinct-tail g) (within-sub w)) m .0 t))
 
   -- and the place is open
   pub uses-open : {n c : ℕ} {r R : List ℕ} → Distinct n (c ∷ R) → Within o c r R → T (usesAfter p x c r R) → T (o x p)
@@ -78,7 +78,7 @@ module _ {o : Places} (p x : ℕ) where
   uses-open {c = c} g (extra {x = y} {k = k} {r = r} {R = R} v w) t = go (tf (eqb y x)) (uses-open (distinct-skip g) w)
     where
       n : T (not (eqb y k))
-      n = between (distinct-tail g) (within-sub w)
+      n = apart-ahead (distinct-tail g) (within-sub w)
 
       go : T (eqb y x) ⊎ T (not (eqb y x)) → (T (usesAfter p x c (k ∷ r) R) → T (o x p)) → T (o x p)
       go (inl e) f = subst (λ (m : ℕ). T (o m p)) (eqb→eq y x e) (subst (λ (m : ℕ). T (o y m)) (eqb→eq c p (uses-here p x c k r R y n e .0 t)) v)

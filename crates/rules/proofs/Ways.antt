@@ -13,16 +13,16 @@ use Rattle.rules.proofs.Cuts.{Cut, same, move, cut-pred}
 
 -- from the leg (A, B) to the leg (A′, B′), both counted, w fits on every leg
 pub data Way (v : Van) (d : Day) (w : ℕ) : List ℕ → List ℕ → List ℕ → List ℕ → Type 0 where
-  here : {k : ℕ} {A B : List ℕ} → T (room v d w A (k ∷ B)) → Way v d w A (k ∷ B) A (k ∷ B)
-  next : {k : ℕ} {A B A′ B′ : List ℕ} → T (room v d w A (k ∷ B)) → Way v d w (k ∷ A) B A′ B′ → Way v d w A (k ∷ B) A′ B′
+  single : {k : ℕ} {A B : List ℕ} → T (room v d w A (k ∷ B)) → Way v d w A (k ∷ B) A (k ∷ B)
+  onward : {k : ℕ} {A B A′ B′ : List ℕ} → T (room v d w A (k ∷ B)) → Way v d w (k ∷ A) B A′ B′ → Way v d w A (k ∷ B) A′ B′
 
 pub way-cut : {v : Van} {d : Day} {w : ℕ} {A B A′ B′ : List ℕ} → Way v d w A B A′ B′ → Cut A B A′ B′
-way-cut (here r) = same
-way-cut (next r u) = move (way-cut u)
+way-cut (single r) = same
+way-cut (onward r u) = move (way-cut u)
 
 pub way-room : {v : Van} {d : Day} {w : ℕ} {A B A′ B′ : List ℕ} → Way v d w A B A′ B′ → T (room v d w A B)
-way-room (here r) = r
-way-room (next r u) = r
+way-room (single r) = r
+way-room (onward r u) = r
 
 -- a leg ahead where g holds, and the way to it
 pub record Goal (v : Van) (d : Day) (g : ℕ → ℕ → Bool) (w : ℕ) (A B : List ℕ) : Type 0 where
@@ -51,19 +51,19 @@ module _ (v : Van) (d : Day) (g : ℕ → ℕ → Bool) (w : ℕ) where
       r = and-l (room v d w A (k ∷ B)) (g (hd A) k || reachAhead v d g w (k ∷ A) B) h
 
       go : T (g (hd A) k) ⊎ T (reachAhead v d g w (k ∷ A) B) → (T (reachAhead v d g w (k ∷ A) B) → Goal v d g w (k ∷ A) B) → Goal v d g w A (k ∷ B)
-      go (inl e) f = record { A′ = A; B′ = B; k′ = k; way = here r; holds = e }
-      go (inr e) f = let u = f e in record { A′ = u .A′; B′ = u .B′; k′ = u .k′; way = next r (u .way); holds = u .holds }
+      go (inl e) f = record { A′ = A; B′ = B; k′ = k; way = single r; holds = e }
+      go (inr e) f = let u = f e in record { A′ = u .A′; B′ = u .B′; k′ = u .k′; way = onward r (u .way); holds = u .holds }
 
   pub way-reach : {A B A′ B′ : List ℕ} {k′ : ℕ} → Way v d w A B A′ (k′ ∷ B′) → T (g (hd A′) k′) → T (reachAhead v d g w A B)
-  way-reach {A = A} {B′ = B′} {k′ = k′} (here r) h =
+  way-reach {A = A} {B′ = B′} {k′ = k′} (single r) h =
       and-i (room v d w A (k′ ∷ B′)) (g (hd A) k′ || reachAhead v d g w (k′ ∷ A) B′) r (or-l (g (hd A) k′) (reachAhead v d g w (k′ ∷ A) B′) h)
-  way-reach {A = A} (next {k = k} {B = B} r u) h =
+  way-reach {A = A} (onward {k = k} {B = B} r u) h =
       and-i (room v d w A (k ∷ B)) (g (hd A) k || reachAhead v d g w (k ∷ A) B) r (or-r (g (hd A) k) (reachAhead v d g w (k ∷ A) B) (way-reach u h))
 
   -- what is reached going back from the beginning of a way is reached from its end
   pub way-back : {A B A′ B′ : List ℕ} → Way v d w A B A′ B′ → T (reachBack v d g w A B) → T (reachBack v d g w A′ B′)
-  way-back (here r) h = h
-  way-back {A = A} (next {k = k} {B = B} r u) h =
+  way-back (single r) h = h
+  way-back {A = A} (onward {k = k} {B = B} r u) h =
       way-back u (and-i (room v d w (k ∷ A) B) (g k (hd B) || reachBack v d g w A (k ∷ B)) (way-room u) (or-r (g k (hd B)) (reachBack v d g w A (k ∷ B)) h))
 
   -- from the end of a way, a leg where g holds is reached at its beginning
@@ -80,14 +80,14 @@ module _ (v : Van) (d : Day) (g : ℕ → ℕ → Bool) (w : ℕ) where
       r = and-l (room v d w (p ∷ A) (k ∷ B)) (g p k || reachBack v d g w A (p ∷ k ∷ B)) h
 
       snoc : {m j : ℕ} {A₀ B₀ A₁ B₁ : List ℕ} → Way v d w A₀ B₀ A₁ (m ∷ j ∷ B₁) → T (room v d w (m ∷ A₁) (j ∷ B₁)) → Way v d w A₀ B₀ (m ∷ A₁) (j ∷ B₁)
-      snoc (here q) t = next q (here t)
-      snoc (next q u) t = next q (snoc u t)
+      snoc (single q) t = onward q (single t)
+      snoc (onward q u) t = onward q (snoc u t)
 
       go : T (g p k) ⊎ T (reachBack v d g w A (p ∷ k ∷ B)) → (T (reachBack v d g w A (p ∷ k ∷ B)) → Source v d g w A (p ∷ k ∷ B)) → Source v d g w (p ∷ A) (k ∷ B)
-      go (inl e) f = record { A′ = A; B′ = B; p′ = p; k′ = k; way = here r; holds = e }
+      go (inl e) f = record { A′ = A; B′ = B; p′ = p; k′ = k; way = single r; holds = e }
       go (inr e) f = let u = f e in record { A′ = u .A′; B′ = u .B′; p′ = u .p′; k′ = u .k′; way = snoc (u .way) r; holds = u .holds }
 
 -- a way to a leg of the route begins at a leg of the route
 pub way-source : {v : Van} {d : Day} {w z p : ℕ} {r A B A′ B′ : List ℕ} → Way v d w (p ∷ A) B A′ B′ → Cut (z ∷ []) r A′ B′ → Cut (z ∷ []) r (p ∷ A) B
-way-source (here x) c = c
-way-source (next x u) c = cut-pred (way-source u c)
+way-source (single x) c = c
+way-source (onward x u) c = cut-pred (way-source u c)

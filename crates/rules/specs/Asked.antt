@@ -54,14 +54,22 @@ pub record Formed (d : Day) (a : Plan) : Type 0 where
 
 -- ---- the same as tests that compute
 
+-- i, j, k are not three different, or (i, k) is at most (i, j) + (j, k)
 abbrev pub shortestAt : (ℕ → ℕ → ℕ) → ℕ → ℕ → ℕ → Bool
 shortestAt t i j k = eqb i j || eqb j k || eqb i k || leb (t i k) (t i j + t j k)
 
-abbrev pub shortestTest : ℕ → (ℕ → ℕ → ℕ) → Bool
-shortestTest n t = allBelow n (λ i. allBelow n (λ j. allBelow n (λ k. shortestAt t i j k)))
+-- of every k; of every j and k; of every i, j and k
+unfoldable pub shortestLine : ℕ → (ℕ → ℕ → ℕ) → ℕ → ℕ → Bool
+shortestLine n t i j = allBelow n (shortestAt t i j)
+
+unfoldable pub shortestRow : ℕ → (ℕ → ℕ → ℕ) → ℕ → Bool
+shortestRow n t i = allBelow n (shortestLine n t i)
+
+unfoldable pub triangle : ℕ → (ℕ → ℕ → ℕ) → Bool
+triangle n t = allBelow n (shortestRow n t)
 
 abbrev pub triangleTest : Day → Bool
-triangleTest d = shortestTest (d .n) (d .seconds) && shortestTest (d .n) (d .metres)
+triangleTest d = triangle (d .n) (d .seconds) && triangle (d .n) (d .metres)
 
 -- no refusal 4 between two jobs: not one node with two clean jobs, two soiled jobs or two transfer ends
 abbrev pub noClash : Job → Job → Bool

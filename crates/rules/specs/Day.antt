@@ -1,6 +1,8 @@
 -- What a sheet says: the day, which all vans share. (The van is declared in src/.)
-use Prim.Native.Nat.{ℕ, zero, suc, _-_}
+use Prim.Native.Nat.{ℕ, zero, suc, _+_, _-_}
+use mathlib.Core.Bool.{Bool, _&&_}
 use mathlib.Core.List.{List, [], _∷_}
+use lib.Dec.{leb, ltb}
 use Rattle.rules.specs.declared.Job.{Job}
 
 -- sections 2 to 5: n nodes, node 0 the start, node n − 1 the end; the jobs; the tables
@@ -17,6 +19,10 @@ pub record Day : Type 0 where
 abbrev pub downFrom : ℕ → List ℕ
 downFrom zero = []
 downFrom (suc m) = suc m ∷ downFrom m
+
+-- x is between 1 and n − 2, of n nodes
+unfoldable pub isInner : ℕ → ℕ → Bool
+isInner n x = leb 1 x && ltb (x + 1) n
 
 -- the nodes 1 to n − 2
 abbrev pub inner : Day → List ℕ

@@ -11,7 +11,7 @@ use Rattle.rules.specs.Rounds.{Distinct}
 use Rattle.rules.specs.Asked.{endsWith}
 
 -- a round of the day: distinct nodes from 0 to n − 1
-pub record Round (d : Day) (R : List ℕ) : Type 0 where
+pub record RoundOf (d : Day) (R : List ℕ) : Type 0 where
   pub nodes : Distinct (d .n) R
   pub starts : hd R ≡ 0
   pub ends : T (endsWith (d .n - 1) R)
@@ -39,18 +39,18 @@ count f [] = 0
 count f (x ∷ l) = cond (f x) 1 0 + count f l
 
 -- `Within` as a test, for a round of distinct nodes and places of nodes off the route
-abbrev pub within : Places → ℕ → List ℕ → List ℕ → Bool
-within o p [] [] = true
-within o p (k ∷ r) [] = false
-within o p [] (x ∷ R) = false
-within o p (k ∷ r) (x ∷ R) = cond (eqb x k) (within o x r R) (o x p && within o p (k ∷ r) R)
+abbrev pub withinTest : Places → ℕ → List ℕ → List ℕ → Bool
+withinTest o p [] [] = true
+withinTest o p (k ∷ r) [] = false
+withinTest o p [] (x ∷ R) = false
+withinTest o p (k ∷ r) (x ∷ R) = cond (eqb x k) (withinTest o x r R) (o x p && withinTest o p (k ∷ r) R)
 
 -- `Inside` as a test
-abbrev pub inside : Places → List ℕ → List ℕ → Bool
-inside o [] R = false
-inside o (z ∷ r) [] = false
-inside o (z ∷ r) (y ∷ R) = eqb z y && within o z r R
+abbrev pub insideTest : Places → List ℕ → List ℕ → Bool
+insideTest o [] R = false
+insideTest o (z ∷ r) [] = false
+insideTest o (z ∷ r) (y ∷ R) = eqb z y && withinTest o z r R
 
 -- the round belongs to a plan: `Belongs` as a test, for a round of the day
 abbrev pub belongs : Day → Plan → List ℕ → Bool
-belongs d a R = inside (a .places) (a .route) R && all (λ x. not (a .marks x) || mem x R) (inner d)
+belongs d a R = insideTest (a .places) (a .route) R && all (λ x. not (a .marks x) || mem x R) (inner d)

@@ -91,6 +91,11 @@ p12k : count (λ R. belongs day (fresh day) R && keeps (van 2 60) day R) (everyR
 unfolding everyRound keeps
 p12k = refl
 
+-- metre limit 29: none
+p8k : count (λ R. belongs day (fresh day) R && keeps (van 2 29) day R) (everyRound day) ≡ 0
+unfolding everyRound keeps
+p8k = refl
+
 -- a clean job is aboard before its node, a soiled one after it
 clean-before : aboard (0 ∷ []) (1 ∷ 3 ∷ []) (Clean 1 2) ≡ 2
 clean-before = refl

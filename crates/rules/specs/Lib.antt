@@ -1,8 +1,10 @@
--- Document 01, in its own order. Refusal: its table of refusal numbers. Step: the kinds of steps. Day: what a sheet says. Leg: the route cut in two. Time: E and L. Metres. Load: H.
--- Plan: a state's route, places and marks. Rounds: which belong, which keep the rules. Steps: what each step does to a plan.
--- Tests: the six tests of settling. Settle: a round of settling, settling, the count of striking rounds. Verdict: owed, alive.
--- Worked: runs, and the state that demand 3 works out. Asked: what the theorems ask of a day and a plan, as tests that compute.
--- Every: all rounds of a small day. Along: E, L and H by the stop's place on the route. Examples: small days, computed.
+-- Document 01, in its own order. Refusal: its table of refusal numbers. Step: the kinds of steps. Day: what a sheet says.
+-- Leg: the route cut in two. Time: E and L. Metres. Load: H. Plan: a state's route, places and marks.
+-- Rounds: which belong, the four rules, which rounds keep them. Steps: what each step does to a plan.
+-- Tests: the six tests of settling. Settle: a round of settling, settling, the count of striking rounds.
+-- Verdict: owed, the five checks, alive. Worked: runs, and the state that demand 3 works out.
+-- Asked: what the theorems ask of a day and a plan, as tests that compute. Every: all rounds of a small day.
+-- Along: E, L and H by the stop's place on the route. Examples: small days, computed.
 pub mod Refusal
 pub mod Step
 pub mod Day

@@ -28,7 +28,7 @@ pub data Within (o : Places) : ℕ → List ℕ → List ℕ → Type 0 where
 
 -- the same of whole rounds: both leave the start
 pub data Inside (o : Places) : List ℕ → List ℕ → Type 0 where
-  start : {z : ℕ} {r R : List ℕ} → Within o z r R → Inside o (z ∷ r) (z ∷ R)
+  both : {z : ℕ} {r R : List ℕ} → Within o z r R → Inside o (z ∷ r) (z ∷ R)
 
 -- the round R belongs to the plan
 pub record Belongs (d : Day) (a : Plan) (R : List ℕ) : Type 0 where
@@ -41,12 +41,39 @@ abbrev pub ordered : ℕ → ℕ → List ℕ → Bool
 ordered a b [] = true
 ordered a b (x ∷ R) = cond (eqb x a) (mem b R) (not (eqb x b) && ordered a b R)
 
--- each transfer has both nodes in the round, first before second, or neither
+-- the same of a job: only a transfer has an order
 abbrev pub inOrder : List ℕ → Job → Bool
 inOrder R (Clean a w) = true
 inOrder R (Soiled a w) = true
 inOrder R (Transfer a b w) = ordered a b R
 
--- the round keeps the rules: starts, metres, transfers, loads
-unfoldable pub keeps : Van → Day → List ℕ → Bool
-keeps v d R = onTime d [] R && leb (driven d R) (v .limit) && all (inOrder R) (d .jobs) && everyLeg (carries v d) R
+-- ---- the rules
+
+-- asked of the stops of a round, by van and day
+abbrev pub Rule : Type 0
+Rule = Van → Day → List ℕ → Bool
+
+-- "start at 0 is its earliest; each later start is the larger of its earliest and (previous start + previous service + seconds); no start
+-- is above its latest"
+abbrev pub windowRule : Rule
+windowRule v d R = onTime d [] R
+
+-- "the sum of metres is at most the limit"
+abbrev pub metreRule : Rule
+metreRule v d R = leb (driven d R) (v .limit)
+
+-- "each transfer has both nodes in the round, first before second, or neither"
+abbrev pub transferRule : Rule
+transferRule v d R = all (inOrder R) (d .jobs)
+
+-- "on every leg the loads aboard sum to at most the capacity. Clean and soiled jobs count if their node is in the round."
+abbrev pub loadRule : Rule
+loadRule v d R = everyLeg (carries v d) R
+
+-- all of them
+abbrev pub rules : List Rule
+rules = windowRule ∷ metreRule ∷ transferRule ∷ loadRule ∷ []
+
+-- the round keeps the rules
+unfoldable pub keeps : Rule
+keeps v d R = all (λ r. r v d R) rules

@@ -2,15 +2,12 @@
 use Prim.Native.Nat.{ℕ}
 use mathlib.Core.Bool.{Bool, false, cond, not, _&&_, _||_}
 use mathlib.Core.List.{List, [], _∷_}
-use lib.Dec.{leb, eqb}
+use lib.Dec.{eqb}
 use Rattle.laws.specs.Lists.{mem, all, any}
 use Rattle.rules.specs.Day.{Day, inner}
 use Rattle.rules.specs.declared.Van.{Van}
-use Rattle.rules.specs.Leg.{everyLeg}
-use Rattle.rules.specs.Time.{onTime}
-use Rattle.rules.specs.Metres.{driven}
-use Rattle.rules.specs.Load.{carries}
 use Rattle.rules.specs.Plan.{Plan, Marks}
+use Rattle.rules.specs.Rounds.{Rule, windowRule, metreRule, loadRule}
 use Rattle.rules.specs.declared.Job.{Job}
 use Rattle.rules.specs.declared.Job.the-variants.{Clean, Soiled, Transfer}
 
@@ -39,9 +36,28 @@ wrongWay R (Clean a w) = false
 wrongWay R (Soiled a w) = false
 wrongWay R (Transfer a b w) = wrong a b R
 
--- dead if an owed node has no open place, or the route breaks window, metre or load rule or has a transfer in wrong order; otherwise alive
-unfoldable pub alive : Van → Day → Plan → Bool
-alive v d a =
-    all (λ x. not (owed d (a .route) (a .marks) x) || hasPlace a x) (inner d)
-    && onTime d [] (a .route) && leb (driven d (a .route)) (v .limit) && everyLeg (carries v d) (a .route)
-    && all (λ j. not (wrongWay (a .route) j)) (d .jobs)
+-- ---- the checks: 01 says when a state is dead, and a check here is passed exactly where 01's does not find it so
+
+-- asked of a plan, by van and day
+abbrev pub Check : Type 0
+Check = Van → Day → Plan → Bool
+
+-- not "an owed node has no open place"
+abbrev pub owedOpen : Check
+owedOpen v d a = all (λ x. not (owed d (a .route) (a .marks) x) || hasPlace a x) (inner d)
+
+-- not "the route breaks" the rule
+abbrev pub ofRoute : Rule → Check
+ofRoute r v d a = r v d (a .route)
+
+-- not "has a transfer in wrong order"
+abbrev pub noneWrong : Rule
+noneWrong v d R = all (λ j. not (wrongWay R j)) (d .jobs)
+
+-- all of them
+abbrev pub checks : List Check
+checks = owedOpen ∷ ofRoute windowRule ∷ ofRoute metreRule ∷ ofRoute loadRule ∷ ofRoute noneWrong ∷ []
+
+-- alive: not dead
+unfoldable pub alive : Check
+alive v d a = all (λ c. c v d a) checks

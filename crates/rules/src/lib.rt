@@ -29,8 +29,12 @@ impl Node {
     pub const MOST: usize = 64;
 }
 
-// A step that a sheet or a caller asks for, named by its kind.
-pub struct Step;
+// A step that a sheet or a caller asks for: its kind, and two words for the nodes that it names.
+pub struct Step {
+    pub kind: usize,
+    pub first: usize,
+    pub second: usize,
+}
 
 impl Step {
     // The most steps that a sheet has.
