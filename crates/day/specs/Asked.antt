@@ -1,34 +1,31 @@
--- What the refusals give the theorems: the jobs of a sheet that 1 to 4 do not refuse, and the tables of one that 5 does not refuse either.
-use Prim.Native.Nat.{ℕ, _+_, _-_, _<_}
+-- What the refusals give the theorems: the jobs of a sheet that a call does not refuse, and the tables of one that opening does not refuse either.
+use Prim.Native.Nat.{ℕ, _<_}
 use mathlib.Core.Path.{_≡_, refl, sym, ap, _∙_}
 use mathlib.Core.Bool.{true, false, not, _&&_, _||_}
 use mathlib.Core.List.{List}
 use mathlib.Core.Logic.{⊎-elim, _⊎_, inl, inr, _≢_}
 use native.Mathlib.Omega.{arith}
-use lib.Dec.{leb, ltb, eqb}
-use borrow.Author.Tests.{not-true, leb-true, ltb-true, ltb-false, eqb-false, ne-eqb}
+use lib.Dec.{ltb, eqb}
+use borrow.Author.Tests.{not-true, ltb-true, ltb-false, eqb-false}
 use Rattle.laws.specs.Logic.{decided, and-true, or-false}
-use Rattle.laws.specs.Lists.{In, mem-in}
+use Rattle.laws.specs.Lists.{In}
 use Rattle.laws.specs.Choice.{or-else-zero, unless-zero}
 use Rattle.laws.specs.Below.{below-at}
 use Rattle.laws.specs.Table.{At, in-tab}
-use Rattle.sheet.specs.Rule.{isInner}
 use Rattle.sheet.specs.Section.{nOf, mOf}
-use Rattle.rules.specs.Day.{downFrom}
-use Rattle.rules.proofs.Inner.{mem-down}
-use Rattle.rules.specs.Asked.{Shortest, Triangle, OneEnd, Proper}
+use Rattle.rules.specs.Day.{isInner}
+use Rattle.rules.proofs.Inner.{is-inner-in}
+use Rattle.rules.specs.Asked.{triangle, Triangle, OneEnd, Proper}
+use Rattle.rules.proofs.Given.{shortest-of}
 use Rattle.rules.specs.declared.Job.the-variants.{Transfer}
 use Rattle.day.specs.Jobs.{jobIn, loadOk, jobFine}
 use Rattle.day.specs.Twice.{clash, apartAt, apart}
 use Rattle.day.specs.Fit.{fine-job}
-use Rattle.day.specs.Tables.{shortest, shortestLine, shortestRow, triangle}
-use Rattle.day.specs.Refuse.{secondsOf, metresOf, callRefusal, openRefusal, call-fine}
+use Rattle.day.specs.Tables.{secondsOf, metresOf}
+use Rattle.day.specs.Refuse.{callRefusal, openRefusal, call-fine}
 use Rattle.day.specs.Tell.{dayOf}
 
 -- ---- the nodes of a transfer
-
-inner-in : (n x : ℕ) → isInner n x ≡ true → In x (downFrom (n - 2))
-inner-in n x e = let p = and-true (leb 1 x) (leb x (n - 2)) e in mem-in x (downFrom (n - 2)) (mem-down (n - 2) x (leb-true 1 x (p .0)) (leb-true x (n - 2) (p .1)))
 
 pub proper : (s : List ℕ) → callRefusal s ≡ 0 → Proper (dayOf s)
 proper s h = record {
@@ -37,7 +34,7 @@ proper s h = record {
       let q : jobFine (nOf s) (Transfer a b w) ≡ true = ap (jobFine (nOf s)) (sym (p .is)) ∙ fine-job s (call-fine s h) (p .k) (p .low) in
       let r = and-true (isInner (nOf s) a && isInner (nOf s) b) (not (eqb a b)) (and-true _ (loadOk w) q .0) in
       let t = and-true (isInner (nOf s) a) (isInner (nOf s) b) (r .0) in
-      (inner-in (nOf s) a (t .0), inner-in (nOf s) b (t .1), eqb-false a b (not-true (eqb a b) (r .1)));
+      (is-inner-in (nOf s) a (t .0), is-inner-in (nOf s) b (t .1), eqb-false a b (not-true (eqb a b) (r .1)));
 }
 
 -- ---- a node has at most one transfer end
@@ -52,7 +49,7 @@ module _ (s : List ℕ) (h : callRefusal s ≡ 0) where
   pair k j a b =
       not-true (clash (jobIn s k) (jobIn s j))
       (below-at k j (λ j. not (clash (jobIn s k) (jobIn s j)))
-      (below-at (mOf s) k (apartAt (jobIn s)) (unless-zero _ 3 (or-else-zero _ _ h .1)) a) b)
+      (below-at (mOf s) k (apartAt (jobIn s)) (unless-zero _ _ (or-else-zero _ _ h .1)) a) b)
 
   differ : (k j : ℕ) {a b w c d v : ℕ} → k < mOf s → j < k → jobIn s k ≡ Transfer a b w → jobIn s j ≡ Transfer c d v
       → (a ≢ c) × (a ≢ d) × (b ≢ c) × (b ≢ d)
@@ -87,14 +84,8 @@ module _ (s : List ℕ) (h : callRefusal s ≡ 0) where
 
 -- ---- the triangle rule
 
-shorter : (n : ℕ) (t : ℕ → ℕ → ℕ) → triangle n t ≡ true → Shortest n t
-unfolding triangle shortestRow shortestLine
-shorter n t e i j k a b c ij jk ik =
-    let p : shortest t i j k ≡ true = below-at n k (shortest t i j) (below-at n j (shortestLine n t i) (below-at n i (shortestRow n t) e a) b) c in
-    leb-true (t i k) (t i j + t j k) (rw (ne-eqb i j ij, ne-eqb j k jk, ne-eqb i k ik) at p)
-
 pub short-tables : (s : List ℕ) → openRefusal s ≡ 0 → Triangle (dayOf s)
 unfolding openRefusal
 short-tables s h =
-    let p = and-true (triangle (nOf s) (secondsOf s)) (triangle (nOf s) (metresOf s)) (unless-zero _ 4 (or-else-zero _ _ h .1)) in
-    record { seconds = shorter (nOf s) (secondsOf s) (p .0); metres = shorter (nOf s) (metresOf s) (p .1) }
+    let p = and-true (triangle (nOf s) (secondsOf s)) (triangle (nOf s) (metresOf s)) (unless-zero _ _ (or-else-zero _ _ h .1)) in
+    record { seconds = shortest-of (nOf s) (secondsOf s) (p .0); metres = shortest-of (nOf s) (metresOf s) (p .1) }

@@ -5,11 +5,13 @@ use mathlib.Core.List.{List, [], _∷_}
 use Rattle.laws.specs.Below.{allBelow}
 use Rattle.laws.specs.Choice.{orElse}
 use Rattle.sheet.specs.Word.{wordAt}
-use Rattle.sheet.specs.Section.{headRefusal, limitsRefusal, nodesRefusal, jobsRefusal, tableRefusal, stepsRefusal, tablesRefusal, laterRefusal, readRefusal}
+use Rattle.sheet.specs.Section.{headRefusal, limitsRefusal, nodesRefusal, jobsRefusal, tableRefusal, stepsRefusal, laterRefusal, readRefusal}
+use Rattle.rules.specs.Day.{isInner}
+use Rattle.rules.specs.Asked.{shortestLine, shortestRow, triangle}
 use Rattle.rules.specs.declared.Job.the-variants.{Transfer}
 use Rattle.day.specs.Jobs.{jobAt, jobIn}
 use Rattle.day.specs.Twice.{clash, apart}
-use Rattle.day.specs.Tables.{cell, shortestLine, shortestRow, triangle}
+use Rattle.day.specs.Tables.{cell}
 use Rattle.day.specs.Refuse.{callRefusal, openRefusal}
 use Rattle.day.specs.Section.{spanOf, sectionOf}
 use Rattle.day.specs.Tell.{dayOf}
@@ -52,7 +54,7 @@ record Computed : Type 0 where
   pub refused5 : sectionOf (altered 31 8) 3 ≡ 3 ▸ 1 ▸ 2 ▸ 2 ▸ []
 
 computed : Computed
-unfolding wordAt allBelow orElse headRefusal limitsRefusal nodesRefusal jobsRefusal tableRefusal stepsRefusal tablesRefusal laterRefusal readRefusal jobAt clash apart cell shortestLine shortestRow triangle callRefusal openRefusal spanOf sectionOf
+unfolding wordAt allBelow orElse headRefusal limitsRefusal nodesRefusal jobsRefusal tableRefusal stepsRefusal laterRefusal readRefusal isInner jobAt clash apart cell shortestLine shortestRow triangle callRefusal openRefusal spanOf sectionOf
 computed = record {
   accepted = refl;
   left-over = refl;

@@ -1,18 +1,20 @@
 -- What the refusals give: the jobs of an accepted sheet, by cases.
-use Prim.Native.Nat.{ℕ, _+_, _-_, _*_, _<_, _≤_}
+use Prim.Native.Nat.{ℕ, _+_, _*_, _<_, _≤_}
 use mathlib.Core.Path.{_≡_, sym, ap, _∙_, subst}
 use mathlib.Core.Bool.{true, not, _&&_, _||_, or-false}
 use mathlib.Core.List.{List, [], _∷_}
 use native.Mathlib.Omega.{arith}
-use lib.Dec.{leb, eqb}
-use borrow.Author.Tests.{leb-true, eqb-true}
+use lib.Dec.{eqb}
+use borrow.Author.Tests.{eqb-true}
 use Rattle.laws.specs.Logic.{decided, and-true}
 use Rattle.laws.specs.Below.{below-at}
-use Rattle.sheet.specs.Word.{wordAt}
-use Rattle.sheet.specs.Rule.{isInner, jobOk, jobAtOk}
-use Rattle.sheet.specs.Section.{nOf, mOf, jobsAt}
+use Rattle.sheet.specs.Word.{jobWords, wordAt}
+use Rattle.sheet.specs.Rule.{jobOk, jobAtOk}
+use Rattle.sheet.specs.Section.{nOf, mOf, jobsFrom}
 use Rattle.sheet.specs.Place.{Fine, Laid}
 use Rattle.sheet.specs.declared.Layout.{Layout}
+use Rattle.rules.specs.Day.{isInner}
+use Rattle.rules.proofs.Inner.{is-inner}
 use Rattle.rules.specs.declared.Job.{Job}
 use Rattle.rules.specs.declared.Job.the-variants.{Clean, Soiled, Transfer}
 use Rattle.day.specs.Jobs.{jobOf, jobAt, jobIn, wordsOf, loadOk, jobFine}
@@ -44,7 +46,7 @@ module _ (n k a b l : ℕ) (h : jobOk n k a b l ≡ true) where
       let q = eqb-true k 3 (and-true (eqb k 3) (isInner n b && not (eqb a b)) x .0) in rw (e, f, q)))
 
 inner-low : (n x : ℕ) → n ≤ 64 → isInner n x ≡ true → x < 64
-inner-low n x h e = let z = leb-true x (n - 2) (and-true (leb 1 x) (leb x (n - 2)) e .1) in omega arith
+inner-low n x h e = omega (arith, is-inner n x e .1)
 
 placed : (n : ℕ) (q : Job) → n ≤ 64 → jobFine n q ≡ true → Placed q
 placed n (Clean a w) h e = inner-low n a h (and-true _ _ e .0)
@@ -52,17 +54,17 @@ placed n (Soiled a w) h e = inner-low n a h (and-true _ _ e .0)
 placed n (Transfer a b w) h e = let p = and-true _ _ (and-true _ _ (and-true _ _ e .0) .0) in (inner-low n a h (p .0), inner-low n b h (p .1))
 
 module _ (s : List ℕ) (f : Fine s) (i : ℕ) (h : i < mOf s) where
-  ok : jobAtOk s (nOf s) (jobsAt (nOf s) + 1) i ≡ true
-  ok = below-at (mOf s) i (jobAtOk s (nOf s) (jobsAt (nOf s) + 1)) (f .jobs) h
+  ok : jobAtOk s (nOf s) (jobsFrom s) i ≡ true
+  ok = below-at (mOf s) i (jobAtOk s (nOf s) (jobsFrom s)) (f .jobs) h
 
   pub fine-job : jobFine (nOf s) (jobIn s i) ≡ true
   unfolding jobAt
-  fine-job = let p = jobsAt (nOf s) + 1 + 4 * i in job-fine (nOf s) (wordAt s p) (wordAt s (p + 1)) (wordAt s (p + 2)) (wordAt s (p + 3)) ok
+  fine-job = let p = jobsFrom s + jobWords * i in job-fine (nOf s) (wordAt s p) (wordAt s (p + 1)) (wordAt s (p + 2)) (wordAt s (p + 3)) ok
 
   -- the words of the i-th job are the sheet's
-  pub same-words : let p = jobsAt (nOf s) + 1 + 4 * i in wordsOf (jobIn s i) ≡ wordAt s p ∷ wordAt s (p + 1) ∷ wordAt s (p + 2) ∷ wordAt s (p + 3) ∷ []
+  pub same-words : let p = jobsFrom s + jobWords * i in wordsOf (jobIn s i) ≡ wordAt s p ∷ wordAt s (p + 1) ∷ wordAt s (p + 2) ∷ wordAt s (p + 3) ∷ []
   unfolding jobAt
-  same-words = let p = jobsAt (nOf s) + 1 + 4 * i in job-words (nOf s) (wordAt s p) (wordAt s (p + 1)) (wordAt s (p + 2)) (wordAt s (p + 3)) ok
+  same-words = let p = jobsFrom s + jobWords * i in job-words (nOf s) (wordAt s p) (wordAt s (p + 1)) (wordAt s (p + 2)) (wordAt s (p + 3)) ok
 
   pub placed-job : Placed (jobIn s i)
   placed-job = placed (nOf s) (jobIn s i) (f .n-high) fine-job

@@ -3,9 +3,9 @@ use Prim.Native.Nat.{ℕ, _+_, _*_}
 use mathlib.Core.Bool.{Bool, cond, _&&_, not}
 use mathlib.Core.List.{List, [], _∷_}
 use lib.Dec.{leb, eqb}
-use Rattle.sheet.specs.Word.{wordAt}
-use Rattle.sheet.specs.Rule.{isInner}
-use Rattle.sheet.specs.Section.{nOf, jobsAt}
+use Rattle.sheet.specs.Word.{jobWords, wordAt}
+use Rattle.sheet.specs.Section.{jobsFrom}
+use Rattle.rules.specs.Day.{isInner}
 use Rattle.rules.specs.declared.Job.{Job}
 use Rattle.rules.specs.declared.Job.the-variants.{Clean, Soiled, Transfer}
 
@@ -27,11 +27,11 @@ jobOf kind a b load = cond (eqb kind 1) (Clean a load) (cond (eqb kind 2) (Soile
 
 -- the i-th job of a section whose entries begin at word `from`
 unfoldable pub jobAt : List ℕ → ℕ → ℕ → Job
-jobAt s from i = jobOf (wordAt s (from + 4 * i)) (wordAt s (from + 4 * i + 1)) (wordAt s (from + 4 * i + 2)) (wordAt s (from + 4 * i + 3))
+jobAt s from i = let p = from + jobWords * i in jobOf (wordAt s p) (wordAt s (p + 1)) (wordAt s (p + 2)) (wordAt s (p + 3))
 
 -- the i-th job of the sheet
 abbrev pub jobIn : List ℕ → ℕ → Job
-jobIn s = jobAt s (jobsAt (nOf s) + 1)
+jobIn s = jobAt s (jobsFrom s)
 
 -- what the rules of the sheet's words make of a job, by cases
 abbrev pub loadOk : ℕ → Bool

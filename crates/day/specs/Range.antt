@@ -12,7 +12,7 @@ use Rattle.laws.specs.Below.{allBelow, below-at}
 use Rattle.laws.specs.Table.{length-tab}
 use Rattle.sheet.specs.Word.{wordAt}
 use Rattle.sheet.specs.Rule.{nodeAtOk, entryOk}
-use Rattle.sheet.specs.Section.{nOf, mOf}
+use Rattle.sheet.specs.Section.{nOf, mOf, nodesFrom}
 use Rattle.sheet.specs.Place.{Fine, Laid}
 use Rattle.sheet.specs.declared.Layout.{Layout}
 use Rattle.rules.specs.Day.{Day}
@@ -20,7 +20,7 @@ use Rattle.rules.specs.declared.Van.{Van}
 use Rattle.day.specs.Tables.{cell}
 use Rattle.day.specs.Row.{Table, row-low, entry-low}
 use Rattle.day.specs.Jobs.{jobIn}
-use Rattle.day.specs.Tell.{vanOf, dayOf, Told}
+use Rattle.day.specs.Tell.{vanOf, nodeAt, dayOf, Told}
 
 pub record Ranges (v : Van) (d : Day) : Type 0 where
   pub n-low : 2 ≤ d .n
@@ -37,14 +37,14 @@ pub record Ranges (v : Van) (d : Day) : Type 0 where
 module _ (s : List ℕ) (f : Fine s) where
   -- the three words of a node
   record NodeFine (x : ℕ) : Type 0 where
-    pub earliest : wordAt s (4 + 3 * x) ≤ wordAt s (4 + 3 * x + 1)
-    pub latest : wordAt s (4 + 3 * x + 1) ≤ 1000000
-    pub service : wordAt s (4 + 3 * x + 2) ≤ 1000000
+    pub earliest : wordAt s (nodeAt s x) ≤ wordAt s (nodeAt s x + 1)
+    pub latest : wordAt s (nodeAt s x + 1) ≤ 1000000
+    pub service : wordAt s (nodeAt s x + 2) ≤ 1000000
 
   node-fine : (x : ℕ) → x < nOf s → NodeFine x
   node-fine x h =
-      let p = 4 + 3 * x in
-      let e = and-true (leb (wordAt s p) (wordAt s (p + 1)) && leb (wordAt s (p + 1)) 1000000) (leb (wordAt s (p + 2)) 1000000) (below-at (nOf s) x (nodeAtOk s 4) (f .nodes) h) in
+      let p = nodeAt s x in
+      let e = and-true (leb (wordAt s p) (wordAt s (p + 1)) && leb (wordAt s (p + 1)) 1000000) (leb (wordAt s (p + 2)) 1000000) (below-at (nOf s) x (nodeAtOk s (nodesFrom s)) (f .nodes) h) in
       let d = and-true (leb (wordAt s p) (wordAt s (p + 1))) (leb (wordAt s (p + 1)) 1000000) (e .0) in
       record { earliest = leb-true _ _ (d .0); latest = leb-true _ _ (d .1); service = leb-true _ _ (e .1) }
 
@@ -54,7 +54,7 @@ module _ (s : List ℕ) (f : Fine s) where
 
   pub ranges : Ranges (vanOf s) (dayOf s)
   ranges =
-      let l = and-true (leb (wordAt s 1) 1000) (leb (wordAt s 2) 1000000) (f .limits) in
+      let l = and-true (leb (vanOf s .capacity) 1000) (leb (vanOf s .limit) 1000000) (f .limits) in
       record {
         n-low = f .n-low;
         n-high = f .n-high;

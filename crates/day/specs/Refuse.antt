@@ -1,38 +1,35 @@
--- The refusals 1 to 5: "then leftovers, 4, 5".
-use Prim.Native.Nat.{ℕ, _+_}
+-- What a call on a sheet and its opening check: "then leftovers, 4, 5".
+use Prim.Native.Nat.{ℕ}
 use mathlib.Core.Bool.{_&&_}
 use mathlib.Core.List.{List}
 use mathlib.Core.Path.{_≡_}
 use Rattle.laws.specs.Choice.{orElse, unless, or-else-zero}
 use Rattle.rules.specs.Refusal.{TWICE, TRIANGLE}
-use Rattle.sheet.specs.Section.{readRefusal, nOf, mOf, secondsAt, metresAt}
-use Rattle.sheet.specs.Place.{Fine, fine}
+use Rattle.rules.specs.Asked.{triangle}
+use Rattle.sheet.specs.Section.{readRefusal, nOf, mOf}
+use Rattle.sheet.specs.Place.{Fine, fine, Laid, found, found-laid}
+use Rattle.sheet.specs.declared.Found.{Found}
 use Rattle.day.specs.Jobs.{jobIn}
 use Rattle.day.specs.Twice.{apart}
-use Rattle.day.specs.Tables.{cell, triangle}
+use Rattle.day.specs.Tables.{secondsOf, metresOf}
 
--- the tables of the sheet
-abbrev pub secondsOf : List ℕ → ℕ → ℕ → ℕ
-secondsOf s = cell s (secondsAt (nOf s) (mOf s) + 1) (nOf s)
-
-abbrev pub metresOf : List ℕ → ℕ → ℕ → ℕ
-metresOf s = cell s (metresAt (nOf s) (mOf s) + 1) (nOf s)
-
+-- "a node with two jobs of one kind, or two transfer ends"
 abbrev pub twiceRefusal : List ℕ → ℕ
 twiceRefusal s = unless (apart (jobIn s) (mOf s)) TWICE
 
+-- "for some three different i, j, k: seconds or metres (i, k) above (i, j) + (j, k)"
 abbrev pub triangleRefusal : List ℕ → ℕ
 triangleRefusal s = unless (triangle (nOf s) (secondsOf s) && triangle (nOf s) (metresOf s)) TRIANGLE
 
--- 1 to 4, or 0: what every call on a sheet asks
+-- what every call on a sheet checks, or 0
 unfoldable pub callRefusal : List ℕ → ℕ
 callRefusal s = orElse (readRefusal s) (twiceRefusal s)
 
--- 1 to 5, or 0: what opening asks
+-- what opening checks, or 0
 unfoldable pub openRefusal : List ℕ → ℕ
 openRefusal s = orElse (callRefusal s) (triangleRefusal s)
 
--- a refusal of fewer numbers comes first
+-- opening checks what every call does, and a call what reading the sections does
 pub call-zero : (s : List ℕ) → openRefusal s ≡ 0 → callRefusal s ≡ 0
 unfolding openRefusal
 call-zero s h = or-else-zero _ _ h .0
@@ -43,3 +40,10 @@ read-zero s h = or-else-zero _ _ h .0
 
 pub call-fine : (s : List ℕ) → callRefusal s ≡ 0 → Fine s
 call-fine s h = fine s (read-zero s h)
+
+-- the layout that a check hands on where it refuses nothing
+pub call-laid : (s : List ℕ) {r : Found} → r ≡ found callRefusal s → r .answer ≡ 0 → Laid s (r .layout)
+call-laid s = found-laid callRefusal s (read-zero s)
+
+pub open-laid : (s : List ℕ) {r : Found} → r ≡ found openRefusal s → r .answer ≡ 0 → Laid s (r .layout)
+open-laid s = found-laid openRefusal s (λ z. read-zero s (call-zero s z))

@@ -17,7 +17,8 @@ use Rattle.laws.specs.Below.{allBelow, below-at, below-make, below-same}
 use Rattle.laws.specs.Table.{Filled}
 use Rattle.sheet.specs.Word.{words, wordAt}
 use Rattle.sheet.specs.Rule.{entryOk}
-use Rattle.day.specs.Tables.{cell, shortest, shortestLine}
+use Rattle.rules.specs.Asked.{shortestAt, shortestLine}
+use Rattle.day.specs.Tables.{cell}
 
 -- entry k of row i, whose entries begin at word `at`
 abbrev pub rowAt : List ℕ → ℕ → ℕ → ℕ → ℤ
@@ -64,7 +65,7 @@ first-low s at n i j row e p h q =
     (decided {P = mag (rowAt s at i j) ≤ 1000000} (eqb j i) (λ z. rw z (omega arith)) (λ z. rw z (entry-low s at n j e h)))
 
 -- with 0 at the diagonal, the bare test is the rule
-spared : (t : ℕ → ℕ → ℕ) (i j k : ℕ) → leb (cond (eqb k i) 0 (t i k)) (cond (eqb j i) 0 (t i j) + t j k) ≡ shortest t i j k
+spared : (t : ℕ → ℕ → ℕ) (i j k : ℕ) → leb (cond (eqb k i) 0 (t i k)) (cond (eqb j i) 0 (t i j) + t j k) ≡ shortestAt t i j k
 spared t i j k =
     decided (eqb k i)
     (λ e. rw (e, eq-eqb i k (sym (eqb-true k i e))) (le-leb 0 (cond (eqb j i) 0 (t i j) + t j k) (omega arith) ∙ sym (third (eqb i j) (eqb j k) (leb (t i k) (t i j + t j k)))))
@@ -85,5 +86,5 @@ pub line-is : (s : List ℕ) (from n i j : ℕ) (row : List ℤ) {first : ℤ} �
     → first ≡ getD row j (pos 0) → allBelow n (lineOk s row first (from + j * n)) ≡ shortestLine n (cell s from n) i j
 unfolding shortestLine cell
 line-is s from n i j row {first} p h q =
-    below-same n (lineOk s row first (from + j * n)) (shortest (cell s from n) i j)
+    below-same n (lineOk s row first (from + j * n)) (shortestAt (cell s from n) i j)
     (λ k l. rw (q, p .at k l, p .at j h) (spared (cell s from n) i j k))

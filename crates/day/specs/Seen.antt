@@ -1,4 +1,4 @@
--- One pass that finds two jobs that clash: the nodes met so far as three words, and the laws that make it refusal 4's test.
+-- One pass that finds two jobs that clash: the nodes met so far as three words, and the laws that make it the test for all pairs.
 use Prim.Native.Nat.{ℕ, _+_, _<_}
 use mathlib.Core.Path.{_≡_, refl, sym, ap, ap₂, _∙_}
 use mathlib.Core.Bool.{Bool, true, false, not, _&&_, _||_, and-true}

@@ -1,4 +1,4 @@
--- Refusal 4: "A node has at most one clean job, one soiled job and one transfer end."
+-- "A node has at most one clean job, one soiled job and one transfer end."
 use Prim.Native.Nat.{ℕ}
 use mathlib.Core.Bool.{Bool, false, not, _||_}
 use lib.Dec.{eqb}

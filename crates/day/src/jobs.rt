@@ -1,7 +1,7 @@
 // The jobs of a sheet, and whether two of them are one too many for a node.
 ghost use mathlib.Core.Path.{_≡_};
 ghost use Prim.Native.Nat.{_+_, _*_, _<_, _≤_};
-ghost use Rattle.sheet.specs.Word.{words};
+ghost use Rattle.sheet.specs.Word.{jobWords, words};
 ghost use Rattle.sheet.specs.Place.{Laid};
 ghost use Rattle.day.specs.Jobs.{jobAt, jobIn};
 ghost use Rattle.day.specs.Twice.{apart};
@@ -12,10 +12,10 @@ use sheet::word;
 
 // The i-th job of a section whose entries begin at word `from`.
 fn job_at(s: &[u8], from: usize, i: usize) -> Job
-    requires { ⌜ from + 4 * i + 4 ≤ words (now s) ⌝ }
+    requires { ⌜ from + jobWords * i + jobWords ≤ words (now s) ⌝ }
     ensures { λ r. ⌜ r ≡ jobAt (now (s .entry)) from i ⌝ }
 {
-    let p = from + 4 * i;
+    let p = from + Layout::JOB * i;
     let kind = word(s, p);
     let a = word(s, p + 1) as usize;
     let b = word(s, p + 2) as usize;

@@ -1,39 +1,41 @@
-// What a sheet says: its jobs, its tables, the refusals 4 and 5, its sections, and every number of it.
+// What a sheet says: its jobs, its tables, what a call and what opening checks, its sections, and every number of it.
 pub mod jobs;
 pub mod look;
 pub mod tables;
 
 ghost use mathlib.Core.Path.{_≡_};
 ghost use Prim.Native.Nat.{_+_, _*_, _≤_};
+ghost use Rattle.sheet.specs.Place.{found};
 ghost use Rattle.day.specs.Refuse.{callRefusal, openRefusal};
 ghost use Rattle.day.specs.Section.{spanOf, sectionOf};
 use rules::Refusal;
+use sheet::Found;
 use sheet::Layout;
 
-// 1 to 4, or 0: what every call on a sheet asks.
-pub fn refusal_1_to_4(s: &[u8]) -> usize
-    ensures { λ r. ⌜ r ≡ callRefusal (now (s .entry)) ⌝ }
+// What every call on a sheet checks.
+pub fn checked(s: &[u8]) -> Found
+    ensures { λ r. ⌜ r ≡ found callRefusal (now (s .entry)) ⌝ }
 {
-    let a = sheet::refusal_1_to_3(s);
-    if a != 0 {
-        return a;
+    let read = sheet::sections(s);
+    if read.answer != 0 {
+        return read;
     }
-    let l = sheet::layout_of(s);
-    sheet::number_of(jobs::all_apart(s, l), Refusal::TWICE)
+    let ok = jobs::all_apart(s, read.layout);
+    read.judged(ok, Refusal::TWICE)
 }
 
-// 1 to 5, or 0: what opening asks.
-pub fn refusal_1_to_5(s: &[u8]) -> usize
-    ensures { λ r. ⌜ r ≡ openRefusal (now (s .entry)) ⌝ }
+// What opening checks.
+pub fn opening(s: &[u8]) -> Found
+    ensures { λ r. ⌜ r ≡ found openRefusal (now (s .entry)) ⌝ }
 {
-    let a = refusal_1_to_4(s);
-    if a != 0 {
-        return a;
+    let call = checked(s);
+    if call.answer != 0 {
+        return call;
     }
-    let l = sheet::layout_of(s);
+    let l = call.layout;
     let seconds = tables::triangle_ok(s, l.seconds, l.nodes);
     let metres = tables::triangle_ok(s, l.metres, l.nodes);
-    sheet::number_of(seconds & metres, Refusal::TRIANGLE)
+    call.judged(seconds & metres, Refusal::TRIANGLE)
 }
 
 // A stretch of words.
@@ -48,14 +50,17 @@ fn span_of(l: Layout, number: usize) -> Span
     ensures { λ r. ⌜ r ≡ spanOf l number ⌝ }
 {
     match number {
-        1 => Span { from: 1, count: 2 },
+        1 => Span {
+            from: l.van,
+            count: Layout::VAN,
+        },
         2 => Span {
             from: l.node,
-            count: 3 * l.nodes,
+            count: Layout::NODE * l.nodes,
         },
         3 => Span {
             from: l.job,
-            count: 4 * l.jobs,
+            count: Layout::JOB * l.jobs,
         },
         4 => Span {
             from: l.seconds,
@@ -67,22 +72,22 @@ fn span_of(l: Layout, number: usize) -> Span
         },
         6 => Span {
             from: l.step,
-            count: 3 * l.steps,
+            count: Layout::STEP * l.steps,
         },
         _ => Span { from: 0, count: 0 },
     }
 }
 
-// The stretch of the sheet that holds a section's entries, without their count; empty for a sheet that 1 to 4 refuse and for a number that
+// The stretch of the sheet that holds a section's entries, without their count; empty for a sheet that a call refuses and for a number that
 // names no section.
 pub fn section(s: &[u8], number: usize) -> &[u8]
     ensures { λ r. ⌜ now r ≡ sectionOf (now (s .entry)) number ⌝ }
 {
-    if refusal_1_to_4(s) != 0 {
+    let call = checked(s);
+    if call.answer != 0 {
         return &s[..0];
     }
-    let l = sheet::layout_of(s);
-    let p = span_of(l, number);
+    let p = span_of(call.layout, number);
     let from = 4 * p.from;
     let end = from + 4 * p.count;
     &s[from..end]

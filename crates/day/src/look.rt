@@ -1,62 +1,78 @@
 // Every number of an accepted sheet, one word read each.
+ghost use mathlib.Core.Path.{_≡_};
 ghost use Prim.Native.Nat.{_+_, _*_, _<_, _≤_};
-ghost use Rattle.sheet.specs.Word.{words, wordAt, Reads};
-ghost use Rattle.sheet.specs.Place.{Fine, Laid};
+ghost use Rattle.sheet.specs.Word.{stepWords, words, wordAt, Reads};
+ghost use Rattle.sheet.specs.Place.{Laid};
 ghost use Rattle.day.specs.Tables.{cell};
 ghost use Rattle.day.specs.Row.{Table};
-ghost use Rattle.day.specs.Tell.{vanOf, dayOf, stepWord, Told};
+ghost use Rattle.day.specs.Tell.{vanOf, dayOf, stepWord, stepIn, Told};
+use rules::Step;
+use rules::Van;
 use sheet::Layout;
 use sheet::word;
 
-pub fn capacity(s: &[u8]) -> usize
-    requires { ⌜ Fine (now s) ⌝ }
-    ensures { λ r. ⌜ Told (vanOf (now (s .entry)) .capacity) 1000 r ⌝ }
+// The van of the sheet.
+pub fn van(s: &[u8], l: Layout) -> Van
+    requires { ⌜ Laid (now s) l ⌝ }
+    ensures { λ r. ⌜ (r ≡ vanOf (now (s .entry))) × (r .capacity ≤ 1000) × (r .limit ≤ 1000000) ⌝ }
 {
-    word(s, 1) as usize
+    let from = l.van;
+    Van {
+        capacity: word(s, from) as usize,
+        limit: word(s, from + 1) as usize,
+    }
 }
 
-pub fn limit(s: &[u8]) -> usize
-    requires { ⌜ Fine (now s) ⌝ }
-    ensures { λ r. ⌜ Told (vanOf (now (s .entry)) .limit) 1000000 r ⌝ }
+// Word k of the i-th entry of a section whose entries begin at word `from` and have `width` words.
+fn entry_word(s: &[u8], from: usize, width: usize, i: usize, k: usize) -> usize
+    requires { ⌜ (from + width * i + width ≤ words (now s)) × (k < width) ⌝ }
+    ensures { λ r. ⌜ Reads (wordAt (now (s .entry)) (from + width * i + k)) r ⌝ }
 {
-    word(s, 2) as usize
-}
-
-// Word k of the i-th entry of a section whose entries begin at word `from` and have three words: a node, or a step.
-fn third(s: &[u8], from: usize, i: usize, k: usize) -> usize
-    requires { ⌜ (from + 3 * i + 3 ≤ words (now s)) × (k < 3) ⌝ }
-    ensures { λ r. ⌜ Reads (wordAt (now (s .entry)) (from + 3 * i + k)) r ⌝ }
-{
-    word(s, from + 3 * i + k) as usize
+    word(s, from + width * i + k) as usize
 }
 
 pub fn earliest(s: &[u8], l: Layout, x: usize) -> usize
     requires { ⌜ Laid (now s) l × (x < l .nodes) ⌝ }
     ensures { λ r. ⌜ Told (dayOf (now (s .entry)) .earliest x) 1000000 r ⌝ }
 {
-    third(s, l.node, x, 0)
+    entry_word(s, l.node, Layout::NODE, x, 0)
 }
 
 pub fn latest(s: &[u8], l: Layout, x: usize) -> usize
     requires { ⌜ Laid (now s) l × (x < l .nodes) ⌝ }
     ensures { λ r. ⌜ Told (dayOf (now (s .entry)) .latest x) 1000000 r ⌝ }
 {
-    third(s, l.node, x, 1)
+    entry_word(s, l.node, Layout::NODE, x, 1)
 }
 
 pub fn service(s: &[u8], l: Layout, x: usize) -> usize
     requires { ⌜ Laid (now s) l × (x < l .nodes) ⌝ }
     ensures { λ r. ⌜ Told (dayOf (now (s .entry)) .service x) 1000000 r ⌝ }
 {
-    third(s, l.node, x, 2)
+    entry_word(s, l.node, Layout::NODE, x, 2)
 }
 
 // Word k of the i-th step.
-pub fn step_word(s: &[u8], l: Layout, i: usize, k: usize) -> usize
-    requires { ⌜ Laid (now s) l × (i < l .steps) × (k < 3) ⌝ }
+fn step_word(s: &[u8], l: Layout, i: usize, k: usize) -> usize
+    requires { ⌜ Laid (now s) l × (i < l .steps) × (k < stepWords) ⌝ }
     ensures { λ r. ⌜ Told (stepWord (now (s .entry)) i k) 4294967295 r ⌝ }
 {
-    third(s, l.step, i, k)
+    entry_word(s, l.step, Layout::STEP, i, k)
+}
+
+// The i-th step.
+pub fn step(s: &[u8], l: Layout, i: usize) -> Step
+    requires { ⌜ Laid (now s) l × (i < l .steps) ⌝ }
+    ensures { λ r. ⌜ r ≡ stepIn (now (s .entry)) i ⌝ }
+{
+    let kind = step_word(s, l, i, 0);
+    let first = step_word(s, l, i, 1);
+    let second = step_word(s, l, i, 2);
+    Step {
+        kind: kind,
+        first: first,
+        second: second,
+    }
 }
 
 // Row i, column j of a table of n rows whose entries begin at word `from`.

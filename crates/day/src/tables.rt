@@ -9,7 +9,8 @@ ghost use Rattle.laws.specs.Below.{allBelow};
 ghost use Rattle.laws.specs.Table.{Filled};
 ghost use Rattle.sheet.specs.Word.{words};
 ghost use Rattle.sheet.specs.Rule.{entryOk};
-ghost use Rattle.day.specs.Tables.{cell, shortestRow, triangle};
+ghost use Rattle.rules.specs.Asked.{shortestRow, triangle};
+ghost use Rattle.day.specs.Tables.{cell};
 ghost use Rattle.day.specs.Row.{rowAt, lineOk, Table};
 use rules::Node;
 use sheet::word;
@@ -65,7 +66,7 @@ fn row_ok(s: &[u8], from: usize, n: usize, i: usize, row: &mut [i32; Node::MOST]
     ok
 }
 
-// Refusal 5's test of a table of n rows whose entries begin at word `from`.
+// The triangle rule of a table of n rows whose entries begin at word `from`.
 pub fn triangle_ok(s: &[u8], from: usize, n: usize) -> bool
     requires { ⌜ Table (now s) from n ⌝ }
     ensures { λ r. ⌜ r ≡ triangle n (cell (now (s .entry)) from n) ⌝ }

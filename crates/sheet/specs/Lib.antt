@@ -1,5 +1,5 @@
--- What a day sheet is. Word: its words. Rule: what a word must be. Section: the sections and the refusals
--- 1 to 3 in their order. Place: where an accepted sheet has what, and all that is known of it.
+-- What a day sheet is. Word: its words. Rule: what a word must be. Section: where each section stands, and what reading them finds.
+-- Place: what reading a sheet hands on, and all that is known of an accepted one.
 pub mod Word
 pub mod Rule
 pub mod Section

@@ -5,6 +5,22 @@ use mathlib.Core.List.{List}
 use lib.ListN.{length, getD}
 use native.Mathlib.Omega.{arith}
 
+-- how many words an entry of a section has. A van: "capacity, metre limit"
+abbrev pub vanWords : ℕ
+vanWords = 2
+
+-- a node: "earliest, latest, service"
+abbrev pub nodeWords : ℕ
+nodeWords = 3
+
+-- a job: "kind, a, b, load"
+abbrev pub jobWords : ℕ
+jobWords = 4
+
+-- a step: "each three words"
+abbrev pub stepWords : ℕ
+stepWords = 3
+
 -- how many whole words there are
 abbrev pub words : List ℕ → ℕ
 words s = length s / 4

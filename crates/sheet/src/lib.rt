@@ -1,28 +1,104 @@
 // The day sheet: its words, its sections, and the numbers by which it is refused.
 ghost use mathlib.Core.Path.{_≡_};
+ghost use mathlib.Core.Bool.{cond};
 ghost use Prim.Native.Nat.{_+_, _*_, _<_, _≤_};
 ghost use Rattle.laws.specs.Below.{allBelow};
-ghost use Rattle.laws.specs.Choice.{unless};
-ghost use Rattle.sheet.specs.Word.{words, wordAt, Reads};
-ghost use Rattle.sheet.specs.Rule.{limitsOk, nodeOk, isInner, jobOk, nodeAtOk, jobAtOk, entryOk};
+ghost use Rattle.rules.specs.Day.{isInner};
+ghost use Rattle.sheet.specs.Word.{nodeWords, jobWords, stepWords, words, wordAt, Reads};
+ghost use Rattle.sheet.specs.Rule.{limitsOk, nodeOk, jobOk, nodeAtOk, jobAtOk, entryOk};
+ghost use Rattle.sheet.specs.Section.{vansAt, vansFrom, nodesAt, jobsAt, stepsAt, nOf};
 ghost use Rattle.sheet.specs.Section.{headRefusal, limitsRefusal, nodesRefusal, jobsRefusal, tableRefusal, stepsRefusal};
-ghost use Rattle.sheet.specs.Section.{tablesRefusal, laterRefusal, readRefusal};
-ghost use Rattle.sheet.specs.Place.{Laid};
+ghost use Rattle.sheet.specs.Section.{laterRefusal, readRefusal};
+ghost use Rattle.sheet.specs.Place.{noPart, partOf, Stands, refused, found};
 use rules::Job;
 use rules::Node;
 use rules::Refusal;
 use rules::Step;
 
-// Where an accepted sheet has what: how many nodes, jobs and steps, and the word of the first node, job, second, metre and step.
+// Where an accepted sheet has what: how many nodes, jobs and steps, and the word of the first van, node, job, second, metre and step.
 pub struct Layout {
     pub nodes: usize,
     pub jobs: usize,
     pub steps: usize,
+    pub van: usize,
     pub node: usize,
     pub job: usize,
     pub seconds: usize,
     pub metres: usize,
     pub step: usize,
+}
+
+impl Layout {
+    // How many words an entry has.
+    pub const VAN: usize = 2;
+
+    pub const NODE: usize = 3;
+
+    pub const JOB: usize = 4;
+
+    pub const STEP: usize = 3;
+}
+
+// What reading a sheet hands on: the number that refuses it and a layout of zeros, or 0 and its layout.
+pub struct Found {
+    pub answer: usize,
+    pub layout: Layout,
+}
+
+impl Found {
+    pub fn refused(number: usize) -> Found
+        ensures { λ r. ⌜ r ≡ refused number ⌝ }
+    {
+        Found {
+            answer: number,
+            layout: Layout {
+                nodes: 0,
+                jobs: 0,
+                steps: 0,
+                van: 0,
+                node: 0,
+                job: 0,
+                seconds: 0,
+                metres: 0,
+                step: 0,
+            },
+        }
+    }
+
+    // The same where one more test passes, and refused by its number where it fails.
+    pub fn judged(self, ok: bool, number: usize) -> Found
+        ensures { λ r. ⌜ r ≡ cond ok self (refused number) ⌝ }
+    {
+        if ok { self } else { Found::refused(number) }
+    }
+}
+
+// A section that was read: the number that refuses it, or 0 and its count, the word of its first entry and the word behind its last.
+struct Part {
+    answer: usize,
+    count: usize,
+    from: usize,
+    end: usize,
+}
+
+impl Part {
+    fn refused(number: usize) -> Part
+        ensures { λ r. ⌜ r ≡ noPart number ⌝ }
+    {
+        Part {
+            answer: number,
+            count: 0,
+            from: 0,
+            end: 0,
+        }
+    }
+
+    // The same where one more test passes, and refused by its number where it fails.
+    fn judged(self, ok: bool, number: usize) -> Part
+        ensures { λ r. ⌜ r ≡ cond ok self (noPart number) ⌝ }
+    {
+        if ok { self } else { Part::refused(number) }
+    }
 }
 
 fn wide(x: u8) -> u32
@@ -44,26 +120,33 @@ pub fn word(s: &[u8], i: usize) -> u32
     a + 256 * b + 65536 * c + 16777216 * d
 }
 
-// Count and shortness of a section whose count stands at word `at`.
-fn head(s: &[u8], at: usize, lo: usize, hi: usize, width: usize) -> usize
+// The section whose count stands at word `at`, is to be lo to hi, and counts entries of `width` words.
+fn head(s: &[u8], at: usize, lo: usize, hi: usize, width: usize) -> Part
     requires { ⌜ (at < 100000) × (hi ≤ 5000) × (width ≤ 4) ⌝ }
-    ensures { λ r. ⌜ r ≡ headRefusal (now (s .entry)) at lo hi width ⌝ }
+    ensures { λ r. ⌜ r ≡ partOf (now (s .entry)) at width (headRefusal (now (s .entry)) at lo hi width) ⌝ }
 {
     let have = s.len() / 4;
     if have <= at {
-        return Refusal::SHORT;
+        return Part::refused(Refusal::SHORT);
     }
     let count = word(s, at) as usize;
     if count < lo {
-        return Refusal::COUNT;
+        return Part::refused(Refusal::COUNT);
     }
     if hi < count {
-        return Refusal::COUNT;
+        return Part::refused(Refusal::COUNT);
     }
-    if have < at + 1 + width * count {
-        return Refusal::SHORT;
+    let from = at + 1;
+    let end = from + width * count;
+    if have < end {
+        return Part::refused(Refusal::SHORT);
     }
-    0
+    Part {
+        answer: 0,
+        count: count,
+        from: from,
+        end: end,
+    }
 }
 
 fn limits_ok(capacity: u32, limit: u32) -> bool
@@ -82,7 +165,7 @@ fn is_inner(n: u32, x: u32) -> bool
     requires { ⌜ 2 ≤ n ⌝ }
     ensures { λ r. ⌜ r ≡ isInner n x ⌝ }
 {
-    (1 <= x) & (x <= n - 2)
+    (1 <= x) & (x < n - 1)
 }
 
 fn job_ok(n: u32, kind: u32, a: u32, b: u32, load: u32) -> bool
@@ -97,15 +180,15 @@ fn job_ok(n: u32, kind: u32, a: u32, b: u32, load: u32) -> bool
 }
 
 fn node_at_ok(s: &[u8], from: usize, i: usize) -> bool
-    requires { ⌜ from + 3 * i + 3 ≤ words (now s) ⌝ }
+    requires { ⌜ from + nodeWords * i + nodeWords ≤ words (now s) ⌝ }
     ensures { λ r. ⌜ r ≡ nodeAtOk (now (s .entry)) from i ⌝ }
 {
-    let p = from + 3 * i;
+    let p = from + Layout::NODE * i;
     node_ok(word(s, p), word(s, p + 1), word(s, p + 2))
 }
 
 fn nodes_ok(s: &[u8], from: usize, n: usize) -> bool
-    requires { ⌜ from + 3 * n ≤ words (now s) ⌝ }
+    requires { ⌜ from + nodeWords * n ≤ words (now s) ⌝ }
     ensures { λ r. ⌜ r ≡ allBelow n (nodeAtOk (now (s .entry)) from) ⌝ }
 {
     let mut i = 0;
@@ -119,10 +202,10 @@ fn nodes_ok(s: &[u8], from: usize, n: usize) -> bool
 }
 
 fn job_at_ok(s: &[u8], n: u32, from: usize, i: usize) -> bool
-    requires { ⌜ (2 ≤ n) × (from + 4 * i + 4 ≤ words (now s)) ⌝ }
+    requires { ⌜ (2 ≤ n) × (from + jobWords * i + jobWords ≤ words (now s)) ⌝ }
     ensures { λ r. ⌜ r ≡ jobAtOk (now (s .entry)) n from i ⌝ }
 {
-    let p = from + 4 * i;
+    let p = from + Layout::JOB * i;
     job_ok(
         n,
         word(s, p),
@@ -133,7 +216,7 @@ fn job_at_ok(s: &[u8], n: u32, from: usize, i: usize) -> bool
 }
 
 fn jobs_ok(s: &[u8], n: u32, from: usize, m: usize) -> bool
-    requires { ⌜ (2 ≤ n) × (from + 4 * m ≤ words (now s)) ⌝ }
+    requires { ⌜ (2 ≤ n) × (from + jobWords * m ≤ words (now s)) ⌝ }
     ensures { λ r. ⌜ r ≡ allBelow m (jobAtOk (now (s .entry)) n from) ⌝ }
 {
     let mut i = 0;
@@ -192,13 +275,6 @@ fn entries_ok(s: &[u8], from: usize, m: usize) -> bool
     each_ok(s, from, m)
 }
 
-// The number of a test that failed, 0 where it passed.
-pub fn number_of(ok: bool, number: usize) -> usize
-    ensures { λ r. ⌜ r ≡ unless ok number ⌝ }
-{
-    if ok { 0 } else { number }
-}
-
 // The entries of a table of n rows.
 fn square(n: usize) -> usize
     requires { ⌜ n ≤ 64 ⌝ }
@@ -207,135 +283,124 @@ fn square(n: usize) -> usize
     n * n
 }
 
-fn limits_refusal(s: &[u8]) -> usize
-    ensures { λ r. ⌜ r ≡ limitsRefusal (now (s .entry)) ⌝ }
+// Section 1, whose count is of words.
+fn limits(s: &[u8]) -> Part
+    ensures { λ r. ⌜ r ≡ partOf (now (s .entry)) vansAt 1 (limitsRefusal (now (s .entry))) ⌝ }
 {
-    let h = head(s, 0, 2, 2, 1);
-    if h != 0 {
-        return h;
+    let p = head(s, 0, Layout::VAN, Layout::VAN, 1);
+    if p.answer != 0 {
+        return p;
     }
-    number_of(limits_ok(word(s, 1), word(s, 2)), Refusal::VALUE)
+    let ok = limits_ok(word(s, p.from), word(s, p.from + 1));
+    p.judged(ok, Refusal::VALUE)
 }
 
-fn nodes_refusal(s: &[u8]) -> usize
-    ensures { λ r. ⌜ r ≡ nodesRefusal (now (s .entry)) ⌝ }
+// Section 2.
+fn nodes(s: &[u8], at: usize) -> Part
+    requires { ⌜ at ≡ nodesAt (now s) ⌝ }
+    ensures { λ r. ⌜ r ≡ partOf (now (s .entry)) (nodesAt (now (s .entry))) nodeWords (nodesRefusal (now (s .entry))) ⌝ }
 {
-    let h = head(s, 3, 2, Node::MOST, 3);
-    if h != 0 {
-        return h;
+    let p = head(s, at, 2, Node::MOST, Layout::NODE);
+    if p.answer != 0 {
+        return p;
     }
-    number_of(nodes_ok(s, 4, word(s, 3) as usize), Refusal::VALUE)
+    let ok = nodes_ok(s, p.from, p.count);
+    p.judged(ok, Refusal::VALUE)
 }
 
-fn jobs_refusal(s: &[u8], n: u32, at: usize) -> usize
-    requires { ⌜ (2 ≤ n) × (at < 1000) ⌝ }
-    ensures { λ r. ⌜ r ≡ jobsRefusal (now (s .entry)) n at ⌝ }
+// Section 3, of n nodes.
+fn jobs(s: &[u8], at: usize, n: usize) -> Part
+    requires { ⌜ (at ≡ jobsAt (now s)) × (n ≡ nOf (now s)) × (2 ≤ n) × (n ≤ 64) ⌝ }
+    ensures { λ r. ⌜ r ≡ partOf (now (s .entry)) (jobsAt (now (s .entry))) jobWords (jobsRefusal (now (s .entry))) ⌝ }
 {
-    let h = head(s, at, 0, Job::MOST, 4);
-    if h != 0 {
-        return h;
+    let p = head(s, at, 0, Job::MOST, Layout::JOB);
+    if p.answer != 0 {
+        return p;
     }
-    number_of(jobs_ok(s, n, at + 1, word(s, at) as usize), Refusal::VALUE)
+    let ok = jobs_ok(s, n as u32, p.from, p.count);
+    p.judged(ok, Refusal::VALUE)
 }
 
-fn table_refusal(s: &[u8], n: usize, at: usize) -> usize
+// Section 4 or 5, of n nodes.
+fn table(s: &[u8], at: usize, n: usize) -> Part
     requires { ⌜ (n ≤ 64) × (at < 90000) ⌝ }
-    ensures { λ r. ⌜ r ≡ tableRefusal (now (s .entry)) n at ⌝ }
+    ensures { λ r. ⌜ r ≡ partOf (now (s .entry)) at 1 (tableRefusal (now (s .entry)) n at) ⌝ }
 {
     let m = square(n);
-    let h = head(s, at, m, m, 1);
-    if h != 0 {
-        return h;
+    let p = head(s, at, m, m, 1);
+    if p.answer != 0 {
+        return p;
     }
-    number_of(entries_ok(s, at + 1, m), Refusal::VALUE)
+    let ok = entries_ok(s, p.from, m);
+    p.judged(ok, Refusal::VALUE)
 }
 
-fn steps_refusal(s: &[u8], at: usize) -> usize
-    requires { ⌜ at < 90000 ⌝ }
-    ensures { λ r. ⌜ r ≡ stepsRefusal (now (s .entry)) at ⌝ }
+// Section 6, behind which nothing is left over.
+fn steps(s: &[u8], at: usize) -> Part
+    requires { ⌜ (at ≡ stepsAt (now s)) × (at < 90000) ⌝ }
+    ensures { λ r. ⌜ r ≡ partOf (now (s .entry)) (stepsAt (now (s .entry))) stepWords (stepsRefusal (now (s .entry))) ⌝ }
 {
-    let h = head(s, at, 0, Step::MOST, 3);
-    if h != 0 {
-        return h;
+    let p = head(s, at, 0, Step::MOST, Layout::STEP);
+    if p.answer != 0 {
+        return p;
     }
-    let steps = word(s, at) as usize;
-    if s.len() / 4 == at + 1 + 3 * steps {
-        0
-    } else {
-        Refusal::SHORT
-    }
+    let ok = s.len() / 4 == p.end;
+    p.judged(ok, Refusal::SHORT)
 }
 
-fn tables_refusal(s: &[u8], n: usize, m: usize) -> usize
-    requires { ⌜ (n ≤ 64) × (m ≤ 155) ⌝ }
-    ensures { λ r. ⌜ r ≡ tablesRefusal (now (s .entry)) n m ⌝ }
+// Sections 4 to 6 of a sheet whose first three are fine.
+fn later(s: &[u8], van: usize, nodes: Part, jobs: Part) -> Found
+    requires { ⌜ (van ≡ vansFrom) × (nodesRefusal (now s) ≡ 0) × (jobsRefusal (now s) ≡ 0) ⌝ }
+    requires { ⌜ Stands (now s) (nodesAt (now s)) nodeWords nodes × Stands (now s) (jobsAt (now s)) jobWords jobs ⌝ }
+    ensures { λ r. ⌜ r ≡ found laterRefusal (now (s .entry)) ⌝ }
 {
-    let entries = square(n);
-    let at = 4 + 3 * n + 1 + 4 * m;
-    let a = table_refusal(s, n, at);
-    if a != 0 {
-        return a;
+    let n = nodes.count;
+    let seconds = table(s, jobs.end, n);
+    if seconds.answer != 0 {
+        return Found::refused(seconds.answer);
     }
-    let behind = at + 1 + entries;
-    let b = table_refusal(s, n, behind);
-    if b != 0 {
-        return b;
+    let metres = table(s, seconds.end, n);
+    if metres.answer != 0 {
+        return Found::refused(metres.answer);
     }
-    steps_refusal(s, behind + 1 + entries)
+    let steps = steps(s, metres.end);
+    if steps.answer != 0 {
+        return Found::refused(steps.answer);
+    }
+    Found {
+        answer: 0,
+        layout: Layout {
+            nodes: n,
+            jobs: jobs.count,
+            steps: steps.count,
+            van: van,
+            node: nodes.from,
+            job: jobs.from,
+            seconds: seconds.from,
+            metres: metres.from,
+            step: steps.from,
+        },
+    }
 }
 
-// Sections 3 to 6 of a sheet whose first two are fine.
-fn later_refusal(s: &[u8]) -> usize
-    requires { ⌜ (nodesRefusal (now s) ≡ 0) ⌝ }
-    ensures { λ r. ⌜ r ≡ laterRefusal (now (s .entry)) ⌝ }
-{
-    let n = word(s, 3);
-    let at = 4 + 3 * (n as usize);
-    let a = jobs_refusal(s, n, at);
-    if a != 0 {
-        return a;
-    }
-    tables_refusal(s, n as usize, word(s, at) as usize)
-}
-
-// 1 to 3, or 0: the length, the sections in order, what is left over.
-pub fn refusal_1_to_3(s: &[u8]) -> usize
-    ensures { λ r. ⌜ r ≡ readRefusal (now (s .entry)) ⌝ }
+// Reads the sections: the length, each section in order, what is left over; and hands on where they stand.
+pub fn sections(s: &[u8]) -> Found
+    ensures { λ r. ⌜ r ≡ found readRefusal (now (s .entry)) ⌝ }
 {
     if s.len() % 4 != 0 {
-        return Refusal::SHORT;
+        return Found::refused(Refusal::SHORT);
     }
-    let a = limits_refusal(s);
-    if a != 0 {
-        return a;
+    let vans = limits(s);
+    if vans.answer != 0 {
+        return Found::refused(vans.answer);
     }
-    let b = nodes_refusal(s);
-    if b != 0 {
-        return b;
+    let nodes = nodes(s, vans.end);
+    if nodes.answer != 0 {
+        return Found::refused(nodes.answer);
     }
-    later_refusal(s)
-}
-
-// The layout of a sheet that 1 to 3 do not refuse, found once for all who read it.
-pub fn layout_of(s: &[u8]) -> Layout
-    requires { ⌜ readRefusal (now s) ≡ 0 ⌝ }
-    ensures { λ r. ⌜ Laid (now (s .entry)) r ⌝ }
-{
-    let nodes = word(s, 3) as usize;
-    let entries = square(nodes);
-    let at = 4 + 3 * nodes;
-    let jobs = word(s, at) as usize;
-    let seconds_at = at + 1 + 4 * jobs;
-    let metres_at = seconds_at + 1 + entries;
-    let steps_at = metres_at + 1 + entries;
-    Layout {
-        nodes: nodes,
-        jobs: jobs,
-        steps: word(s, steps_at) as usize,
-        node: 4,
-        job: at + 1,
-        seconds: seconds_at + 1,
-        metres: metres_at + 1,
-        step: steps_at + 1,
+    let jobs = jobs(s, nodes.end, nodes.count);
+    if jobs.answer != 0 {
+        return Found::refused(jobs.answer);
     }
+    later(s, vans.from, nodes, jobs)
 }

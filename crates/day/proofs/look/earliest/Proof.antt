@@ -5,11 +5,11 @@ use borrow.Author.Needs.{needs}
 use Rattle.day.proofs.look.earliest.Statement.{statement}
 use Rattle.day.proofs.look.earliest.Tie as tie
 
-third-requires : tie.Need-third-requires
-third-requires c κs = search needs
+entry-word-requires : tie.Need-entry-word-requires
+entry-word-requires c κs = search needs
 
 returns : tie.Need-returns
-returns c = let p = c .before .before .pre in let d = ranges _ (p .0 .fine) in told (rw (p .0 .node, add-zero) at (c .third .ensures .is)) (le-trans (d .earliest _ (omega arith)) (d .latest _ (omega arith)))
+returns c = let p = c .before .before .pre in let d = ranges _ (p .0 .fine) in told (rw (p .0 .node, add-zero) at (c .entry-word .ensures .is)) (le-trans (d .earliest _ (omega arith)) (d .latest _ (omega arith)))
 
 pub earliest-spec : {M : Type 1} → statement M
-earliest-spec = tie.close (tie.spec third-requires returns)
+earliest-spec = tie.close (tie.spec entry-word-requires returns)

@@ -4,11 +4,11 @@ use borrow.Author.Needs.{needs}
 use Rattle.day.proofs.look.latest.Statement.{statement}
 use Rattle.day.proofs.look.latest.Tie as tie
 
-third-requires : tie.Need-third-requires
-third-requires c κs = search needs
+entry-word-requires : tie.Need-entry-word-requires
+entry-word-requires c κs = search needs
 
 returns : tie.Need-returns
-returns c = let p = c .before .before .pre in told (rw (p .0 .node) at (c .third .ensures .is)) (ranges _ (p .0 .fine) .latest _ (omega arith))
+returns c = let p = c .before .before .pre in told (rw (p .0 .node) at (c .entry-word .ensures .is)) (ranges _ (p .0 .fine) .latest _ (omega arith))
 
 pub latest-spec : {M : Type 1} → statement M
-latest-spec = tie.close (tie.spec third-requires returns)
+latest-spec = tie.close (tie.spec entry-word-requires returns)

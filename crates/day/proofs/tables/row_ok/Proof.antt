@@ -3,7 +3,8 @@ use native.Mathlib.Omega.{arith}
 use mathlib.Core.Path.{_≡_, _∙_}
 use Prim.Native.Nat.{_-_, _≤_}
 use Rattle.laws.specs.Below.{allBelow, below-none, flag-goes, flag-done}
-use Rattle.day.specs.Tables.{cell, shortestLine, shortestRow}
+use Rattle.rules.specs.Asked.{shortestLine, shortestRow}
+use Rattle.day.specs.Tables.{cell}
 use Rattle.day.specs.Row.{row-end, row-low, first-low, line-is}
 use Rattle.day.proofs.Signed.{back}
 use Rattle.day.proofs.tables.row_ok.Statement.{statement}

@@ -4,7 +4,8 @@ use mathlib.Core.Bool.{true}
 use Prim.Native.Nat.{_-_, _≤_}
 use lib.ListN.{length}
 use Rattle.laws.specs.Below.{allBelow, below-none, below-stops, below-goes, below-done}
-use Rattle.day.specs.Tables.{cell, shortestRow, triangle}
+use Rattle.rules.specs.Asked.{shortestRow, triangle}
+use Rattle.day.specs.Tables.{cell}
 use borrow.Author.Needs.{needs}
 use Rattle.day.proofs.tables.triangle_ok.Statement.{statement}
 use Rattle.day.proofs.tables.triangle_ok.Tie as tie
