@@ -1,10 +1,10 @@
 -- A state as 01 lists it, and the part of it that records speak of: route, place sets and marks.
-use mathlib.Core.Bool.{Bool, _&&_}
+use mathlib.Core.Bool.{Bool}
 use mathlib.Core.List.{List}
 use Prim.Native.Nat.{ℕ, _+_, _-_}
 use lib.Count.{ones}
 use lib.ListN.{getD, take}
-use lib.Dec.{leb, ltb}
+use lib.Dec.{ltb}
 use Rattle.laws.specs.Lists.{mem}
 use Rattle.laws.specs.Sum.{sumBelow}
 use Rattle.bits.specs.Places.{has}
@@ -54,10 +54,6 @@ setOf b x = getD (b .sets) x 0
 -- whether x is open in the leg that leaves p
 unfoldable pub openAt : Board → ℕ → ℕ → Bool
 openAt b x p = has (setOf b x) p
-
--- x is between 1 and n - 2
-unfoldable pub inner : ℕ → ℕ → Bool
-inner n x = leb 1 x && ltb (x + 1) n
 
 -- p is between 0 and n - 2
 unfoldable pub legNode : ℕ → ℕ → Bool

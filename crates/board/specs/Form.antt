@@ -7,7 +7,8 @@ use lib.Dec.{eqb, leb, ltb}
 use Rattle.laws.specs.Below.{allBelow}
 use Rattle.laws.specs.Lists.{mem}
 use Rattle.bits.specs.Places.{has, within}
-use Rattle.board.specs.Board.{Board, boardOf, onRoute, legsOf, setOf, inner}
+use Rattle.rules.specs.Day.{isInner}
+use Rattle.board.specs.Board.{Board, boardOf, onRoute, legsOf, setOf}
 use Rattle.board.specs.declared.State.{State}
 
 -- entry i of the route: a node below n that does not stand before it; unused entries are 0
@@ -17,11 +18,11 @@ stopOk n stops route i =
 
 -- sets only for nodes 1 to n - 2 off the route and only of present legs, all others empty
 unfoldable pub setOk : ℕ → Board → ℕ → Bool
-setOk n b y = cond (inner n y && not (onRoute b y)) (within (setOf b y) (legsOf b)) (eqb (setOf b y) 0)
+setOk n b y = cond (isInner n y && not (onRoute b y)) (within (setOf b y) (legsOf b)) (eqb (setOf b y) 0)
 
 -- marks only on 1 to n - 2
 unfoldable pub markOk : ℕ → Board → ℕ → Bool
-markOk n b y = not (has (b .marks) y) || inner n y
+markOk n b y = not (has (b .marks) y) || isInner n y
 
 unfoldable pub nodeOk : ℕ → Board → ℕ → Bool
 nodeOk n b y = setOk n b y && markOk n b y

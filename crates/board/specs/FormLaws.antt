@@ -13,15 +13,13 @@ use Rattle.laws.specs.Below.{allBelow, below-at, below-make}
 use Rattle.bits.specs.Places.{has, within}
 use Rattle.bits.specs.Members.{within-has, within-none}
 use Rattle.bits.specs.Number.{members-lt}
+use Rattle.rules.specs.Day.{isInner}
+use Rattle.rules.proofs.Inner.{is-inner}
 use Rattle.board.specs.Route.{indexOf, wordOf}
 use Rattle.board.specs.RouteLaws.{index-hit, mem-at, mem-none, mem-absent, mem-index, word-mem, word-not, word-find, word-has, word-members}
-use Rattle.board.specs.Board.{Board, boardOf, routeOf, onRoute, legsOf, setOf, inner, legNode}
+use Rattle.board.specs.Board.{Board, boardOf, routeOf, onRoute, legsOf, setOf, legNode}
 use Rattle.board.specs.Form.{stopOk, setOk, markOk, nodeOk, boardOk, levelOk, levelsOk, inForm, formWith}
 use Rattle.board.specs.declared.State.{State}
-
-pub inner-in : (n x : ℕ) → inner n x ≡ true → (1 ≤ x) × (x + 1 < n)
-unfolding inner
-inner-in n x e = let a = and-true (leb 1 x) (ltb (x + 1) n) e in (leb-true 1 x (a .0), ltb-true (x + 1) n (a .1))
 
 pub leg-in : (n p : ℕ) → legNode n p ≡ true → p + 1 < n
 unfolding legNode
@@ -167,11 +165,11 @@ module _ (n : ℕ) (b : Board) (small : n ≤ 64) (wide : Wide b) (f : Routed n 
       omega (arith, leg-in n p g, h, place-at p m)))
       (λ e. let z : i + 1 ≡ b .stops → ⊥ = eqb-false (i + 1) (b .stops) e in omega (arith, place-in p m))
 
-  -- an inner node on the route is no end of it
-  pub inner-inside : (x : ℕ) → inner n x ≡ true → onRoute b x ≡ true → (0 < indexOf x (routeOf b)) × (indexOf x (routeOf b) + 1 < b .stops)
+  -- an isInner node on the route is no end of it
+  pub inner-inside : (x : ℕ) → isInner n x ≡ true → onRoute b x ≡ true → (0 < indexOf x (routeOf b)) × (indexOf x (routeOf b) + 1 < b .stops)
   inner-inside x e m =
       let i = indexOf x (routeOf b) in
-      let a = inner-in n x e in
+      let a = is-inner n x e in
       let h = place-at x m in (
         decided (eqb i 0) (λ q. absurd (let z : getD (b .route) i 0 ≡ 0 = rw (eqb-true i 0 q) (f .start) in omega (arith, z, h, a .0)))
             (λ q. let z : i ≡ 0 → ⊥ = eqb-false i 0 q in omega arith),
@@ -200,21 +198,21 @@ module _ (n : ℕ) (b : Board) (small : n ≤ 64) (wide : Wide b) (f : Routed n 
 module _ (n : ℕ) (b : Board) (small : n ≤ 64) (wide : Wide b) (f : Formed n b) where
   -- ---- the sets
 
-  pub set-legs : (y : ℕ) → y < 64 → inner n y ≡ true → onRoute b y ≡ false → within (setOf b y) (legsOf b) ≡ true
+  pub set-legs : (y : ℕ) → y < 64 → isInner n y ≡ true → onRoute b y ≡ false → within (setOf b y) (legsOf b) ≡ true
   unfolding setOk
   set-legs y l i o = rw (i, o) at (f .sets y l)
 
   -- every set names present legs only
   pub set-within : (y : ℕ) → y < 64 → within (setOf b y) (legsOf b) ≡ true
   unfolding setOk
-  set-within y l = go (inner n y && not (onRoute b y)) (f .sets y l)
+  set-within y l = go (isInner n y && not (onRoute b y)) (f .sets y l)
     where
       go : (t : Bool) → cond t (within (setOf b y) (legsOf b)) (eqb (setOf b y) 0) ≡ true → within (setOf b y) (legsOf b) ≡ true
       go true e = e
       go false e = rw (eqb-true (setOf b y) 0 e) (within-none (legsOf b))
 
-  -- for an inner node the legs tell whether it is on the route
-  pub on-leg : (x : ℕ) → inner n x ≡ true → has (legsOf b) x ≡ onRoute b x
+  -- for an isInner node the legs tell whether it is on the route
+  pub on-leg : (x : ℕ) → isInner n x ≡ true → has (legsOf b) x ≡ onRoute b x
   on-leg x e =
       decided (onRoute b x)
       (λ m. leg-make n b small wide (f .route) x (indexOf x (routeOf b)) (inner-inside n b small wide (f .route) x e m .1) (place-at n b small wide (f .route) x m) ∙ sym m)

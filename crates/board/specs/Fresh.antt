@@ -8,7 +8,8 @@ use lib.ListN.{replicate, set}
 use lib.Dec.{leb}
 use borrow.Author.Tests.{lt-leb, le-leb}
 use Rattle.laws.specs.Table.{tab}
-use Rattle.board.specs.Board.{stateOf, inner}
+use Rattle.rules.specs.Day.{isInner}
+use Rattle.board.specs.Board.{stateOf}
 use Rattle.board.specs.declared.State.{State}
 
 -- every number 0
@@ -17,7 +18,7 @@ noState = stateOf (replicate 64 0) 0 (replicate 64 0) 0 (replicate 64 0) 0 0
 
 -- every node but the ends is open in leg 0
 unfoldable pub freshSet : ℕ → ℕ → ℕ
-freshSet n y = cond (inner n y) 1 0
+freshSet n y = cond (isInner n y) 1 0
 
 unfoldable pub freshSets : ℕ → List ℕ
 freshSets n = tab 64 (freshSet n)

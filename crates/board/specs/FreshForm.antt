@@ -11,10 +11,12 @@ use Rattle.laws.specs.Logic.{decided}
 use Rattle.laws.specs.Table.{length-tab, getD-tab}
 use Rattle.bits.specs.Places.{within}
 use Rattle.bits.specs.Members.{has-none, has-first, within-make}
-use Rattle.board.specs.Board.{Board, board, stateOf, onRoute, legsOf, setOf, inner}
+use Rattle.rules.specs.Day.{isInner}
+use Rattle.rules.proofs.Inner.{is-inner}
+use Rattle.board.specs.Board.{Board, board, stateOf, onRoute, legsOf, setOf}
 use Rattle.board.specs.Fresh.{freshState, freshSet, freshSets, fresh-is}
 use Rattle.board.specs.Form.{setOk, markOk, inForm}
-use Rattle.board.specs.FormLaws.{Routed, Formed, Wide, InForm, inner-in, off-make, leg-make, in-form-of}
+use Rattle.board.specs.FormLaws.{Routed, Formed, Wide, InForm, off-make, leg-make, in-form-of}
 use Rattle.board.specs.Held.{Held}
 use Rattle.board.specs.declared.State.{State}
 
@@ -53,9 +55,9 @@ module _ (n : ℕ) (two : 2 ≤ n) (small : n ≤ 64) where
   unfolding setOf freshSets
   fresh-set y l = getD-tab 64 (freshSet n) 0 y l
 
-  pub fresh-off : (y : ℕ) → inner n y ≡ true → onRoute (freshBoard n) y ≡ false
+  pub fresh-off : (y : ℕ) → isInner n y ≡ true → onRoute (freshBoard n) y ≡ false
   fresh-off y e =
-      let a = inner-in n y e in
+      let a = is-inner n y e in
       off-make n (freshBoard n) small fresh-wide fresh-routed y (λ i h q.
       decided (eqb i 1) (λ z. omega (arith, sym one ∙ ap (λ (t : ℕ). getD (set (replicate 64 0) 1 (n - 1)) t 0) (sym (eqb-true i 1 z)) ∙ q, a .1))
       (λ z. omega (arith, sym (rest i (omega arith) (eqb-false i 1 z)) ∙ q, a .0)))
@@ -68,7 +70,7 @@ module _ (n : ℕ) (two : 2 ≤ n) (small : n ≤ 64) where
   fresh-sets : (y : ℕ) → y < 64 → setOk n (freshBoard n) y ≡ true
   unfolding setOk freshSet
   fresh-sets y l =
-      decided (inner n y) (λ e. rw (fresh-set y l, e, fresh-off y e) fresh-leg) (λ e. rw (fresh-set y l, e))
+      decided (isInner n y) (λ e. rw (fresh-set y l, e, fresh-off y e) fresh-leg) (λ e. rw (fresh-set y l, e))
 
   pub fresh-formed : Formed n (freshBoard n)
   unfolding markOk
@@ -82,7 +84,7 @@ module _ (n : ℕ) (two : 2 ≤ n) (small : n ≤ 64) where
 
   fresh-word : (y : ℕ) → y < 64 → setOf (freshBoard n) y < 2 ^ 64
   unfolding freshSet
-  fresh-word y l = rw (fresh-set y l) (go (inner n y))
+  fresh-word y l = rw (fresh-set y l) (go (isInner n y))
     where
       go : (t : Bool) → cond t 1 0 < 2 ^ 64
       go true = omega arith

@@ -10,11 +10,12 @@ use lib.Seq.{set-set, set-getD}
 use Rattle.laws.specs.Logic.{decided}
 use Rattle.bits.specs.Places.{has}
 use Rattle.bits.specs.Members.{without-with, without-no}
+use Rattle.rules.proofs.Inner.{is-inner}
 use Rattle.board.specs.Route.{indexOf, insertIn, removeIn}
 use Rattle.board.specs.RouteLaws.{remove-insert, insert-route, insert-at, insert-under}
 use Rattle.board.specs.Board.{Board, board, routeOf, setOf}
 use Rattle.board.specs.Change.{heir, strike, putSet, placed, marked, unplaced, unmarked}
-use Rattle.board.specs.FormLaws.{Formed, Wide, inner-in, place-in, place-at, place-one, no-leg}
+use Rattle.board.specs.FormLaws.{Formed, Wide, place-in, place-at, place-one, no-leg}
 use Rattle.board.specs.Keep.{Splits, split-inside, split-room, placed-wide, placed-routed, placed-on, heir-yes, heir-no}
 
 -- a set put back
@@ -84,7 +85,7 @@ module _ (n : ℕ) (b : Board) (p x : ℕ) (small : n ≤ 64) (wide : Wide b) (f
   sets-back =
       ap (λ (t : List ℕ). set t x (getD (b .sets) x 0)) (map-set (strike x) (map (heir p x) (b .sets)) x 0)
       ∙ set-set (map (strike x) (map (heir p x) (b .sets))) x (strike x 0) (getD (b .sets) x 0)
-      ∙ ap (λ (t : List ℕ). set t x (getD (b .sets) x 0)) (strike-heirs p x (b .sets) (λ y l. no-leg n b small wide f x y (omega (arith, inner-in n x (c .node) .1)) (c .off) (omega (arith, wide .sets))))
+      ∙ ap (λ (t : List ℕ). set t x (getD (b .sets) x 0)) (strike-heirs p x (b .sets) (λ y l. no-leg n b small wide f x y (omega (arith, is-inner n x (c .node) .1)) (c .off) (omega (arith, wide .sets))))
       ∙ set-getD (b .sets) x 0
 
   all-back : board (removeIn (indexOf p (routeOf b) + 1) (placed b p x .route)) (placed b p x .stops - 1) (set (map (strike x) (placed b p x .sets)) x (setOf b x)) (placed b p x .marks) ≡ b

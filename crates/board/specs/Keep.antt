@@ -12,12 +12,14 @@ use Rattle.laws.specs.Logic.{decided}
 use Rattle.laws.specs.Sweep.{getD-map}
 use Rattle.bits.specs.Places.{has, with, without, within}
 use Rattle.bits.specs.Members.{false-true, has-none, with-other, without-part, without-same, without-other, without-no, within-has, within-make}
+use Rattle.rules.specs.Day.{isInner}
+use Rattle.rules.proofs.Inner.{is-inner}
 use Rattle.board.specs.Route.{indexOf, insertIn, removeIn}
 use Rattle.board.specs.RouteLaws.{length-insert, insert-at, insert-under, insert-above, length-remove, remove-under, remove-above, remove-last}
-use Rattle.board.specs.Board.{Board, board, routeOf, onRoute, legsOf, setOf, inner, legNode}
+use Rattle.board.specs.Board.{Board, board, routeOf, onRoute, legsOf, setOf, legNode}
 use Rattle.board.specs.Form.{setOk, markOk}
 use Rattle.board.specs.Change.{heir, strike, putSet, placed, marked, unplaced, unmarked}
-use Rattle.board.specs.FormLaws.{Routed, Formed, Wide, inner-in, off-at, on-at, off-make, place-in, place-at, place-one, leg-inside, inner-inside, room-left, leg-at, leg-make}
+use Rattle.board.specs.FormLaws.{Routed, Formed, Wide, off-at, on-at, off-make, place-in, place-at, place-one, leg-inside, inner-inside, room-left, leg-at, leg-make}
 
 -- ---- a set
 
@@ -33,8 +35,8 @@ pub put-wide : (b : Board) (x w : ℕ) → Wide b → Wide (putSet b x w)
 unfolding putSet
 put-wide b x w h = record { route = h .route; sets = length-set (b .sets) x w ∙ h .sets }
 
--- a set of present legs for an inner node off the route: smaller or larger, the form stays
-pub put-formed : (n : ℕ) (b : Board) (x w : ℕ) → Wide b → Formed n b → x < 64 → inner n x ≡ true → onRoute b x ≡ false
+-- a set of present legs for an isInner node off the route: smaller or larger, the form stays
+pub put-formed : (n : ℕ) (b : Board) (x w : ℕ) → Wide b → Formed n b → x < 64 → isInner n x ≡ true → onRoute b x ≡ false
     → within w (legsOf b) ≡ true → Formed n (putSet b x w)
 unfolding setOk putSet onRoute routeOf legsOf markOk
 put-formed n b x w h f s i o e = record {
@@ -47,8 +49,8 @@ put-formed n b x w h f s i o e = record {
 
 -- ---- a mark
 
--- the marks change and are only on inner nodes: the form stays
-pub marks-formed : (n : ℕ) (b : Board) (m : ℕ) → Formed n b → ((y : ℕ) → y < 64 → has m y ≡ true → inner n y ≡ true)
+-- the marks change and are only on isInner nodes: the form stays
+pub marks-formed : (n : ℕ) (b : Board) (m : ℕ) → Formed n b → ((y : ℕ) → y < 64 → has m y ≡ true → isInner n y ≡ true)
     → Formed n (board (b .route) (b .stops) (b .sets) m)
 unfolding setOk onRoute routeOf legsOf markOk setOf
 marks-formed n b m f g = record {
@@ -57,11 +59,11 @@ marks-formed n b m f g = record {
   marks = λ y l. decided (has m y) (λ h. rw (h, g y l h)) (λ h. rw h);
 }
 
-pub mark-inner : (n : ℕ) (b : Board) → Formed n b → (y : ℕ) → y < 64 → has (b .marks) y ≡ true → inner n y ≡ true
+pub mark-inner : (n : ℕ) (b : Board) → Formed n b → (y : ℕ) → y < 64 → has (b .marks) y ≡ true → isInner n y ≡ true
 unfolding markOk
 mark-inner n b f y l h = rw h at (f .marks y l)
 
-pub marked-formed : (n : ℕ) (b : Board) (x : ℕ) → Formed n b → inner n x ≡ true → Formed n (marked b x)
+pub marked-formed : (n : ℕ) (b : Board) (x : ℕ) → Formed n b → isInner n x ≡ true → Formed n (marked b x)
 unfolding marked
 marked-formed n b x f i =
     marks-formed n b (with (b .marks) x) f (λ y l h.
@@ -88,7 +90,7 @@ map-long f sets x w = length-set (map f sets) x w ∙ length-map sets f
 set-moved : (n : ℕ) (b c : Board) (f : ℕ → ℕ) (y : ℕ) → onRoute c y ≡ onRoute b y → setOf c y ≡ f (setOf b y) → f 0 ≡ 0
     → ((w : ℕ) → within w (legsOf b) ≡ true → within (f w) (legsOf c) ≡ true) → setOk n b y ≡ true → setOk n c y ≡ true
 unfolding setOk
-set-moved n b c f y o e z k h = rw (o, e) (go (inner n y && not (onRoute b y)) (setOf b y) h)
+set-moved n b c f y o e z k h = rw (o, e) (go (isInner n y && not (onRoute b y)) (setOf b y) h)
   where
     go : (t : Bool) (v : ℕ) → cond t (within v (legsOf b)) (eqb v 0) ≡ true → cond t (within (f v) (legsOf c)) (eqb (f v) 0) ≡ true
     go true v e = k v e
@@ -106,7 +108,7 @@ heir-no p x w h = rw h
 
 -- what an accepted placing knows
 pub record Splits (n : ℕ) (b : Board) (p x : ℕ) : Type 0 where
-  pub node : inner n x ≡ true
+  pub node : isInner n x ≡ true
   pub leg : legNode n p ≡ true
   pub off : onRoute b x ≡ false
   pub on : onRoute b p ≡ true
@@ -122,7 +124,7 @@ module _ (n : ℕ) (b : Board) (p x : ℕ) (small : n ≤ 64) (wide : Wide b) (f
   split-inside = leg-inside n b small wide (f .route) p (c .leg) (c .on)
 
   pub split-room : b .stops < n
-  split-room = room-left n b small wide (f .route) x (omega (arith, inner-in n x (c .node) .1)) (c .off)
+  split-room = room-left n b small wide (f .route) x (omega (arith, is-inner n x (c .node) .1)) (c .off)
 
   under : (j : ℕ) → j < at → getD new j 0 ≡ getD (b .route) j 0
   under j h = insert-under 63 at x j (b .route) (omega (arith, split-inside, split-room, wide .route)) h
@@ -144,7 +146,7 @@ module _ (n : ℕ) (b : Board) (p x : ℕ) (small : n ≤ 64) (wide : Wide b) (f
   new-below : (i : ℕ) → i < b .stops + 1 → getD new i 0 < n
   new-below i h =
       cases i (λ u. rw (under i u) (f .route .below i (omega (arith, split-inside))))
-      (λ e. rw (e, here) (omega (arith, inner-in n x (c .node) .1)))
+      (λ e. rw (e, here) (omega (arith, is-inner n x (c .node) .1)))
       (λ j e g. rw (e, over j g (omega (arith, split-room))) (f .route .below j (omega arith)))
 
   off-stop : (j : ℕ) → j < b .stops → getD (b .route) j 0 ≡ x → ⊥
@@ -247,13 +249,13 @@ module _ (n : ℕ) (b : Board) (p x : ℕ) (small : n ≤ 64) (wide : Wide b) (f
 
   pub placed-none : setOf (placed b p x) x ≡ 0
   unfolding setOf placed
-  placed-none = map-here (heir p x) (b .sets) x 0 (omega (arith, wide .sets, inner-in n x (c .node) .1))
+  placed-none = map-here (heir p x) (b .sets) x 0 (omega (arith, wide .sets, is-inner n x (c .node) .1))
 
   new-sets : (y : ℕ) → y < 64 → setOk n (placed b p x) y ≡ true
   unfolding setOk
   new-sets y l =
       decided (eqb y x)
-      (λ e. rw (eqb-true y x e, placed-on, placed-none, and-false (inner n x)))
+      (λ e. rw (eqb-true y x e, placed-on, placed-none, and-false (isInner n x)))
       (λ e. let d = eqb-false y x e in
       set-moved n b (placed b p x) (heir p x) y (placed-others y d) (placed-set y l d) (heir-no p x 0 (has-none p)) heir-legs (f .sets y l))
 
@@ -267,7 +269,7 @@ marks-left : (n : ℕ) (b : Board) (x w : ℕ) → Formed n b → (y : ℕ) → 
 unfolding markOk unplaced
 marks-left n b x w f y l = f .marks y l
 
-set-here : (n : ℕ) (b : Board) (x : ℕ) {w : ℕ} → onRoute b x ≡ false → inner n x ≡ true → setOf b x ≡ w → within w (legsOf b) ≡ true → setOk n b x ≡ true
+set-here : (n : ℕ) (b : Board) (x : ℕ) {w : ℕ} → onRoute b x ≡ false → isInner n x ≡ true → setOf b x ≡ w → within w (legsOf b) ≡ true → setOk n b x ≡ true
 unfolding setOk
 set-here n b x o i e h = rw (o, i, e) h
 
@@ -275,7 +277,7 @@ pub strike-none : (x : ℕ) → strike x 0 ≡ 0
 unfolding strike
 strike-none x = without-no 0 x (has-none x)
 
-module _ (n : ℕ) (b : Board) (x w : ℕ) (small : n ≤ 64) (wide : Wide b) (f : Formed n b) (node : inner n x ≡ true) (on : onRoute b x ≡ true) where
+module _ (n : ℕ) (b : Board) (x w : ℕ) (small : n ≤ 64) (wide : Wide b) (f : Formed n b) (node : isInner n x ≡ true) (on : onRoute b x ≡ true) where
   abbrev was : ℕ
   was = indexOf x (routeOf b)
 
@@ -395,7 +397,7 @@ module _ (n : ℕ) (b : Board) (x w : ℕ) (small : n ≤ 64) (wide : Wide b) (f
 
   pub unplaced-here : setOf (unplaced b x w) x ≡ w
   unfolding setOf unplaced
-  unplaced-here = map-here (strike x) (b .sets) x w (omega (arith, wide .sets, inner-in n x node .1))
+  unplaced-here = map-here (strike x) (b .sets) x w (omega (arith, wide .sets, is-inner n x node .1))
 
   pub unplaced-formed : within w (without (legsOf b) x) ≡ true → Formed n (unplaced b x w)
   unplaced-formed e = record { route = unplaced-routed; sets = left-sets; marks = left-marks }

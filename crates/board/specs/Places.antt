@@ -9,9 +9,10 @@ use borrow.Author.Tests.{eqb-true, eqb-false, eq-eqb, ltb-true, ltb-false}
 use Rattle.laws.specs.Logic.{decided}
 use Rattle.bits.specs.Places.{has, without}
 use Rattle.bits.specs.Members.{has-none, with-same, with-other, without-same, without-other}
+use Rattle.rules.proofs.Inner.{is-inner}
 use Rattle.board.specs.Board.{Board, setOf, openAt}
 use Rattle.board.specs.Change.{heir, putSet, placed, marked}
-use Rattle.board.specs.FormLaws.{Formed, Wide, inner-in, no-leg}
+use Rattle.board.specs.FormLaws.{Formed, Wide, no-leg}
 use Rattle.board.specs.Keep.{Splits, put-same, put-other, placed-set, placed-none, heir-yes, heir-no, placed-wide}
 
 -- past the sets nothing is open
@@ -56,7 +57,7 @@ open-placed n b p x small wide f c y q =
     (λ e. rw (eqb-true y x e, placed-none n b p x small wide f c, eq-eqb x x refl) (has-none q))
     (λ e. let d = eqb-false y x e in
     decided (ltb y 64)
-    (λ l. rw (placed-set n b p x small wide f c y (ltb-true y 64 l) d, e) (heir-has (setOf b y) (no-leg n b small wide f x y (omega (arith, inner-in n x (c .node) .1)) (c .off) (ltb-true y 64 l))))
+    (λ l. rw (placed-set n b p x small wide f c y (ltb-true y 64 l) d, e) (heir-has (setOf b y) (no-leg n b small wide f x y (omega (arith, is-inner n x (c .node) .1)) (c .off) (ltb-true y 64 l))))
     (λ l. rw (e, past y q (ltb-false y 64 l), past' y p (ltb-false y 64 l), past' y q (ltb-false y 64 l)) (sym (same (eqb q x)))))
   where
     same : (t : Bool) → cond t false false ≡ false
@@ -73,5 +74,5 @@ open-placed n b p x small wide f c y q =
     heir-has w h =
         decided (has w p)
         (λ k. rw (heir-yes p x w k)
-        (decided (eqb q x) (λ z. rw (eqb-true q x z, eq-eqb x x refl, k) (with-same w x (omega (arith, inner-in n x (c .node) .1)))) (λ z. rw z (with-other w x q (eqb-false q x z)))))
+        (decided (eqb q x) (λ z. rw (eqb-true q x z, eq-eqb x x refl, k) (with-same w x (omega (arith, is-inner n x (c .node) .1)))) (λ z. rw z (with-other w x q (eqb-false q x z)))))
         (λ k. rw (heir-no p x w k) (decided (eqb q x) (λ z. rw (eqb-true q x z, eq-eqb x x refl, k) h) (λ z. rw z refl)))

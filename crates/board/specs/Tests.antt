@@ -16,9 +16,10 @@ use Rattle.bits.specs.Places.{has, with, without, within}
 use Rattle.bits.specs.Digits.{digit-zero}
 use Rattle.bits.specs.Members.{digit-not, not-digit, has-none, false-true, without-with, shr-none, none-shr}
 use Rattle.bits.specs.Masks.{or-none}
+use Rattle.rules.specs.Day.{isInner}
 use Rattle.board.specs.Route.{wordOf}
 use Rattle.board.specs.RouteLaws.{word-mem, word-has, word-more}
-use Rattle.board.specs.Board.{Board, routeOf, onRoute, legsOf, setOf, inner}
+use Rattle.board.specs.Board.{Board, routeOf, onRoute, legsOf, setOf}
 use Rattle.board.specs.Form.{stopOk, setOk, markOk, nodeOk, boardOk, levelOk, levelsOk}
 
 -- entry i is 0 where it is unused: from k on
@@ -32,11 +33,11 @@ seenOf n stops l = cond (allBelow stops (stopOk n stops l)) (wordOf stops l) 0
 -- the set of node y; `on` are the nodes of the route, and its legs are those without the last one
 unfoldable pub setTest : ℕ → List ℕ → ℕ → ℕ → Bool
 setTest n sets on y =
-    cond (inner n y) (cond (has on y) (eqb (getD sets y 0) 0) (within (getD sets y 0) (without on (n - 1)))) (eqb (getD sets y 0) 0)
+    cond (isInner n y) (cond (has on y) (eqb (getD sets y 0) 0) (within (getD sets y 0) (without on (n - 1)))) (eqb (getD sets y 0) 0)
 
 -- a mark on node y
 unfoldable pub markTest : ℕ → ℕ → ℕ → Bool
-markTest n marks y = not (has marks y) || inner n y
+markTest n marks y = not (has marks y) || isInner n y
 
 -- the entry before i, 0 before the first
 unfoldable pub entryBefore : List ℕ → ℕ → ℕ
@@ -118,18 +119,18 @@ module _ (n stops : ℕ) (l : List ℕ) (small : n ≤ 64) (some : 0 < stops) wh
   unfolding seenOf
   seen-some h = decided (allBelow stops (stopOk n stops l)) (λ e. (e, rw e refl)) (λ e. absurd (h (rw e refl)))
 
--- ---- nodes that are not inner
+-- ---- nodes that are not isInner
 
-pub outer-first : (n : ℕ) → inner n 0 ≡ false
-unfolding inner
+pub outer-first : (n : ℕ) → isInner n 0 ≡ false
+unfolding isInner
 outer-first n = refl
 
-pub outer : (n y : ℕ) → n ≤ y + 1 → inner n y ≡ false
-unfolding inner
+pub outer : (n y : ℕ) → n ≤ y + 1 → isInner n y ≡ false
+unfolding isInner
 outer n y h = rw (le-ltb (y + 1) n h) (and-false (leb 1 y))
 
-outer-past : (n y : ℕ) → inner n y ≡ false → (y ≡ 0 → ⊥) → n ≤ y + 1
-unfolding inner
+outer-past : (n y : ℕ) → isInner n y ≡ false → (y ≡ 0 → ⊥) → n ≤ y + 1
+unfolding isInner
 outer-past n y e h = let p : 1 ≤ y = omega arith in ltb-false (y + 1) n (rw (le-leb 1 y p) at e)
 
 -- ---- sets and marks
@@ -152,7 +153,7 @@ set-test : (n : ℕ) (b : Board) (y : ℕ) → y < 64 → b .stops ≤ length (b
 unfolding setTest setOk setOf onRoute routeOf
 set-test n b y s l e =
     let w = getD (b .sets) y 0 in
-    rw (e, word-mem (b .stops) (b .route) y s l) (go (inner n y) (mem y (take (b .stops) (b .route))) (within w (legsOf b)) (eqb w 0))
+    rw (e, word-mem (b .stops) (b .route) y s l) (go (isInner n y) (mem y (take (b .stops) (b .route))) (within w (legsOf b)) (eqb w 0))
   where
     go : (i m w z : Bool) → cond i (cond m z w) z ≡ cond (i && not m) w z
     go true true w z = refl
@@ -168,18 +169,18 @@ nodes-test n b s h l e a =
     rw (below-same 64 (setTest n (b .sets) (wordOf (b .stops) (b .route))) (setOk n b) (λ y f. set-test n b y f l (legs-test n b s h l e o)))
     (sym (below-both 64 (setOk n b) (markOk n b) (nodeOk n b) (λ y. refl)))
 
--- what the loop over the sets asks of an inner node, and of another
+-- what the loop over the sets asks of an isInner node, and of another
 pub set-inner : (n : ℕ) (sets : List ℕ) (on y : ℕ) → 1 ≤ y → y + 1 < n
     → cond (has on y) (eqb (getD sets y 0) 0) (within (getD sets y 0) (without on (n - 1))) ≡ setTest n sets on y
-unfolding setTest inner
+unfolding setTest isInner
 set-inner n sets on y h l = rw (le-leb 1 y h, lt-ltb (y + 1) n l) refl
 
-pub set-outer : (n : ℕ) (sets : List ℕ) (on y : ℕ) → inner n y ≡ false → eqb (getD sets y 0) 0 ≡ setTest n sets on y
+pub set-outer : (n : ℕ) (sets : List ℕ) (on y : ℕ) → isInner n y ≡ false → eqb (getD sets y 0) 0 ≡ setTest n sets on y
 unfolding setTest
 set-outer n sets on y i = rw i refl
 
--- what a test of marks says of a node that is not inner
-no-mark : (n marks y : ℕ) → markTest n marks y ≡ true → inner n y ≡ false → has marks y ≡ false
+-- what a test of marks says of a node that is not isInner
+no-mark : (n marks y : ℕ) → markTest n marks y ≡ true → isInner n y ≡ false → has marks y ≡ false
 unfolding markTest
 no-mark n marks y e i = not-true (has marks y) (sym (or-false (not (has marks y))) ∙ rw i at e)
 
@@ -190,14 +191,14 @@ unfolding markTest
 marks-test n marks t s f =
     together (eqb (marks / 2 ^ (n - 1)) 0 && eqb (marks % 2) 0) (allBelow 64 (markTest n marks))
     (λ e. let a = and-true (eqb (marks / 2 ^ (n - 1)) 0) (eqb (marks % 2) 0) e in
-    below-make 64 (markTest n marks) (λ y l. decided (inner n y) (λ i. rw i (or-true (not (has marks y)))) (λ i. rw (clear (a .0) (a .1) y i) refl)))
-    (λ e. let at : (y : ℕ) → y < 64 → inner n y ≡ false → has marks y ≡ false = λ y l i. no-mark n marks y (below-at 64 y (markTest n marks) e l) i in
+    below-make 64 (markTest n marks) (λ y l. decided (isInner n y) (λ i. rw i (or-true (not (has marks y)))) (λ i. rw (clear (a .0) (a .1) y i) refl)))
+    (λ e. let at : (y : ℕ) → y < 64 → isInner n y ≡ false → has marks y ≡ false = λ y l i. no-mark n marks y (below-at 64 y (markTest n marks) e l) i in
     rw (
       eq-eqb (marks / 2 ^ (n - 1)) 0 (none-shr marks (n - 1) f (λ y h l. at y l (outer n y (omega arith)))),
       eq-eqb (marks % 2) 0 (sym (digit-zero marks) ∙ digit-not marks 0 (at 0 (omega arith) (outer-first n))),
     ))
   where
-    clear : eqb (marks / 2 ^ (n - 1)) 0 ≡ true → eqb (marks % 2) 0 ≡ true → (y : ℕ) → inner n y ≡ false → has marks y ≡ false
+    clear : eqb (marks / 2 ^ (n - 1)) 0 ≡ true → eqb (marks % 2) 0 ≡ true → (y : ℕ) → isInner n y ≡ false → has marks y ≡ false
     clear p q y i =
         decided (eqb y 0)
         (λ z. rw (eqb-true y 0 z) (not-digit marks 0 (digit-zero marks ∙ eqb-true (marks % 2) 0 q)))

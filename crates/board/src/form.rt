@@ -6,15 +6,17 @@ ghost use lib.ListN.{length};
 ghost use lib.Dec.{eqb};
 ghost use Rattle.laws.specs.Below.{allBelow};
 ghost use Rattle.bits.specs.Places.{has, within};
-ghost use Rattle.board.specs.Board.{inner, legNode, board, stateOf};
+ghost use Rattle.rules.specs.Day.{isInner};
+ghost use Rattle.board.specs.Board.{legNode, board, stateWith};
 ghost use Rattle.board.specs.Form.{boardOk, levelsOk, inForm};
 ghost use Rattle.board.specs.Tests.{zeroFrom, seenOf, setTest, markTest};
+use crate::Figures;
 use crate::State;
 use rules::Node;
 
 // Whether x is between 1 and n - 2.
 pub fn inner(n: usize, x: usize) -> bool
-    ensures { λ r. ⌜ r ≡ inner n x ⌝ }
+    ensures { λ r. ⌜ r ≡ isInner n x ⌝ }
 {
     if x < 1 {
         return false;
@@ -161,22 +163,19 @@ fn board_ok<'a>(
     sets_ok(sets, n, on) & marks_ok(marks, n)
 }
 
-// Whether the state of these numbers is in form, the record count's room apart.
+// Whether the state of these arrays and numbers is in form, the record count's room apart.
 pub fn in_form<'a>(
     route: &'a [usize; Node::MOST],
-    stops: usize,
     sets: &'a [u64; Node::MOST],
-    marks: u64,
     levels: &'a [usize; State::LEVELS],
-    depth: usize,
-    records: usize,
+    f: Figures,
     n: usize,
 ) -> bool
     requires { ⌜ (n ≤ 64) × (length (now route) ≡ 64) ⌝ }
-    ensures { λ r. ⌜ r ≡ inForm n (stateOf (now (route .entry)) stops (now (sets .entry)) marks (now (levels .entry)) depth records) ⌝ }
+    ensures { λ r. ⌜ r ≡ inForm n (stateWith (now (route .entry)) (now (sets .entry)) (now (levels .entry)) f) ⌝ }
 {
-    if !board_ok(route, stops, sets, marks, n) {
+    if !board_ok(route, f.stops, sets, f.marks, n) {
         return false;
     }
-    levels_ok(levels, depth, records)
+    levels_ok(levels, f.depth, f.records)
 }

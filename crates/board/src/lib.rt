@@ -1,4 +1,6 @@
-// The board: a round in the making, by value.
+// The board: a round in the making, by value. form: when a state is in form. change: a node placed, and taken off again, with no trail.
+// route and places: what these do to the one array and to the other.
+pub mod change;
 pub mod form;
 pub mod places;
 pub mod route;

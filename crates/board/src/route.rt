@@ -5,6 +5,9 @@ ghost use lib.ListN.{getD, length, take};
 ghost use Rattle.board.specs.Route.{indexOf, insertIn, removeIn, wordOf};
 use rules::Node;
 
+// The last entry of the array.
+const LAST: usize = Node::MOST - 1;
+
 // Where p stands on the route; the number of stops where it does not.
 pub fn position(route: &[usize; Node::MOST], stops: usize, p: usize) -> usize
     requires { ⌜ (stops ≤ 64) × (length (now route) ≡ 64) ⌝ }
@@ -40,7 +43,7 @@ pub fn insert(route: &mut [usize; Node::MOST], at: usize, x: usize)
     requires { ⌜ (at < 64) × (length (now route) ≡ 64) ⌝ }
     ensures { λ r. ⌜ now (route .exit) ≡ insertIn 63 at x (now (route .entry)) ⌝ }
 {
-    let mut j = 63;
+    let mut j = LAST;
     while at < j {
         let v = route[j - 1];
         route[j] = v;
@@ -55,10 +58,10 @@ pub fn remove(route: &mut [usize; Node::MOST], at: usize)
     ensures { λ r. ⌜ now (route .exit) ≡ removeIn at (now (route .entry)) ⌝ }
 {
     let mut j = at;
-    while j < 63 {
+    while j < LAST {
         let v = route[j + 1];
         route[j] = v;
         j += 1;
     }
-    route[63] = 0;
+    route[LAST] = 0;
 }

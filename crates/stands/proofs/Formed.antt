@@ -4,23 +4,24 @@ use mathlib.Core.Path.{_≡_, sym, ap, subst, _∙_}
 use mathlib.Core.Bool.{true, false, not, _&&_}
 use mathlib.Core.List.{List, [], _∷_}
 use native.Mathlib.Omega.{arith}
-use lib.Dec.{T, eqb, ltb}
+use lib.Dec.{T, ltb}
 use lib.ListN.{length, getD, take, drop, length-take}
 use lib.Seq.{getD-take}
-use borrow.Author.Tests.{eqb-true, eqb-false, ltb-true, ltb-false, not-true}
+use borrow.Author.Tests.{eqb-true, ltb-true, ltb-false, not-true}
 use Rattle.laws.specs.Logic.{T→true, true→T, false→N, decided, and-true}
-use Rattle.laws.specs.Lists.{In, here, there, mem}
+use Rattle.laws.specs.Lists.{mem}
 use Rattle.bits.specs.Places.{has}
 use Rattle.bits.specs.Members.{has-none, has-low, within-has, false-true}
-use Rattle.board.specs.Board.{Board, routeOf, onRoute, legsOf, setOf, openAt, inner}
+use Rattle.rules.specs.Day.{isInner}
+use Rattle.rules.proofs.Inner.{is-inner-in}
+use Rattle.board.specs.Board.{Board, routeOf, onRoute, legsOf, setOf, openAt}
 use Rattle.board.specs.Form.{setOk}
 use Rattle.board.specs.RouteLaws.{mem-at, mem-none}
 use Rattle.board.specs.Held.{Words}
 use Rattle.board.specs.FormLaws as board
 use Rattle.board.specs.Keep.{mark-inner}
 use Rattle.board.specs.Places.{open-past}
-use Rattle.rules.specs.Day.{Day, downFrom}
-use Rattle.rules.specs.Day as day
+use Rattle.rules.specs.Day.{Day}
 use Rattle.rules.specs.Leg.{legStops}
 use Rattle.rules.specs.Rounds.{Distinct, none, more}
 use Rattle.rules.specs.Asked.{Formed, endsWith}
@@ -35,16 +36,6 @@ distinct n (x ∷ l) low once =
     more (low 0 (omega arith)) (false→N (mem x l) (mem-none x l (λ k h e. once (suc k) 0 (omega arith) (omega arith) (sym e))))
     (distinct n l (λ i h. low (suc i) (omega arith)) (λ i j h g. once (suc i) (suc j) (omega arith) (omega arith)))
 
-down-in : (m y : ℕ) → 1 ≤ y → y ≤ m → In y (downFrom m)
-down-in zero y a b = absurd (omega arith)
-down-in (suc m) y a b =
-    decided (eqb y (suc m)) (λ e. subst (λ (k : ℕ). In y (k ∷ downFrom m)) (eqb-true y (suc m) e) here)
-    (λ e. let ne = eqb-false y (suc m) e in there (down-in m y a (omega arith)))
-
--- a node between 1 and n − 2 is an inner node of the day
-pub inner-in : (d : Day) (y : ℕ) → inner (d .n) y ≡ true → In y (day.inner d)
-inner-in d y e = let h = board.inner-in (d .n) y e in down-in (d .n - 2) y (h .0) (omega arith)
-
 -- the first of k entries, and the others
 take-first : (k : ℕ) (l : List ℕ) → 1 ≤ k → 1 ≤ length l → take k l ≡ getD l 0 0 ∷ take (k - 1) (drop 1 l)
 take-first zero l h g = absurd (omega arith)
@@ -58,7 +49,7 @@ module _ (d : Day) (b : Board) (small : d .n ≤ 64) (wide : board.Wide b) (word
   at : (i : ℕ) → i < b .stops → getD (routeOf b) i 0 ≡ getD (b .route) i 0
   at i h = board.route-at (d .n) b small wide (form .route) i h
 
-  -- ---- a node with an open place: it is inner and off the route, and its places are legs
+  -- ---- a node with an open place: it is isInner and off the route, and its places are legs
 
   near : (y q : ℕ) → T (openAt b y q) → y < 64
   near y q t = decided (ltb y 64) (ltb-true y 64) (λ e. absurd (false-true (sym (open-past b y q (omega (arith, wide .sets, ltb-false y 64 e))) ∙ T→true (openAt b y q) t)))
@@ -73,11 +64,11 @@ module _ (d : Day) (b : Board) (small : d .n ≤ 64) (wide : board.Wide b) (word
       (true→T _ (mem-at q (f .0) (take (length (routeOf b) - 1) (routeOf b)) (omega (arith, length-take (length (routeOf b) - 1) (routeOf b), long, f .1))
       (getD-take (length (routeOf b) - 1) (routeOf b) (f .0) 0 (omega (arith, long, f .1)) ∙ at (f .0) (omega (arith, f .1)) ∙ f .2)))
 
-  open-node : (y q : ℕ) → T (openAt b y q) → (inner (d .n) y ≡ true) × (onRoute b y ≡ false)
+  open-node : (y q : ℕ) → T (openAt b y q) → (isInner (d .n) y ≡ true) × (onRoute b y ≡ false)
   unfolding setOk openAt
   open-node y q t =
-      decided (inner (d .n) y && not (onRoute b y))
-      (λ e. let i = and-true (inner (d .n) y) (not (onRoute b y)) e in (i .0, not-true (onRoute b y) (i .1)))
+      decided (isInner (d .n) y && not (onRoute b y))
+      (λ e. let i = and-true (isInner (d .n) y) (not (onRoute b y)) e in (i .0, not-true (onRoute b y) (i .1)))
       (λ e. let z = eqb-true (setOf b y) 0 (rw e at (form .sets y (near y q t))) in
       absurd (false-true (sym (has-none q) ∙ ap (λ (w : ℕ). has w q) (sym z) ∙ T→true (has (setOf b y) q) t)))
 
@@ -99,8 +90,8 @@ module _ (d : Day) (b : Board) (small : d .n ≤ 64) (wide : board.Wide b) (word
     nodes = distinct (d .n) (routeOf b)
         (λ i h. rw (at i (omega (arith, long))) (form .route .below i (omega (arith, long))))
         (λ i j h g e. form .route .once i j (omega (arith, long)) g (sym (at j (omega (arith, long))) ∙ e ∙ at i (omega (arith, long))));
-    inside = λ y q t. inner-in d y (open-node y q t .0);
+    inside = λ y q t. is-inner-in (d .n) y (open-node y q t .0);
     off = λ y q t. false→N _ (open-node y q t .1);
     leg = open-leg;
-    marked = λ y t. let yes = T→true (has (b .marks) y) t in inner-in d y (mark-inner (d .n) b form y (has-low (b .marks) y (words .marks) yes) yes);
+    marked = λ y t. let yes = T→true (has (b .marks) y) t in is-inner-in (d .n) y (mark-inner (d .n) b form y (has-low (b .marks) y (words .marks) yes) yes);
   }

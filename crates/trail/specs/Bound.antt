@@ -1,5 +1,5 @@
 -- From a fresh state any accepted steps keep the record count at or below n(n − 2).
--- What a board is still worth: for each inner node off the route its open places, its mark, and one for each node not yet placed. Each record lowers it.
+-- What a board is still worth: for each isInner node off the route its open places, its mark, and one for each node not yet placed. Each record lowers it.
 use mathlib.Core.Path.{_≡_, refl, ap, sym, _∙_}
 use mathlib.Core.Bool.{Bool, true, false, cond, not, _&&_, and-false}
 use mathlib.Core.List.{List, []}
@@ -14,11 +14,13 @@ use Rattle.laws.specs.Sum.{sumBelow, sum-le, sum-lt}
 use Rattle.bits.specs.Places.{has, with, within}
 use Rattle.bits.specs.Members.{has-none, with-same, with-other}
 use Rattle.bits.specs.Number.{members, members-strict, members-most, members-first}
-use Rattle.board.specs.Board.{Board, board, boardOf, onRoute, routeOf, setOf, inner}
+use Rattle.rules.specs.Day.{isInner}
+use Rattle.rules.proofs.Inner.{is-inner}
+use Rattle.board.specs.Board.{Board, board, boardOf, onRoute, routeOf, setOf}
 use Rattle.board.specs.Fresh.{freshState, freshSet, fresh-is}
 use Rattle.board.specs.FreshForm.{freshBoard, fresh-wide, fresh-set, fresh-off, fresh-formed, fresh-inform, fresh-held}
 use Rattle.board.specs.Change.{heir, putSet, placed, marked}
-use Rattle.board.specs.FormLaws.{Sound, inner-in, room-left}
+use Rattle.board.specs.FormLaws.{Sound, room-left}
 use Rattle.board.specs.Held.{Words}
 use Rattle.board.specs.declared.State.{State}
 use Rattle.board.specs.Keep.{Splits, put-same, put-other, placed-set, placed-on, placed-others, heir-yes, heir-no}
@@ -32,23 +34,23 @@ use Rattle.trail.specs.Run.{Smaller, Runs}
 use Rattle.trail.specs.Run as run
 use Rattle.trail.specs.Since.{Since, strict, changed-free, move-since}
 
--- what an inner node off the route is worth
+-- what an isInner node off the route is worth
 abbrev pub price : ℕ → ℕ → ℕ → Bool → ℕ
 price n stops w m = members 64 w + cond m 0 1 + (n - stops)
 
 unfoldable pub weight : ℕ → Board → ℕ → ℕ
-weight n b y = cond (inner n y && not (onRoute b y)) (price n (b .stops) (setOf b y) (has (b .marks) y)) 0
+weight n b y = cond (isInner n y && not (onRoute b y)) (price n (b .stops) (setOf b y) (has (b .marks) y)) 0
 
 unfoldable pub worth : ℕ → Board → ℕ
 worth n b = sumBelow 64 (weight n b)
 
-weight-free : (n : ℕ) (b : Board) (x : ℕ) → inner n x ≡ true → onRoute b x ≡ false → weight n b x ≡ price n (b .stops) (setOf b x) (has (b .marks) x)
+weight-free : (n : ℕ) (b : Board) (x : ℕ) → isInner n x ≡ true → onRoute b x ≡ false → weight n b x ≡ price n (b .stops) (setOf b x) (has (b .marks) x)
 unfolding weight
 weight-free n b x i o = rw (i, o)
 
 weight-on : (n : ℕ) (b : Board) (x : ℕ) → onRoute b x ≡ true → weight n b x ≡ 0
 unfolding weight
-weight-on n b x o = rw (o, and-false (inner n x))
+weight-on n b x o = rw (o, and-false (isInner n x))
 
 -- ---- a smaller set
 
@@ -60,7 +62,7 @@ put-rest : (n : ℕ) (b : Board) (x v y : ℕ) → (y ≡ x → ⊥) → weight 
 unfolding weight
 put-rest n b x v y d = let r = put-road b x v y in rw (put-other b x v y d, r .0, r .2, r .1)
 
-put-less : (n : ℕ) (b : Board) (x v : ℕ) → inner n x ≡ true → onRoute b x ≡ false → setOf (putSet b x v) x ≡ v → members 64 v < members 64 (setOf b x)
+put-less : (n : ℕ) (b : Board) (x v : ℕ) → isInner n x ≡ true → onRoute b x ≡ false → setOf (putSet b x v) x ≡ v → members 64 v < members 64 (setOf b x)
     → weight n (putSet b x v) x < weight n b x
 put-less n b x v i o h q =
     let r = put-road b x v x in
@@ -69,7 +71,7 @@ put-less n b x v i o h q =
 shrinks-less : (n : ℕ) (b : Board) (x v : ℕ) → Sound n b → Free n b x → strictly v (setOf b x) ≡ true → worth n (putSet b x v) < worth n b
 unfolding worth strictly
 shrinks-less n b x v s f t =
-    let l : x < 64 = omega (arith, inner-in n x (f .node) .1, s .small) in
+    let l : x < 64 = omega (arith, is-inner n x (f .node) .1, s .small) in
     let e = and-true (within v (setOf b x)) (not (within (setOf b x) v)) t in
     let q = members-strict v (setOf b x) (e .0) (not-true (within (setOf b x) v) (e .1)) in
     let here = put-same b x v (omega (arith, s .wide .sets, l)) in
@@ -88,7 +90,7 @@ mark-rest : (n : ℕ) (b : Board) (x y : ℕ) → (y ≡ x → ⊥) → weight n
 unfolding weight
 mark-rest n b x y d = let r = mark-road b x y in rw (r .2, r .0, r .3, r .1, with-other (b .marks) x y d)
 
-mark-less : (n : ℕ) (b : Board) (x : ℕ) → x < 64 → inner n x ≡ true → onRoute b x ≡ false → has (b .marks) x ≡ false → weight n (marked b x) x < weight n b x
+mark-less : (n : ℕ) (b : Board) (x : ℕ) → x < 64 → isInner n x ≡ true → onRoute b x ≡ false → has (b .marks) x ≡ false → weight n (marked b x) x < weight n b x
 mark-less n b x l i o m =
     let r = mark-road b x x in
     rw (weight-free n (marked b x) x i (r .0 ∙ o), weight-free n b x i o, r .2, r .3, r .1, with-same (b .marks) x l, m) (omega arith)
@@ -96,7 +98,7 @@ mark-less n b x l i o m =
 marks-less : (n : ℕ) (b : Board) (x : ℕ) → Sound n b → Free n b x → has (b .marks) x ≡ false → worth n (marked b x) < worth n b
 unfolding worth
 marks-less n b x s f o =
-    let l : x < 64 = omega (arith, inner-in n x (f .node) .1, s .small) in
+    let l : x < 64 = omega (arith, is-inner n x (f .node) .1, s .small) in
     let less = mark-less n b x l (f .node) (f .off) o in
     sum-lt 64 x (weight n (marked b x)) (weight n b)
     (λ y m. decided (eqb y x) (λ z. rw (eqb-true y x z) (omega (arith, less))) (λ z. omega (arith, mark-rest n b x y (eqb-false y x z))))
@@ -117,7 +119,7 @@ other : (n : ℕ) (b : Board) (p x y : ℕ) → onRoute (placed b p x) y ≡ onR
 unfolding weight
 other n b p x y o e l left =
     let r = place-road b p x in
-    rw (o, e, r .0, r .1) (go (inner n y && not (onRoute b y)) (has (b .marks) y) (heir-most p x (setOf b y) l))
+    rw (o, e, r .0, r .1) (go (isInner n y && not (onRoute b y)) (has (b .marks) y) (heir-most p x (setOf b y) l))
   where
     go : (t m : Bool) → members 64 (heir p x (setOf b y)) ≤ members 64 (setOf b y) + 1
         → cond t (price n (b .stops + 1) (heir p x (setOf b y)) m) 0 ≤ cond t (price n (b .stops) (setOf b y) m) 0
@@ -128,8 +130,8 @@ other n b p x y o e l left =
 places-less : (n : ℕ) (b : Board) (p x : ℕ) → Sound n b → Splits n b p x → worth n (placed b p x) < worth n b
 unfolding worth
 places-less n b p x s f =
-    let l : x < 64 = omega (arith, inner-in n x (f .node) .1, s .small) in
-    let left : b .stops < n = room-left n b (s .small) (s .wide) (s .form .route) x (omega (arith, inner-in n x (f .node) .1)) (f .off) in
+    let l : x < 64 = omega (arith, is-inner n x (f .node) .1, s .small) in
+    let left : b .stops < n = room-left n b (s .small) (s .wide) (s .form .route) x (omega (arith, is-inner n x (f .node) .1)) (f .off) in
     let less : weight n (placed b p x) x < weight n b x =
     rw (weight-on n (placed b p x) x (placed-on n b p x (s .small) (s .wide) (s .form) f), weight-free n b x (f .node) (f .off)) (omega (arith, left)) in
     sum-lt 64 x (weight n (placed b p x)) (weight n b)
@@ -159,7 +161,7 @@ settle-same : (n : ℕ) (b : Board) (new : List ℕ) (y : ℕ) → setOf b y ≡
 unfolding weight
 settle-same n b new y e = let r = new-road b new y in rw (r .1, r .0, e)
 
-settle-one : (n : ℕ) (b : Board) (new : List ℕ) (y : ℕ) → inner n y ≡ true → onRoute b y ≡ false → members 64 (getD new y 0) < members 64 (setOf b y)
+settle-one : (n : ℕ) (b : Board) (new : List ℕ) (y : ℕ) → isInner n y ≡ true → onRoute b y ≡ false → members 64 (getD new y 0) < members 64 (setOf b y)
     → weight n (board (b .route) (b .stops) new (b .marks)) y < weight n b y
 settle-one n b new y i o q =
     let r = new-road b new y in
@@ -187,23 +189,23 @@ settle-less n b new s h g (suc k) l =
 
 -- ---- a fresh board is worth n(n - 2)
 
-inner-sum : (n m k : ℕ) → sumBelow k (λ y. cond (inner n y) m 0) ≤ m * (min k (n - 1) - 1)
+inner-sum : (n m k : ℕ) → sumBelow k (λ y. cond (isInner n y) m 0) ≤ m * (min k (n - 1) - 1)
 unfolding sumBelow
 inner-sum n m zero = omega arith
 inner-sum n m (suc k) =
-    decided (inner n k)
-    (λ e. let a = inner-in n k e in
+    decided (isInner n k)
+    (λ e. let a = is-inner n k e in
     let y : min k (n - 1) - 1 ≡ k - 1 = omega (arith, a .0, a .1) in
     let z : min (suc k) (n - 1) - 1 ≡ suc (k - 1) = omega (arith, a .0, a .1) in
-    let i : sumBelow k (λ y. cond (inner n y) m 0) ≤ m * (k - 1) = rw y at (inner-sum n m k) in
+    let i : sumBelow k (λ y. cond (isInner n y) m 0) ≤ m * (k - 1) = rw y at (inner-sum n m k) in
     rw (e, z) (omega (arith, i, mul-suc m (k - 1))))
     (λ e. let z : min k (n - 1) - 1 ≤ min (suc k) (n - 1) - 1 = omega arith in
     rw e (omega (arith, inner-sum n m k, mul-le-mul-left m z)))
 
-fresh-weight : (n : ℕ) → 2 ≤ n → n ≤ 64 → (y : ℕ) → y < 64 → weight n (freshBoard n) y ≤ cond (inner n y) n 0
+fresh-weight : (n : ℕ) → 2 ≤ n → n ≤ 64 → (y : ℕ) → y < 64 → weight n (freshBoard n) y ≤ cond (isInner n y) n 0
 unfolding weight freshSet
 fresh-weight n two small y l =
-    decided (inner n y)
+    decided (isInner n y)
     (λ e. rw (fresh-set n two small y l, e, fresh-off n two small y e, has-none y, members-first) (omega arith))
     (λ e. rw e (omega arith))
 
@@ -211,8 +213,8 @@ pub fresh-worth : (n : ℕ) → 2 ≤ n → n ≤ 64 → worth n (freshBoard n) 
 unfolding worth
 fresh-worth n two small =
     let z : min 64 (n - 1) - 1 ≡ n - 2 = omega arith in
-    let i : sumBelow 64 (λ y. cond (inner n y) n 0) ≤ n * (n - 2) = rw z at (inner-sum n n 64) in
-    omega (arith, i, sum-le 64 (weight n (freshBoard n)) (λ y. cond (inner n y) n 0) (fresh-weight n two small))
+    let i : sumBelow 64 (λ y. cond (isInner n y) n 0) ≤ n * (n - 2) = rw z at (inner-sum n n 64) in
+    omega (arith, i, sum-le 64 (weight n (freshBoard n)) (λ y. cond (isInner n y) n 0) (fresh-weight n two small))
 
 -- ---- runs from a fresh state
 
@@ -258,7 +260,7 @@ module _ (n : ℕ) (two : 2 ≤ n) (small : n ≤ 64) (t : List ℕ) (r : State)
   sound : Sound n (boardOf r)
   sound = record { small = small; wide = reached .held .wide; form = reached .form .board }
 
-  -- so with that room one record more never exceeds it (17), and neither does a settling
+  -- so with that room one record more never exceeds it, and neither does a settling
   pub record-room : (a w : ℕ) (c : Board) → Small n (boardOf r) a w c → r .records < n * (n - 2)
   record-room a w c q = omega (arith, all-records, small-less sound q)
 
@@ -266,7 +268,7 @@ module _ (n : ℕ) (two : 2 ≤ n) (small : n ≤ 64) (t : List ℕ) (r : State)
   unfolding worth
   settle-room new g = omega (arith, all-records, settle-less n (boardOf r) new sound (reached .held .words) g 64 (omega arith))
 
-  -- and every record above the last level fits (20)
+  -- and every record above the last level fits
   pub reached-fits : 0 < r .depth → undoLevel n r u .0 ≡ true
   unfolding undoLevel baseOf
   reached-fits h =

@@ -1,7 +1,8 @@
--- What a reader must believe: Trail (records), Refusals, Undo (what fits, and what undoing gives), Steps (each step's answer, state and trail), Run (accepted steps one after another).
+-- What a reader must believe: Trail (records, and the names of their kinds), Refusals (why each step is refused), Undo (what fits, and what undoing
+-- gives), Steps (what each step gives: answer, rounds, state and trail), Run (accepted steps one after another).
 -- Their laws: TrailLaws, UndoLaws, UndoWords, StepLaws. Small: what one record stands for, and undoing inverts it. Spells: a stretch of the trail undone.
 -- Since: what holds since a level was opened. The theorems: StepBack (stepping back restores the state; every accepted step keeps the form),
--- Bound (from fresh at most n(n - 2) records), Never (so 17 and 20 are not met with that room). Examples: small cases, computed.
+-- Bound (from fresh at most n(n - 2) records), Never (so with that room no step is refused for its room, and none for a misfit). Examples: small cases, computed.
 pub mod Trail
 pub mod Refusals
 pub mod Undo
@@ -17,4 +18,5 @@ pub mod Since
 pub mod StepBack
 pub mod Bound
 pub mod Never
+pub mod Still
 pub mod Examples

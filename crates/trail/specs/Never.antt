@@ -1,21 +1,24 @@
--- From a fresh state, with room for n(n − 2) records, 17 and 20 are never met.
-use mathlib.Core.Path.{_≡_, refl, ap, sym}
+-- From a fresh state, with room for n(n − 2) records, no step is refused for its room, and none for a misfit.
+use mathlib.Core.Path.{_≡_, refl, ap, sym, _∙_}
 use mathlib.Core.Bool.{Bool, true, false, not, _&&_, _||_}
 use mathlib.Core.List.{List}
-use Prim.Native.Nat.{ℕ, suc, _+_, _-_, _*_, _/_, _≤_, _<_}
+use Prim.Native.Nat.{ℕ, _+_, _-_, _*_, _/_, _≤_, _<_}
 use native.Mathlib.Omega.{arith}
 use lib.Dec.{eqb, leb, ltb}
 use borrow.Author.Tests.{eqb-false, ltb-false, leb-false, not-true}
 use Rattle.laws.specs.Logic.{and-true}
-use Rattle.laws.specs.Choice.{orElse, unless}
+use Rattle.laws.specs.Choice.{orElse, unless, or-else-first}
 use Rattle.bits.specs.Places.{has}
 use Rattle.bits.specs.Members.{false-true, within-none}
-use Rattle.board.specs.Board.{boardOf, onRoute, setOf, openAt, inner, legNode}
+use Rattle.rules.specs.Refusal.{NODE, PLACED, UNPLACED, SHUT, OWED, ROOM, MISFIT}
+use Rattle.rules.specs.Day.{isInner}
+use Rattle.rules.proofs.Inner.{is-inner}
+use Rattle.board.specs.Board.{boardOf, onRoute, setOf, openAt, legNode}
 use Rattle.board.specs.Fresh.{freshState}
 use Rattle.board.specs.Change.{putSet, placed, marked}
-use Rattle.board.specs.FormLaws.{inner-in}
 use Rattle.board.specs.declared.State.{State}
-use Rattle.trail.specs.Trail.{roomOf, shrunk}
+use Rattle.trail.specs.Trail.{roomOf, SHRUNK, MARKED, firstWord, shrunk}
+use Rattle.trail.specs.Trail as trail
 use Rattle.trail.specs.Refusals.{placeRefusal, excludeRefusal, requireRefusal}
 use Rattle.trail.specs.Steps.{undoLevel}
 use Rattle.trail.specs.Small.{shrinks, places, marks}
@@ -23,15 +26,15 @@ use Rattle.trail.specs.Run.{Smaller, Runs}
 use Rattle.trail.specs.Since.{strict}
 use Rattle.trail.specs.Bound.{reached, record-room, settle-room, reached-fits}
 
--- a test of another number was passed where the refusal is 17
-skip : (t : Bool) (i b : ℕ) → (suc i ≡ 17 → ⊥) → orElse (unless t (suc i)) b ≡ 17 → (t ≡ true) × (b ≡ 17)
+-- a test of another number was passed where the refusal is the room's
+skip : (t : Bool) (k b : ℕ) → eqb k 0 ≡ false → eqb k ROOM ≡ false → orElse (unless t k) b ≡ ROOM → (t ≡ true) × (b ≡ ROOM)
 unfolding orElse
-skip true i b d e = (refl, e)
-skip false i b d e = absurd (d e)
+skip true k b n d e = (refl, e)
+skip false k b n d e = absurd (eqb-false k ROOM d (or-else-first k b (eqb-false k 0 n) ∙ e))
 
--- and 17's own failed
-last : (t : Bool) → unless t 17 ≡ 17 → t ≡ false
-last true e = absurd (eqb-false 0 17 refl e)
+-- and the room's own failed
+last : (t : Bool) → unless t ROOM ≡ ROOM → t ≡ false
+last true e = absurd (eqb-false 0 ROOM refl e)
 last false e = refl
 
 neither : (a b : Bool) → a || b ≡ false → (a ≡ false) × (b ≡ false)
@@ -43,45 +46,45 @@ module _ (n : ℕ) (two : 2 ≤ n) (small : n ≤ 64) (t : List ℕ) (r : State)
   unfolding roomOf
   room-is = ap (λ (k : ℕ). k / 2) (reached n two small t r u run .long)
 
-  pub place-17 : (p x : ℕ) → placeRefusal n (boardOf r) (r .records) (roomOf u) p x ≡ 17 → ⊥
+  pub place-roomy : (p x : ℕ) → placeRefusal n (boardOf r) (r .records) (roomOf u) p x ≡ ROOM → ⊥
   unfolding placeRefusal
-  place-17 p x e =
+  place-roomy p x e =
       let b = boardOf r in
-      let i = skip (inner n x && legNode n p) 11 _ (eqb-false 12 17 refl) e in
-      let o = skip (not (onRoute b x)) 12 _ (eqb-false 13 17 refl) (i .1) in
-      let q = skip (onRoute b p) 13 _ (eqb-false 14 17 refl) (o .1) in
-      let w = skip (openAt b x p) 14 _ (eqb-false 15 17 refl) (q .1) in
-      let a = and-true (inner n x) (legNode n p) (i .0) in
-      let l = record-room n two small t r u run (512 + x) (setOf b x) (placed b p x)
+      let i = skip (isInner n x && legNode n p) NODE _ refl refl e in
+      let o = skip (not (onRoute b x)) PLACED _ refl refl (i .1) in
+      let q = skip (onRoute b p) UNPLACED _ refl refl (o .1) in
+      let w = skip (openAt b x p) SHUT _ refl refl (q .1) in
+      let a = and-true (isInner n x) (legNode n p) (i .0) in
+      let l = record-room n two small t r u run (firstWord trail.PLACED x) (setOf b x) (placed b p x)
       (places p x (record { node = a .0; leg = a .1; off = not-true (onRoute b x) (o .0); on = q .0 }) (w .0) refl refl refl) in
       omega (arith, l, room-is, space, ltb-false (r .records) (roomOf u) (last (ltb (r .records) (roomOf u)) (w .1)))
 
-  pub exclude-17 : (owed : Bool) (x : ℕ) → excludeRefusal n (boardOf r) (r .records) (roomOf u) owed x ≡ 17 → ⊥
+  pub exclude-roomy : (owed : Bool) (x : ℕ) → excludeRefusal n (boardOf r) (r .records) (roomOf u) owed x ≡ ROOM → ⊥
   unfolding excludeRefusal
-  exclude-17 owed x e =
+  exclude-roomy owed x e =
       let b = boardOf r in
-      let i = skip (inner n x) 11 _ (eqb-false 12 17 refl) e in
-      let o = skip (not (onRoute b x)) 12 _ (eqb-false 13 17 refl) (i .1) in
-      let q = skip (not owed) 15 _ (eqb-false 16 17 refl) (o .1) in
+      let i = skip (isInner n x) NODE _ refl refl e in
+      let o = skip (not (onRoute b x)) PLACED _ refl refl (i .1) in
+      let q = skip (not owed) OWED _ refl refl (o .1) in
       let z = neither (eqb (setOf b x) 0) (ltb (r .records) (roomOf u)) (last (eqb (setOf b x) 0 || ltb (r .records) (roomOf u)) (q .1)) in
-      let h = reached n two small t r u run .held .words .fits x (omega (arith, inner-in n x (i .0) .1, small)) in
-      let l = record-room n two small t r u run (256 + x) (setOf b x) (putSet b x 0)
+      let h = reached n two small t r u run .held .words .fits x (omega (arith, is-inner n x (i .0) .1, small)) in
+      let l = record-room n two small t r u run (firstWord SHRUNK x) (setOf b x) (putSet b x 0)
       (shrinks x 0 (record { node = i .0; off = not-true (onRoute b x) (o .0) }) (strict 0 (setOf b x) (omega arith) h (within-none (setOf b x)) (eqb-false (setOf b x) 0 (z .0))) (omega arith) refl refl refl) in
       omega (arith, l, room-is, space, ltb-false (r .records) (roomOf u) (z .1))
 
-  pub require-17 : (x : ℕ) → requireRefusal n (boardOf r) (r .records) (roomOf u) x ≡ 17 → ⊥
+  pub require-roomy : (x : ℕ) → requireRefusal n (boardOf r) (r .records) (roomOf u) x ≡ ROOM → ⊥
   unfolding requireRefusal
-  require-17 x e =
+  require-roomy x e =
       let b = boardOf r in
-      let i = skip (inner n x) 11 _ (eqb-false 12 17 refl) e in
-      let o = skip (not (onRoute b x)) 12 _ (eqb-false 13 17 refl) (i .1) in
+      let i = skip (isInner n x) NODE _ refl refl e in
+      let o = skip (not (onRoute b x)) PLACED _ refl refl (i .1) in
       let z = neither (has (r .marks) x) (ltb (r .records) (roomOf u)) (last (has (r .marks) x || ltb (r .records) (roomOf u)) (o .1)) in
-      let l = record-room n two small t r u run (768 + x) 0 (marked b x)
+      let l = record-room n two small t r u run (firstWord MARKED x) 0 (marked b x)
       (marks x (record { node = i .0; off = not-true (onRoute b x) (o .0) }) (z .0) refl refl refl) in
       omega (arith, l, room-is, space, ltb-false (r .records) (roomOf u) (z .1))
 
-  pub settle-17 : (new : List ℕ) → Smaller (r .sets) new → unless (leb (r .records + shrunk (r .sets) new 64) (roomOf u)) 17 ≡ 17 → ⊥
-  settle-17 new g e =
+  pub settle-roomy : (new : List ℕ) → Smaller (r .sets) new → unless (leb (r .records + shrunk (r .sets) new 64) (roomOf u)) ROOM ≡ ROOM → ⊥
+  settle-roomy new g e =
       omega (
         arith,
         room-is,
@@ -90,10 +93,10 @@ module _ (n : ℕ) (two : 2 ≤ n) (small : n ≤ 64) (t : List ℕ) (r : State)
         leb-false (r .records + shrunk (r .sets) new 64) (roomOf u) (last (leb (r .records + shrunk (r .sets) new 64) (roomOf u)) e),
       )
 
-  -- the records stay within the trail's room (19)
+  -- the records stay within the trail's room
   pub records-room : r .records ≤ roomOf u
   records-room = reached n two small t r u run .room
 
-  -- every record above the last level fits (20)
-  pub back-20 : 0 < r .depth → unless (undoLevel n r u .0) 20 ≡ 0
-  back-20 h = rw (reached-fits n two small t r u run h)
+  -- every record above the last level fits
+  pub back-fitting : 0 < r .depth → unless (undoLevel n r u .0) MISFIT ≡ 0
+  back-fitting h = rw (reached-fits n two small t r u run h)

@@ -6,7 +6,7 @@ use Prim.Native.Nat.{ℕ, _<_, _^_}
 use lib.ListN.{length, getD}
 use Rattle.bits.specs.Places.{within}
 use Rattle.board.specs.declared.State.{State}
-use Rattle.trail.specs.Steps.{answered, placeStep, closeStep, excludeStep, requireStep, settleStep, levelStep, backStep}
+use Rattle.trail.specs.Steps.{acted, placeStep, closeStep, excludeStep, requireStep, settleStep, levelStep, backStep}
 
 -- new sets for a settling: words, each within the one before
 pub record Smaller (old new : List ℕ) : Type 0 where
@@ -14,15 +14,15 @@ pub record Smaller (old new : List ℕ) : Type 0 where
   pub part : (y : ℕ) → y < 64 → within (getD new y 0) (getD old y 0) ≡ true
   pub word : (y : ℕ) → y < 64 → getD new y 0 < 2 ^ 64
 
--- an accepted step from a state and a trail to the next
+-- an accepted step from a state and a trail to the next, whatever its rounds
 pub data Move (n : ℕ) (s : State) (t : List ℕ) (r : State) (u : List ℕ) : Type 0 where
-  place : (p x : ℕ) → placeStep n s t p x ≡ answered 0 r u → Move n s t r u
-  close : (p x : ℕ) → closeStep n s t p x ≡ answered 0 r u → Move n s t r u
-  exclude : (owed : Bool) (x : ℕ) → excludeStep n s t owed x ≡ answered 0 r u → Move n s t r u
-  require : (x : ℕ) → requireStep n s t x ≡ answered 0 r u → Move n s t r u
-  settle : (new : List ℕ) → Smaller (s .sets) new → settleStep s t new ≡ answered 0 r u → Move n s t r u
-  level : levelStep s t ≡ answered 0 r u → Move n s t r u
-  back : backStep n s t ≡ answered 0 r u → Move n s t r u
+  place : {k : ℕ} (p x : ℕ) → placeStep n s t p x ≡ acted 0 k r u → Move n s t r u
+  close : {k : ℕ} (p x : ℕ) → closeStep n s t p x ≡ acted 0 k r u → Move n s t r u
+  exclude : {k : ℕ} (owed : Bool) (x : ℕ) → excludeStep n s t owed x ≡ acted 0 k r u → Move n s t r u
+  require : {k : ℕ} (x : ℕ) → requireStep n s t x ≡ acted 0 k r u → Move n s t r u
+  settle : {k : ℕ} (rounds : ℕ) (new : List ℕ) → Smaller (s .sets) new → settleStep s t rounds new ≡ acted 0 k r u → Move n s t r u
+  level : {k : ℕ} → levelStep s t ≡ acted 0 k r u → Move n s t r u
+  back : {k : ℕ} → backStep n s t ≡ acted 0 k r u → Move n s t r u
 
 -- accepted steps that leave more than d levels open throughout
 pub data Run (n d : ℕ) (s : State) (t : List ℕ) : State → List ℕ → Type 0 where

@@ -11,21 +11,24 @@ use lib.Seq.{getD-set-same, getD-set-other, set-getD}
 use lib.Dec.{eqb, leb, ltb}
 use borrow.Author.Tests.{eqb-true, eqb-false, ltb-true, leb-true, not-true}
 use Rattle.laws.specs.Logic.{decided, and-true}
-use Rattle.laws.specs.Choice.{orElse, unless, or-else-zero, unless-zero}
+use Rattle.laws.specs.Choice.{orElse, unless, or-else-zero, passed}
 use Rattle.laws.specs.Sweep.{swept, swept-start, swept-end, swept-more, swept-ahead}
 use Rattle.bits.specs.Places.{has, without, within}
 use Rattle.bits.specs.Members.{false-true, without-same, without-fits, within-without, within-ext, within-none}
-use Rattle.board.specs.Board.{Board, board, boardOf, stateOf, onBoard, onRoute, legsOf, setOf, openAt, inner}
+use Rattle.rules.specs.Refusal.{ROOM, LEVEL, MISFIT}
+use Rattle.rules.specs.Day.{isInner}
+use Rattle.rules.proofs.Inner.{is-inner}
+use Rattle.board.specs.Board.{Board, board, boardOf, stateOf, onBoard, onRoute, legsOf, setOf, openAt}
 use Rattle.board.specs.Form.{setOk}
 use Rattle.board.specs.Change.{putSet, placed, marked}
-use Rattle.board.specs.FormLaws.{Sound, Levels, InForm, inner-in}
+use Rattle.board.specs.FormLaws.{Sound, Levels, InForm}
 use Rattle.board.specs.Held.{Words, Held}
 use Rattle.board.specs.declared.State.{State}
-use Rattle.trail.specs.Trail.{roomOf, pushed, firstOf, secondOf, shrunk, Noted, noteOne, noteBelow}
+use Rattle.trail.specs.Trail.{roomOf, pushed, firstOf, secondOf, SHRUNK, PLACED, MARKED, firstWord, shrunk, Noted, noteOne, noteBelow}
 use Rattle.trail.specs.TrailLaws.{pushed-first, pushed-second, pushed-long, pushed-room, pushed-other, shrunk-upto, shrunk-differ, note-same, note-differ, note-all}
 use Rattle.trail.specs.Refusals.{placeRefusal, excludeRefusal, requireRefusal}
 use Rattle.trail.specs.Undo.{strictly, undoMany}
-use Rattle.trail.specs.Steps.{Ran, answered, stepOf, recorded, placeStep, closeStep, excludeStep, requireStep, settleStep, levelStep, backStep, baseOf, undoLevel, dropped}
+use Rattle.trail.specs.Steps.{Ran, acted, answered, stepOf, recorded, shrank, placeStep, closeStep, excludeStep, requireStep, settleStep, levelStep, backStep, baseOf, undoLevel, dropped}
 use Rattle.trail.specs.StepLaws.{step-yes, step-zero, placeable, Free, excludable, requirable}
 use Rattle.trail.specs.Small.{Small, shrinks, places, marks, small-sound, small-words}
 use Rattle.trail.specs.Spells.{Spells, more, spells-sound, spells-words, spells-agree, spells-undo}
@@ -45,18 +48,18 @@ pub record Since (n : ℕ) (b : Board) (k d : ℕ) (levels t₀ : List ℕ) (s :
   pub long : length t ≡ length t₀
 
 -- an accepted step: its refusal is 0, and it ran
-pub accepted : (k : ℕ) (s : State) (t : List ℕ) (ran : Ran) (r : State) (u : List ℕ) → stepOf k s t ran ≡ answered 0 r u → (k ≡ 0) × (ran ≡ answered 0 r u)
+pub accepted : (k : ℕ) (s : State) (t : List ℕ) (ran : Ran) {j : ℕ} (r : State) (u : List ℕ) → stepOf k s t ran ≡ acted 0 j r u → (k ≡ 0) × (ran ≡ acted 0 j r u)
 accepted k s t ran r u e =
     let z = step-zero k s t ran (ap (λ (q : Ran). q .0 .answer) e) in
     (z, sym (step-yes k s t ran z) ∙ e)
 
--- a set that is not empty is an inner node's off the route
+-- a set that is not empty is an isInner node's off the route
 free-set : (n : ℕ) (b : Board) (y : ℕ) → Sound n b → y < 64 → (setOf b y ≡ 0 → ⊥) → Free n b y
 unfolding setOk
-free-set n b y s l d = go (inner n y && not (onRoute b y)) refl (s .form .sets y l)
+free-set n b y s l d = go (isInner n y && not (onRoute b y)) refl (s .form .sets y l)
   where
-    go : (q : Bool) → inner n y && not (onRoute b y) ≡ q → cond q (within (setOf b y) (legsOf b)) (eqb (setOf b y) 0) ≡ true → Free n b y
-    go true e h = let a = and-true (inner n y) (not (onRoute b y)) e in record { node = a .0; off = not-true (onRoute b y) (a .1) }
+    go : (q : Bool) → isInner n y && not (onRoute b y) ≡ q → cond q (within (setOf b y) (legsOf b)) (eqb (setOf b y) 0) ≡ true → Free n b y
+    go true e h = let a = and-true (isInner n y) (not (onRoute b y)) e in record { node = a .0; off = not-true (onRoute b y) (a .1) }
     go false e h = absurd (d (eqb-true (setOf b y) 0 h))
 
 -- a set that got smaller was not empty
@@ -146,37 +149,37 @@ module _ (n : ℕ) (b : Board) (k d : ℕ) (levels t₀ : List ℕ) where
       }
 
   -- to what a step ran to
-  at-ran : {ran : Ran} {r : State} {u : List ℕ} → ran ≡ answered 0 r u → Since n b k d levels t₀ (ran .0 .state) (ran .1) → Since n b k d levels t₀ r u
+  at-ran : {ran : Ran} {j : ℕ} {r : State} {u : List ℕ} → ran ≡ acted 0 j r u → Since n b k d levels t₀ (ran .0 .state) (ran .1) → Since n b k d levels t₀ r u
   at-ran e h = subst (λ (q : Ran). Since n b k d levels t₀ (q .0 .state) (q .1)) e h
 
-  place-since : (s : State) (t : List ℕ) (p x : ℕ) (r : State) (u : List ℕ) → Since n b k d levels t₀ s t → placeStep n s t p x ≡ answered 0 r u → Since n b k d levels t₀ r u
+  place-since : {j : ℕ} (s : State) (t : List ℕ) (p x : ℕ) (r : State) (u : List ℕ) → Since n b k d levels t₀ s t → placeStep n s t p x ≡ acted 0 j r u → Since n b k d levels t₀ r u
   unfolding placeStep recorded
   place-since s t p x r u h e =
-      let a = accepted (placeRefusal n (boardOf s) (s .records) (roomOf t) p x) s t (recorded s t (placed (boardOf s) p x) (512 + x) (setOf (boardOf s) x)) r u e in
+      let a = accepted (placeRefusal n (boardOf s) (s .records) (roomOf t) p x) s t (recorded s t (placed (boardOf s) p x) (firstWord PLACED x) (setOf (boardOf s) x)) r u e in
       let o = placeable n (boardOf s) (s .records) (roomOf t) p x (a .0) in
-      at-ran (a .1) (record-since s t (512 + x) (setOf (boardOf s) x) (placed (boardOf s) p x) h (places p x (o .split) (o .place) refl refl refl) (o .left))
+      at-ran (a .1) (record-since s t (firstWord PLACED x) (setOf (boardOf s) x) (placed (boardOf s) p x) h (places p x (o .split) (o .place) refl refl refl) (o .left))
 
   shrink-since : (s : State) (t : List ℕ) (x v : ℕ) → Since n b k d levels t₀ s t → Free n (boardOf s) x → v < 2 ^ 64 → within v (setOf (boardOf s) x) ≡ true → (setOf (boardOf s) x ≡ v → ⊥) → s .records < roomOf t
-      → Since n b k d levels t₀ (onBoard s (putSet (boardOf s) x v) (s .records + 1)) (pushed t (s .records) (256 + x) (setOf (boardOf s) x))
+      → Since n b k d levels t₀ (onBoard s (putSet (boardOf s) x v) (s .records + 1)) (pushed t (s .records) (firstWord SHRUNK x) (setOf (boardOf s) x))
   shrink-since s t x v h f l e y m =
-      let w = h .held .words .fits x (omega (arith, inner-in n x (f .node) .1, h .small)) in
-      record-since s t (256 + x) (setOf (boardOf s) x) (putSet (boardOf s) x v) h (shrinks x v f (strict v (setOf (boardOf s) x) l w e y) l refl refl refl) m
+      let w = h .held .words .fits x (omega (arith, is-inner n x (f .node) .1, h .small)) in
+      record-since s t (firstWord SHRUNK x) (setOf (boardOf s) x) (putSet (boardOf s) x v) h (shrinks x v f (strict v (setOf (boardOf s) x) l w e y) l refl refl refl) m
 
-  close-since : (s : State) (t : List ℕ) (p x : ℕ) (r : State) (u : List ℕ) → Since n b k d levels t₀ s t → closeStep n s t p x ≡ answered 0 r u → Since n b k d levels t₀ r u
+  close-since : {j : ℕ} (s : State) (t : List ℕ) (p x : ℕ) (r : State) (u : List ℕ) → Since n b k d levels t₀ s t → closeStep n s t p x ≡ acted 0 j r u → Since n b k d levels t₀ r u
   unfolding closeStep recorded openAt
   close-since s t p x r u h e =
       let w = setOf (boardOf s) x in
-      let a = accepted (placeRefusal n (boardOf s) (s .records) (roomOf t) p x) s t (recorded s t (putSet (boardOf s) x (without w p)) (256 + x) w) r u e in
+      let a = accepted (placeRefusal n (boardOf s) (s .records) (roomOf t) p x) s t (shrank s t x (without w p)) r u e in
       let o = placeable n (boardOf s) (s .records) (roomOf t) p x (a .0) in
-      let f = h .held .words .fits x (omega (arith, inner-in n x (o .split .node) .1, h .small)) in
+      let f = h .held .words .fits x (omega (arith, is-inner n x (o .split .node) .1, h .small)) in
       at-ran (a .1) (shrink-since s t x (without w p) h (record { node = o .split .node; off = o .split .off }) (without-fits w p f) (within-without w p)
       (λ z. false-true (sym (without-same w p) ∙ ap (λ (q : ℕ). has q p) (sym z) ∙ o .place)) (o .left))
 
-  exclude-since : (s : State) (t : List ℕ) (owed : Bool) (x : ℕ) (r : State) (u : List ℕ) → Since n b k d levels t₀ s t → excludeStep n s t owed x ≡ answered 0 r u → Since n b k d levels t₀ r u
+  exclude-since : {j : ℕ} (s : State) (t : List ℕ) (owed : Bool) (x : ℕ) (r : State) (u : List ℕ) → Since n b k d levels t₀ s t → excludeStep n s t owed x ≡ acted 0 j r u → Since n b k d levels t₀ r u
   unfolding excludeStep recorded
   exclude-since s t owed x r u h e =
       let w = setOf (boardOf s) x in
-      let ran = cond (eqb w 0) (answered 0 s t) (recorded s t (putSet (boardOf s) x 0) (256 + x) w) in
+      let ran = cond (eqb w 0) (answered 0 s t) (shrank s t x 0) in
       let a = accepted (excludeRefusal n (boardOf s) (s .records) (roomOf t) owed x) s t ran r u e in
       let o = excludable n (boardOf s) (s .records) (roomOf t) owed x (a .0) in
       decided (eqb w 0)
@@ -184,15 +187,15 @@ module _ (n : ℕ) (b : Board) (k d : ℕ) (levels t₀ : List ℕ) where
       (λ z. let y = eqb-false w 0 z in
       at-ran (rw z at (a .1)) (shrink-since s t x 0 h (o .0) (omega arith) (within-none w) y (o .1 y)))
 
-  require-since : (s : State) (t : List ℕ) (x : ℕ) (r : State) (u : List ℕ) → Since n b k d levels t₀ s t → requireStep n s t x ≡ answered 0 r u → Since n b k d levels t₀ r u
+  require-since : {j : ℕ} (s : State) (t : List ℕ) (x : ℕ) (r : State) (u : List ℕ) → Since n b k d levels t₀ s t → requireStep n s t x ≡ acted 0 j r u → Since n b k d levels t₀ r u
   unfolding requireStep recorded
   require-since s t x r u h e =
-      let ran = cond (has (s .marks) x) (answered 0 s t) (recorded s t (marked (boardOf s) x) (768 + x) 0) in
+      let ran = cond (has (s .marks) x) (answered 0 s t) (recorded s t (marked (boardOf s) x) (firstWord MARKED x) 0) in
       let a = accepted (requireRefusal n (boardOf s) (s .records) (roomOf t) x) s t ran r u e in
       let o = requirable n (boardOf s) (s .records) (roomOf t) x (a .0) in
       decided (has (s .marks) x)
       (λ z. at-ran (rw z at (a .1)) h)
-      (λ z. at-ran (rw z at (a .1)) (record-since s t (768 + x) 0 (marked (boardOf s) x) h (marks x (o .0) z refl refl refl) (o .1 z)))
+      (λ z. at-ran (rw z at (a .1)) (record-since s t (firstWord MARKED x) 0 (marked (boardOf s) x) h (marks x (o .0) z refl refl refl) (o .1 z)))
 
   -- ---- settling: node by node
 
@@ -260,21 +263,21 @@ module _ (n : ℕ) (b : Board) (k d : ℕ) (levels t₀ : List ℕ) where
     settled-since : Since n b k d levels t₀ (onBoard s (board (s .route) (s .stops) new (s .marks)) (s .records + shrunk (s .sets) new 64)) (noted 64 .1)
     settled-since = rw (swept-end (s .sets) new 64 (omega (arith, h .held .wide .sets)) (omega (arith, g .long)), all-noted) at (turns 64 (omega arith))
 
-  settle-since : (s : State) (t new : List ℕ) (r : State) (u : List ℕ) → Since n b k d levels t₀ s t → Smaller (s .sets) new → settleStep s t new ≡ answered 0 r u → Since n b k d levels t₀ r u
+  settle-since : {j : ℕ} (s : State) (t : List ℕ) (rounds : ℕ) (new : List ℕ) (r : State) (u : List ℕ) → Since n b k d levels t₀ s t → Smaller (s .sets) new → settleStep s t rounds new ≡ acted 0 j r u → Since n b k d levels t₀ r u
   unfolding settleStep
-  settle-since s t new r u h g e =
-      let ran = answered 0 (onBoard s (board (s .route) (s .stops) new (s .marks)) (s .records + shrunk (s .sets) new 64)) (noteBelow (s .sets) new 64 (s .records, t) .1) in
-      let a = accepted (unless (leb (s .records + shrunk (s .sets) new 64) (roomOf t)) 17) s t ran r u e in
-      at-ran (a .1) (settled-since s t new h g (leb-true _ _ (unless-zero (leb (s .records + shrunk (s .sets) new 64) (roomOf t)) 16 (a .0))))
+  settle-since s t rounds new r u h g e =
+      let ran = acted 0 rounds (onBoard s (board (s .route) (s .stops) new (s .marks)) (s .records + shrunk (s .sets) new 64)) (noteBelow (s .sets) new 64 (s .records, t) .1) in
+      let a = accepted (unless (leb (s .records + shrunk (s .sets) new 64) (roomOf t)) ROOM) s t ran r u e in
+      at-ran (a .1) (settled-since s t new h g (leb-true _ _ (passed (leb (s .records + shrunk (s .sets) new 64) (roomOf t)) ROOM refl (a .0))))
 
   -- ---- a level opened
 
-  level-since : (s : State) (t : List ℕ) (r : State) (u : List ℕ) → Since n b k d levels t₀ s t → levelStep s t ≡ answered 0 r u → Since n b k d levels t₀ r u
+  level-since : {j : ℕ} (s : State) (t : List ℕ) (r : State) (u : List ℕ) → Since n b k d levels t₀ s t → levelStep s t ≡ acted 0 j r u → Since n b k d levels t₀ r u
   unfolding levelStep
   level-since s t r u h e =
       let q = stateOf (s .route) (s .stops) (s .sets) (s .marks) (set (s .levels) (s .depth) (s .records)) (s .depth + 1) (s .records) in
-      let a = accepted (unless (ltb (s .depth) 64) 18) s t (answered 0 q t) r u e in
-      let l = ltb-true (s .depth) 64 (unless-zero (ltb (s .depth) 64) 17 (a .0)) in
+      let a = accepted (unless (ltb (s .depth) 64) LEVEL) s t (answered 0 q t) r u e in
+      let l = ltb-true (s .depth) 64 (passed (ltb (s .depth) 64) LEVEL refl (a .0)) in
       let same = getD-set-same (s .levels) (s .depth) (s .records) 0 (omega (arith, h .held .levels)) in
       at-ran (a .1) (record {
         small = h .small;
@@ -294,14 +297,13 @@ module _ (n : ℕ) (b : Board) (k d : ℕ) (levels t₀ : List ℕ) where
 
   -- ---- stepping back to a level that was opened since
 
-  back-since : (s : State) (t : List ℕ) (r : State) (u : List ℕ) → Sound n b → Words b → Since n b k d levels t₀ s t → backStep n s t ≡ answered 0 r u → d ≤ r .depth → Since n b k d levels t₀ r u
+  back-since : {j : ℕ} (s : State) (t : List ℕ) (r : State) (u : List ℕ) → Sound n b → Words b → Since n b k d levels t₀ s t → backStep n s t ≡ acted 0 j r u → d ≤ r .depth → Since n b k d levels t₀ r u
   unfolding backStep undoLevel dropped baseOf
   back-since s t r u f wd h e m =
-      let j = s .depth - 1 in
       let base = getD (s .levels) (s .depth - 1) 0 in
       let o = undoMany (s .records - base) n (boardOf s) (s .records) t in
-      let a = accepted (orElse (unless (ltb 0 (s .depth)) 18) (unless (o .0) 20)) s t (answered 0 (dropped s (o .1)) t) r u e in
-      let some = ltb-true 0 (s .depth) (unless-zero (ltb 0 (s .depth)) 17 (or-else-zero (unless (ltb 0 (s .depth)) 18) _ (a .0) .0)) in
+      let a = accepted (orElse (unless (ltb 0 (s .depth)) LEVEL) (unless (o .0) MISFIT)) s t (answered 0 (dropped s (o .1)) t) r u e in
+      let some = ltb-true 0 (s .depth) (passed (ltb 0 (s .depth)) LEVEL refl (or-else-zero (unless (ltb 0 (s .depth)) LEVEL) _ (a .0) .0)) in
       let dm : s .depth - 1 ≡ r .depth = ap (λ (z : Ran). z .0 .state .depth) (a .1) in
       let low : k ≤ base = h .floor (s .depth - 1) (omega (arith, dm, m)) (omega (arith, some)) in
       let high : base ≤ s .records = h .form .levels .held (s .depth - 1) (omega (arith, some)) in
@@ -324,18 +326,18 @@ module _ (n : ℕ) (b : Board) (k d : ℕ) (levels t₀ : List ℕ) where
       }))
 
   -- an accepted step: all but stepping back go on from here
-  abbrev pub Stepped : (s : State) (t : List ℕ) (r : State) (u : List ℕ) → Type 0
-  Stepped s t r u = Since n b k d levels t₀ r u ⊎ (backStep n s t ≡ answered 0 r u)
+  abbrev pub Goes : (s : State) (t : List ℕ) (r : State) (u : List ℕ) → Type 0
+  Goes s t r u = Since n b k d levels t₀ r u ⊎ ((j : ℕ) × (backStep n s t ≡ acted 0 j r u))
 
-  pub step-since : (s : State) (t : List ℕ) (r : State) (u : List ℕ) → Since n b k d levels t₀ s t → Move n s t r u → Stepped s t r u
+  pub step-since : (s : State) (t : List ℕ) (r : State) (u : List ℕ) → Since n b k d levels t₀ s t → Move n s t r u → Goes s t r u
   step-since s t r u h (place p x e) = inl (place-since s t p x r u h e)
   step-since s t r u h (close p x e) = inl (close-since s t p x r u h e)
   step-since s t r u h (exclude owed x e) = inl (exclude-since s t owed x r u h e)
   step-since s t r u h (require x e) = inl (require-since s t x r u h e)
-  step-since s t r u h (settle new g e) = inl (settle-since s t new r u h g e)
+  step-since s t r u h (settle rounds new g e) = inl (settle-since s t rounds new r u h g e)
   step-since s t r u h (level e) = inl (level-since s t r u h e)
-  step-since s t r u h (back e) = inr e
+  step-since s t r u h (back e) = inr (_, e)
 
   -- an accepted step that leaves d levels open
   pub move-since : (s : State) (t : List ℕ) (r : State) (u : List ℕ) → Sound n b → Words b → Since n b k d levels t₀ s t → Move n s t r u → d ≤ r .depth → Since n b k d levels t₀ r u
-  move-since s t r u f w h m l = ⊎-elim (λ g. g) (λ e. back-since s t r u f w h e l) (step-since s t r u h m)
+  move-since s t r u f w h m l = ⊎-elim (λ g. g) (λ e. back-since s t r u f w h (e .1) l) (step-since s t r u h m)

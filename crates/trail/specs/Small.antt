@@ -1,7 +1,7 @@
 -- A small step: what one record stands for, from the board before to the board after. It keeps the form, and undoing inverts it.
 use mathlib.Core.Path.{_≡_, refl, ap, _∙_}
 use mathlib.Core.Bool.{true, false}
-use Prim.Native.Nat.{ℕ, _+_, _-_, _/_, _%_, _<_, _^_}
+use Prim.Native.Nat.{ℕ, _+_, _-_, _<_, _^_}
 use native.Mathlib.Omega.{arith}
 use lib.ListN.{length}
 use lib.Dec.{eqb}
@@ -9,28 +9,31 @@ use borrow.Author.Tests.{eqb-true, eqb-false}
 use Rattle.laws.specs.Logic.{decided, and-true}
 use Rattle.bits.specs.Places.{has, within}
 use Rattle.bits.specs.Members.{with-same, with-fits, within-trans}
+use Rattle.rules.proofs.Inner.{is-inner}
 use Rattle.board.specs.Route.{indexOf}
 use Rattle.board.specs.Board.{Board, routeOf, onRoute, legsOf, setOf, openAt}
 use Rattle.board.specs.Change.{heir, putSet, placed, marked, unplaced, unmarked}
-use Rattle.board.specs.FormLaws.{Wide, Sound, inner-in, set-legs}
+use Rattle.board.specs.FormLaws.{Wide, Sound, set-legs}
 use Rattle.board.specs.Held.{Words}
 use Rattle.board.specs.Keep.{Splits, put-same, put-other, put-wide, put-formed, placed-wide, placed-formed, placed-set, placed-none, placed-on, legs-after, marked-formed, heir-yes, heir-no}
 use Rattle.board.specs.Inverse.{put-back, mark-back, place-back, placed-index, placed-before}
+use Rattle.trail.specs.Trail.{SHRUNK, PLACED, MARKED, firstWord}
+use Rattle.trail.specs.TrailLaws.{kind-of, node-of}
 use Rattle.trail.specs.Undo.{strictly, stopBefore, fitsShrunk, fitsPlaced, fitsMarked, undoOne}
 use Rattle.trail.specs.UndoLaws.{one-shrunk, one-placed, one-marked, undone-yes}
 use Rattle.trail.specs.StepLaws.{Free}
 
 -- from b to c, with the record's two words
 pub data Small (n : ℕ) (b : Board) (first second : ℕ) (c : Board) : Type 0 where
-  shrinks : (x v : ℕ) → Free n b x → strictly v (setOf b x) ≡ true → v < 2 ^ 64 → first ≡ 256 + x → second ≡ setOf b x → c ≡ putSet b x v → Small n b first second c
-  places : (p x : ℕ) → Splits n b p x → openAt b x p ≡ true → first ≡ 512 + x → second ≡ setOf b x → c ≡ placed b p x → Small n b first second c
-  marks : (x : ℕ) → Free n b x → has (b .marks) x ≡ false → first ≡ 768 + x → second ≡ 0 → c ≡ marked b x → Small n b first second c
+  shrinks : (x v : ℕ) → Free n b x → strictly v (setOf b x) ≡ true → v < 2 ^ 64 → first ≡ firstWord SHRUNK x → second ≡ setOf b x → c ≡ putSet b x v → Small n b first second c
+  places : (p x : ℕ) → Splits n b p x → openAt b x p ≡ true → first ≡ firstWord PLACED x → second ≡ setOf b x → c ≡ placed b p x → Small n b first second c
+  marks : (x : ℕ) → Free n b x → has (b .marks) x ≡ false → first ≡ firstWord MARKED x → second ≡ 0 → c ≡ marked b x → Small n b first second c
 
 -- ---- a smaller set
 
 module _ (n : ℕ) (b : Board) (x v : ℕ) (s : Sound n b) (f : Free n b x) (t : strictly v (setOf b x) ≡ true) where
   low : x < 64
-  low = omega (arith, inner-in n x (f .node) .1, s .small)
+  low = omega (arith, is-inner n x (f .node) .1, s .small)
 
   smaller : within v (setOf b x) ≡ true
   unfolding strictly
@@ -54,18 +57,16 @@ module _ (n : ℕ) (b : Board) (x v : ℕ) (s : Sound n b) (f : Free n b x) (t :
       rw (f .node, same-road .0, f .off, same-road .1, put-same b x v (omega (arith, s .wide .sets, low)), t)
       (set-legs n b (s .small) (s .wide) (s .form) x low (f .node) (f .off))
 
-  shrinks-undo : undoOne n (putSet b x v) (256 + x) (setOf b x) ≡ (true, b)
+  shrinks-undo : undoOne n (putSet b x v) (firstWord SHRUNK x) (setOf b x) ≡ (true, b)
   shrinks-undo =
-      let k : (256 + x) / 256 ≡ 1 = omega (arith, low) in
-      let m : (256 + x) % 256 ≡ x = omega (arith, low) in
-      one-shrunk n (putSet b x v) (256 + x) (setOf b x) k
-      ∙ rw m (undone-yes (putSet b x v) (putSet (putSet b x v) x (setOf b x)) shrinks-fits ∙ ap (λ (c : Board). (true, c)) (put-back b x v))
+      one-shrunk n (putSet b x v) (firstWord SHRUNK x) (setOf b x) (kind-of SHRUNK x low)
+      ∙ rw (node-of SHRUNK x low) (undone-yes (putSet b x v) (putSet (putSet b x v) x (setOf b x)) shrinks-fits ∙ ap (λ (c : Board). (true, c)) (put-back b x v))
 
 -- ---- a placing
 
 module _ (n : ℕ) (b : Board) (p x : ℕ) (s : Sound n b) (f : Splits n b p x) (o : openAt b x p ≡ true) where
   low-x : x < 64
-  low-x = omega (arith, inner-in n x (f .node) .1, s .small)
+  low-x = omega (arith, is-inner n x (f .node) .1, s .small)
 
   places-sound : Sound n (placed b p x)
   places-sound = record {
@@ -90,12 +91,10 @@ module _ (n : ℕ) (b : Board) (p x : ℕ) (s : Sound n b) (f : Splits n b p x) 
         stop-before,
       ) o
 
-  places-undo : undoOne n (placed b p x) (512 + x) (setOf b x) ≡ (true, b)
+  places-undo : undoOne n (placed b p x) (firstWord PLACED x) (setOf b x) ≡ (true, b)
   places-undo =
-      let k : (512 + x) / 256 ≡ 2 = omega (arith, low-x) in
-      let m : (512 + x) % 256 ≡ x = omega (arith, low-x) in
-      one-placed n (placed b p x) (512 + x) (setOf b x) k
-      ∙ rw m (undone-yes (placed b p x) (unplaced (placed b p x) x (setOf b x)) places-fits ∙ ap (λ (c : Board). (true, c)) (place-back n b p x (s .small) (s .wide) (s .form) f))
+      one-placed n (placed b p x) (firstWord PLACED x) (setOf b x) (kind-of PLACED x low-x)
+      ∙ rw (node-of PLACED x low-x) (undone-yes (placed b p x) (unplaced (placed b p x) x (setOf b x)) places-fits ∙ ap (λ (c : Board). (true, c)) (place-back n b p x (s .small) (s .wide) (s .form) f))
 
 -- ---- a mark
 
@@ -113,7 +112,7 @@ marked-has b x l = with-same (b .marks) x l
 
 module _ (n : ℕ) (b : Board) (x : ℕ) (s : Sound n b) (f : Free n b x) (o : has (b .marks) x ≡ false) where
   low-m : x < 64
-  low-m = omega (arith, inner-in n x (f .node) .1, s .small)
+  low-m = omega (arith, is-inner n x (f .node) .1, s .small)
 
   marks-sound : Sound n (marked b x)
   marks-sound = record { small = s .small; wide = marked-wide b x (s .wide); form = marked-formed n b x (s .form) (f .node) }
@@ -122,12 +121,10 @@ module _ (n : ℕ) (b : Board) (x : ℕ) (s : Sound n b) (f : Free n b x) (o : h
   unfolding fitsMarked
   marks-fits = rw (marked-road b x, f .off, marked-has b x low-m)
 
-  marks-undo : undoOne n (marked b x) (768 + x) 0 ≡ (true, b)
+  marks-undo : undoOne n (marked b x) (firstWord MARKED x) 0 ≡ (true, b)
   marks-undo =
-      let k : (768 + x) / 256 ≡ 3 = omega (arith, low-m) in
-      let m : (768 + x) % 256 ≡ x = omega (arith, low-m) in
-      one-marked n (marked b x) (768 + x) 0 k
-      ∙ rw m (undone-yes (marked b x) (unmarked (marked b x) x) marks-fits ∙ ap (λ (c : Board). (true, c)) (mark-back b x o))
+      one-marked n (marked b x) (firstWord MARKED x) 0 (kind-of MARKED x low-m)
+      ∙ rw (node-of MARKED x low-m) (undone-yes (marked b x) (unmarked (marked b x) x) marks-fits ∙ ap (λ (c : Board). (true, c)) (mark-back b x o))
 
 -- ---- all three
 
@@ -167,7 +164,7 @@ heir-word : (p x w : ℕ) → w < 2 ^ 64 → heir p x w < 2 ^ 64
 heir-word p x w h = decided (has w p) (λ e. rw (heir-yes p x w e) (with-fits w x h)) (λ e. rw (heir-no p x w e) h)
 
 pub small-words : {n : ℕ} {b : Board} {a w : ℕ} {c : Board} → Sound n b → Words b → Small n b a w c → Words c
-small-words {n = n} {b = b} s h (shrinks x v f t l i j k) = rw k (put-words b x v (omega (arith, s .wide .sets, inner-in n x (f .node) .1, s .small)) l h)
+small-words {n = n} {b = b} s h (shrinks x v f t l i j k) = rw k (put-words b x v (omega (arith, s .wide .sets, is-inner n x (f .node) .1, s .small)) l h)
 small-words {n = n} {b = b} s h (places p x f o i j k) =
     rw k (record {
       fits = λ y m. decided (eqb y x)

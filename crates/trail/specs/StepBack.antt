@@ -10,7 +10,8 @@ use lib.Seq.{getD-set-same, getD-set-other, getD-take, ext-getD}
 use lib.Dec.{eqb, ltb}
 use borrow.Author.Tests.{eqb-true, eqb-false, ltb-true, ltb-false}
 use Rattle.laws.specs.Logic.{decided}
-use Rattle.laws.specs.Choice.{orElse, unless, or-else-zero, unless-zero}
+use Rattle.laws.specs.Choice.{orElse, unless, or-else-zero, passed}
+use Rattle.rules.specs.Refusal.{LEVEL, MISFIT}
 use Rattle.board.specs.Board.{Board, boardOf, stateOf}
 use Rattle.board.specs.FormLaws.{Sound, InForm}
 use Rattle.board.specs.Held.{Words, Held}
@@ -19,7 +20,7 @@ use Rattle.trail.specs.Trail.{roomOf}
 use Rattle.trail.specs.Undo.{undoMany}
 use Rattle.trail.specs.UndoLaws.{many-sound}
 use Rattle.trail.specs.UndoWords.{many-words}
-use Rattle.trail.specs.Steps.{Ran, answered, levelStep, backStep, baseOf, undoLevel, dropped}
+use Rattle.trail.specs.Steps.{Ran, acted, answered, levelStep, backStep, baseOf, undoLevel, dropped}
 use Rattle.trail.specs.StepLaws.{back-fits}
 use Rattle.trail.specs.Spells.{Spells, spells-undo, spells-nothing}
 use Rattle.trail.specs.Spells as spells
@@ -59,15 +60,15 @@ run-since {n = n} {b = b} {k = k} {d = d} {levels = levels} {t₀ = t₀} f w h 
 
 -- a level was opened on s₀
 module _ (n : ℕ) (s₀ : State) (t₀ : List ℕ) (small : n ≤ 64) (held : Held s₀) (form : InForm n s₀) (room : s₀ .records ≤ roomOf t₀)
-    (s₁ : State) (t₁ : List ℕ) (opened : levelStep s₀ t₀ ≡ answered 0 s₁ t₁) where
+    (s₁ : State) (t₁ : List ℕ) {j : ℕ} (opened : levelStep s₀ t₀ ≡ acted 0 j s₁ t₁) where
   next : State
   next = stateOf (s₀ .route) (s₀ .stops) (s₀ .sets) (s₀ .marks) (set (s₀ .levels) (s₀ .depth) (s₀ .records)) (s₀ .depth + 1) (s₀ .records)
 
   opened-is : (s₀ .depth < 64) × (s₁ ≡ next)
   unfolding levelStep next
   opened-is =
-      let a = accepted (unless (ltb (s₀ .depth) 64) 18) s₀ t₀ (answered 0 next t₀) s₁ t₁ opened in
-      (ltb-true (s₀ .depth) 64 (unless-zero (ltb (s₀ .depth) 64) 17 (a .0)), sym (ap (λ (r : Ran). r .0 .state) (a .1)))
+      let a = accepted (unless (ltb (s₀ .depth) 64) LEVEL) s₀ t₀ (answered 0 next t₀) s₁ t₁ opened in
+      (ltb-true (s₀ .depth) 64 (passed (ltb (s₀ .depth) 64) LEVEL refl (a .0)), sym (ap (λ (r : Ran). r .0 .state) (a .1)))
 
   deep-1 : s₁ .depth ≡ s₀ .depth + 1
   unfolding next
@@ -162,13 +163,13 @@ pub record Kept (n : ℕ) (t : List ℕ) (r : State) (u : List ℕ) : Type 0 whe
   pub room : r .records ≤ roomOf u
   pub long : length u ≡ length t
 
-back-keeps : (n : ℕ) (s : State) (t : List ℕ) (r : State) (u : List ℕ) → n ≤ 64 → Held s → InForm n s → s .records ≤ roomOf t → Wordy t → backStep n s t ≡ answered 0 r u → Kept n t r u
+back-keeps : {j : ℕ} (n : ℕ) (s : State) (t : List ℕ) (r : State) (u : List ℕ) → n ≤ 64 → Held s → InForm n s → s .records ≤ roomOf t → Wordy t → backStep n s t ≡ acted 0 j r u → Kept n t r u
 unfolding backStep undoLevel dropped baseOf
 back-keeps n s t r u small held form room wordy e =
     let base = getD (s .levels) (s .depth - 1) 0 in
     let o = undoMany (s .records - base) n (boardOf s) (s .records) t in
-    let a = accepted (orElse (unless (ltb 0 (s .depth)) 18) (unless (o .0) 20)) s t (answered 0 (dropped s (o .1)) t) r u e in
-    let some = ltb-true 0 (s .depth) (unless-zero (ltb 0 (s .depth)) 17 (or-else-zero (unless (ltb 0 (s .depth)) 18) _ (a .0) .0)) in
+    let a = accepted (orElse (unless (ltb 0 (s .depth)) LEVEL) (unless (o .0) MISFIT)) s t (answered 0 (dropped s (o .1)) t) r u e in
+    let some = ltb-true 0 (s .depth) (passed (ltb 0 (s .depth)) LEVEL refl (or-else-zero (unless (ltb 0 (s .depth)) LEVEL) _ (a .0) .0)) in
     let high : base ≤ s .records = form .levels .held (s .depth - 1) (omega (arith, some)) in
     let sound : Sound n (boardOf s) = record { small = small; wide = held .wide; form = form .board } in
     let g = many-sound (s .records - base) n (boardOf s) (s .records) t sound in
@@ -182,5 +183,5 @@ back-keeps n s t r u small held form room wordy e =
 
 pub move-keeps : (n : ℕ) (s : State) (t : List ℕ) (r : State) (u : List ℕ) → n ≤ 64 → Held s → InForm n s → s .records ≤ roomOf t → Wordy t → Move n s t r u → Kept n t r u
 move-keeps n s t r u small held form room wordy m =
-    ⊎-elim (λ h. record { form = h .form; held = h .held; room = h .room; long = h .long }) (back-keeps n s t r u small held form room wordy)
+    ⊎-elim (λ h. record { form = h .form; held = h .held; room = h .room; long = h .long }) (λ e. back-keeps n s t r u small held form room wordy (e .1))
     (step-since n (boardOf s) (s .records) (s .depth) (s .levels) t s t r u (here-since n s t small held form room) m)

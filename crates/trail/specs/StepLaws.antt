@@ -1,21 +1,25 @@
 -- Each step refused and accepted, and what an accepted one knows.
-use mathlib.Core.Path.{_≡_, refl, ap, sym, _∙_}
+use mathlib.Core.Path.{_≡_, refl, ap, ap₂, sym, _∙_}
 use mathlib.Core.Bool.{Bool, true, false, not, _&&_, _||_}
 use mathlib.Core.List.{List}
-use Prim.Native.Nat.{ℕ, _-_, _≤_, _<_}
+use Prim.Native.Nat.{ℕ, _+_, _-_, _≤_, _<_}
 use native.Mathlib.Omega.{arith}
 use lib.Dec.{eqb, ltb}
-use borrow.Author.Tests.{eqb-true, eqb-false, ne-eqb, ltb-true, not-true, lt-ltb, le-ltb}
+use borrow.Author.Tests.{eqb-true, eqb-false, ne-eqb, ltb-true, not-true, lt-ltb, le-ltb, le-leb}
 use Rattle.laws.specs.Logic.{decided, and-true}
-use Rattle.laws.specs.Choice.{orElse, unless, or-else-zero, unless-zero}
+use Rattle.laws.specs.Choice.{orElse, unless, or-else-zero, passed}
 use Rattle.bits.specs.Places.{has}
 use Rattle.bits.specs.Members.{false-true}
-use Rattle.board.specs.Board.{Board, onRoute, setOf, openAt, inner, legNode}
+use Rattle.rules.specs.Refusal.{NODE, PLACED, UNPLACED, SHUT, OWED, ROOM, LEVEL, MISFIT}
+use Rattle.rules.specs.Day.{isInner}
+use Rattle.board.specs.Board.{Board, boardOf, onBoard, onRoute, setOf, openAt, legNode}
 use Rattle.board.specs.FormLaws.{InForm}
 use Rattle.board.specs.Keep.{Splits}
 use Rattle.board.specs.declared.State.{State}
+use Rattle.trail.specs.Trail.{roomOf, shrunk, Noted}
+use Rattle.trail.specs.TrailLaws.{shrunk-still, note-still}
 use Rattle.trail.specs.Refusals.{placeRefusal, excludeRefusal, requireRefusal}
-use Rattle.trail.specs.Steps.{Ran, answered, stepOf, baseOf, undoLevel, dropped, backStep}
+use Rattle.trail.specs.Steps.{Ran, answered, stepOf, settleStep, baseOf, undoLevel, dropped, backStep}
 
 pub step-no : (k : ℕ) (s : State) (t : List ℕ) (ran : Ran) → (k ≡ 0 → ⊥) → stepOf k s t ran ≡ answered k s t
 unfolding stepOf
@@ -41,20 +45,20 @@ pub record Placeable (n : ℕ) (b : Board) (records room p x : ℕ) : Type 0 whe
 pub placeable : (n : ℕ) (b : Board) (records room p x : ℕ) → placeRefusal n b records room p x ≡ 0 → Placeable n b records room p x
 unfolding placeRefusal
 placeable n b records room p x e =
-    let h = or-else-zero (unless (inner n x && legNode n p) 12) _ e in
-    let i = and-true (inner n x) (legNode n p) (unless-zero (inner n x && legNode n p) 11 (h .0)) in
-    let o = or-else-zero (unless (not (onRoute b x)) 13) _ (h .1) in
-    let q = or-else-zero (unless (onRoute b p) 14) _ (o .1) in
-    let r = or-else-zero (unless (openAt b x p) 15) _ (q .1) in
+    let h = or-else-zero (unless (isInner n x && legNode n p) NODE) _ e in
+    let i = and-true (isInner n x) (legNode n p) (passed (isInner n x && legNode n p) NODE refl (h .0)) in
+    let o = or-else-zero (unless (not (onRoute b x)) PLACED) _ (h .1) in
+    let q = or-else-zero (unless (onRoute b p) UNPLACED) _ (o .1) in
+    let r = or-else-zero (unless (openAt b x p) SHUT) _ (q .1) in
     record {
-      split = record { node = i .0; leg = i .1; off = not-true (onRoute b x) (unless-zero (not (onRoute b x)) 12 (o .0)); on = unless-zero (onRoute b p) 13 (q .0) };
-      place = unless-zero (openAt b x p) 14 (r .0);
-      left = ltb-true records room (unless-zero (ltb records room) 16 (r .1));
+      split = record { node = i .0; leg = i .1; off = not-true (onRoute b x) (passed (not (onRoute b x)) PLACED refl (o .0)); on = passed (onRoute b p) UNPLACED refl (q .0) };
+      place = passed (openAt b x p) SHUT refl (r .0);
+      left = ltb-true records room (passed (ltb records room) ROOM refl (r .1));
     }
 
--- x may change: it is an inner node off the route
+-- x may change: it is an isInner node off the route
 pub record Free (n : ℕ) (b : Board) (x : ℕ) : Type 0 where
-  pub node : inner n x ≡ true
+  pub node : isInner n x ≡ true
   pub off : onRoute b x ≡ false
 
 or-left : (a b : Bool) → a || b ≡ true → a ≡ false → b ≡ true
@@ -65,11 +69,11 @@ pub excludable : (n : ℕ) (b : Board) (records room : ℕ) (owed : Bool) (x : �
     → Free n b x × ((setOf b x ≡ 0 → ⊥) → records < room)
 unfolding excludeRefusal
 excludable n b records room owed x e =
-    let h = or-else-zero (unless (inner n x) 12) _ e in
-    let o = or-else-zero (unless (not (onRoute b x)) 13) _ (h .1) in
-    let w = or-else-zero (unless (not owed) 16) _ (o .1) in
-    let r = unless-zero (eqb (setOf b x) 0 || ltb records room) 16 (w .1) in (
-      record { node = unless-zero (inner n x) 11 (h .0); off = not-true (onRoute b x) (unless-zero (not (onRoute b x)) 12 (o .0)) },
+    let h = or-else-zero (unless (isInner n x) NODE) _ e in
+    let o = or-else-zero (unless (not (onRoute b x)) PLACED) _ (h .1) in
+    let w = or-else-zero (unless (not owed) OWED) _ (o .1) in
+    let r = passed (eqb (setOf b x) 0 || ltb records room) ROOM refl (w .1) in (
+      record { node = passed (isInner n x) NODE refl (h .0); off = not-true (onRoute b x) (passed (not (onRoute b x)) PLACED refl (o .0)) },
       λ d. ltb-true records room (or-left (eqb (setOf b x) 0) (ltb records room) r (ne-eqb (setOf b x) 0 d)),
     )
 
@@ -77,12 +81,22 @@ pub requirable : (n : ℕ) (b : Board) (records room x : ℕ) → requireRefusal
     → Free n b x × (has (b .marks) x ≡ false → records < room)
 unfolding requireRefusal
 requirable n b records room x e =
-    let h = or-else-zero (unless (inner n x) 12) _ e in
-    let o = or-else-zero (unless (not (onRoute b x)) 13) _ (h .1) in
-    let r = unless-zero (has (b .marks) x || ltb records room) 16 (o .1) in (
-      record { node = unless-zero (inner n x) 11 (h .0); off = not-true (onRoute b x) (unless-zero (not (onRoute b x)) 12 (o .0)) },
+    let h = or-else-zero (unless (isInner n x) NODE) _ e in
+    let o = or-else-zero (unless (not (onRoute b x)) PLACED) _ (h .1) in
+    let r = passed (has (b .marks) x || ltb records room) ROOM refl (o .1) in (
+      record { node = passed (isInner n x) NODE refl (h .0); off = not-true (onRoute b x) (passed (not (onRoute b x)) PLACED refl (o .0)) },
       λ d. ltb-true records room (or-left (has (b .marks) x) (ltb records room) r d),
     )
+
+-- ---- settling
+
+-- sets that stay: nothing changes
+pub settle-still : (s : State) (t : List ℕ) → s .records ≤ roomOf t → settleStep s t 0 (s .sets) ≡ answered 0 s t
+unfolding settleStep
+settle-still s t h =
+    let e : s .records + shrunk (s .sets) (s .sets) 64 ≡ s .records = omega (arith, shrunk-still (s .sets) 64) in
+    step-yes _ s t _ (ap (λ (b : Bool). unless b ROOM) (le-leb _ (roomOf t) (omega (arith, e))))
+    ∙ ap₂ (λ (k : ℕ) (b : Noted). answered 0 (onBoard s (boardOf s) k) (b .1)) e (note-still (s .sets) 64 (s .records, t))
 
 -- ---- stepping back
 
@@ -90,14 +104,14 @@ pub base-low : (n : ℕ) (s : State) → InForm n s → 0 < s .depth → baseOf 
 unfolding baseOf
 base-low n s f h = f .levels .held (s .depth - 1) (omega arith)
 
-pub back-none : (n : ℕ) (s : State) (t : List ℕ) → s .depth < 1 → backStep n s t ≡ answered 18 s t
+pub back-none : (n : ℕ) (s : State) (t : List ℕ) → s .depth < 1 → backStep n s t ≡ answered LEVEL s t
 unfolding backStep orElse
-back-none n s t h = rw (le-ltb 0 (s .depth) (omega arith)) (step-no 18 s t _ (eqb-false 18 0 refl))
+back-none n s t h = rw (le-ltb 0 (s .depth) (omega arith)) (step-no LEVEL s t _ (eqb-false LEVEL 0 refl))
 
 module _ (n : ℕ) (s : State) (t : List ℕ) (f : Bool) (b : Board) (h : 0 < s .depth) (e : undoLevel n s t ≡ (f, b)) where
-  pub back-misfit : f ≡ false → backStep n s t ≡ answered 20 s t
+  pub back-misfit : f ≡ false → backStep n s t ≡ answered MISFIT s t
   unfolding backStep orElse
-  back-misfit z = rw (lt-ltb 0 (s .depth) h, e, z) (step-no 20 s t _ (eqb-false 20 0 refl))
+  back-misfit z = rw (lt-ltb 0 (s .depth) h, e, z) (step-no MISFIT s t _ (eqb-false MISFIT 0 refl))
 
   pub back-fits : f ≡ true → backStep n s t ≡ answered 0 (dropped s b) t
   unfolding backStep orElse

@@ -2,7 +2,7 @@
 use mathlib.Core.Path.{_≡_}
 use mathlib.Core.Bool.{cond}
 use mathlib.Core.List.{List}
-use Prim.Native.Nat.{ℕ, zero, suc, _+_, _*_, _/_, _≤_}
+use Prim.Native.Nat.{ℕ, zero, suc, _+_, _*_, _/_, _%_, _≤_}
 use lib.ListN.{length, getD, set}
 use lib.Dec.{eqb}
 
@@ -20,6 +20,34 @@ firstOf t i = getD t (2 * i) 0
 unfoldable pub secondOf : List ℕ → ℕ → ℕ
 secondOf t i = getD t (2 * i + 1) 0
 
+-- ---- the kinds of records, named once
+
+-- "Kind 1: set made smaller"
+abbrev pub SHRUNK : ℕ
+SHRUNK = 1
+
+-- "Kind 2: placed"
+abbrev pub PLACED : ℕ
+PLACED = 2
+
+-- "Kind 3: marked"
+abbrev pub MARKED : ℕ
+MARKED = 3
+
+-- what one kind counts in a first word
+abbrev pub KIND : ℕ
+KIND = 256
+
+-- "First word 256 × kind + node"
+abbrev pub firstWord : ℕ → ℕ → ℕ
+firstWord kind x = KIND * kind + x
+
+abbrev pub kindOf : ℕ → ℕ
+kindOf first = first / KIND
+
+abbrev pub nodeOf : ℕ → ℕ
+nodeOf first = first % KIND
+
 -- ---- settling: one per node whose set shrank, ascending, with the set as it was before
 
 -- the sets differ at the first n nodes only
@@ -36,7 +64,7 @@ abbrev pub Noted : Type 0
 Noted = ℕ × List ℕ
 
 unfoldable pub noteOne : ℕ → ℕ → ℕ → Noted → Noted
-noteOne w v y b = cond (eqb w v) b (b .0 + 1, pushed (b .1) (b .0) (256 + y) w)
+noteOne w v y b = cond (eqb w v) b (b .0 + 1, pushed (b .1) (b .0) (firstWord SHRUNK y) w)
 
 unfoldable pub noteBelow : List ℕ → List ℕ → ℕ → Noted → Noted
 noteBelow old new zero b = b

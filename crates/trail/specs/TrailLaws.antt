@@ -10,7 +10,15 @@ use lib.Seq.{getD-set-same, getD-set-other}
 use lib.Dec.{eqb}
 use borrow.Author.Tests.{eq-eqb, ne-eqb, eqb-true, eqb-false}
 use Rattle.laws.specs.Logic.{decided}
-use Rattle.trail.specs.Trail.{roomOf, pushed, firstOf, secondOf, Alike, shrunk, Noted, noteOne, noteBelow}
+use Rattle.trail.specs.Trail.{roomOf, pushed, firstOf, secondOf, SHRUNK, firstWord, kindOf, nodeOf, Alike, shrunk, Noted, noteOne, noteBelow}
+
+-- ---- the kind and the node of a first word
+
+pub kind-of : (k x : ℕ) → x < 64 → kindOf (firstWord k x) ≡ k
+kind-of k x h = omega arith
+
+pub node-of : (k x : ℕ) → x < 64 → nodeOf (firstWord k x) ≡ x
+node-of k x h = omega arith
 
 -- ---- a record written
 
@@ -85,7 +93,7 @@ pub note-same : (w v y : ℕ) (b : Noted) → w ≡ v → noteOne w v y b ≡ b
 unfolding noteOne
 note-same w v y b e = rw (eq-eqb w v e)
 
-pub note-differ : (w v y : ℕ) (b : Noted) → (w ≡ v → ⊥) → noteOne w v y b ≡ (b .0 + 1, pushed (b .1) (b .0) (256 + y) w)
+pub note-differ : (w v y : ℕ) (b : Noted) → (w ≡ v → ⊥) → noteOne w v y b ≡ (b .0 + 1, pushed (b .1) (b .0) (firstWord SHRUNK y) w)
 unfolding noteOne
 note-differ w v y b d = rw (ne-eqb w v d)
 
@@ -98,8 +106,8 @@ note-grows old new y r i t c h e =
     let z : c ≡ (i, t) = sym h ∙ note-same (getD old y 0) (getD new y 0) y (i, t) q in
     rw z (omega (arith, e, shrunk-same old new y q), refl))
     (λ p. let q = eqb-false (getD old y 0) (getD new y 0) p in
-    let z : c ≡ (i + 1, pushed t i (256 + y) (getD old y 0)) = sym h ∙ note-differ (getD old y 0) (getD new y 0) y (i, t) q in
-    rw z (omega (arith, e, shrunk-differ old new y q), pushed-long t i (256 + y) (getD old y 0)))
+    let z : c ≡ (i + 1, pushed t i (firstWord SHRUNK y) (getD old y 0)) = sym h ∙ note-differ (getD old y 0) (getD new y 0) y (i, t) q in
+    rw z (omega (arith, e, shrunk-differ old new y q), pushed-long t i (firstWord SHRUNK y) (getD old y 0)))
 
 -- all of them: the count, and a trail as long
 pub note-all : (old new : List ℕ) (k r : ℕ) (t : List ℕ) → (noteBelow old new k (r, t) .0 ≡ r + shrunk old new k) × (length (noteBelow old new k (r, t) .1) ≡ length t)
@@ -110,6 +118,18 @@ note-all old new (suc k) r t =
     let b = noteBelow old new k (r, t) in
     let g = note-grows old new k r (b .0) (b .1) (noteOne (getD old k 0) (getD new k 0) k b) refl (h .0) in
     (g .0 ∙ ap (λ (j : ℕ). r + shrunk old new j) (add-one k), g .1 ∙ h .1)
+
+-- ---- sets that stay need no record
+
+pub shrunk-still : (ws : List ℕ) (k : ℕ) → shrunk ws ws k ≡ 0
+unfolding shrunk
+shrunk-still ws zero = refl
+shrunk-still ws (suc k) = rw (shrunk-still ws k, eq-eqb (getD ws k 0) (getD ws k 0) refl) refl
+
+pub note-still : (ws : List ℕ) (k : ℕ) (b : Noted) → noteBelow ws ws k b ≡ b
+unfolding noteBelow
+note-still ws zero b = refl
+note-still ws (suc k) b = note-same (getD ws k 0) (getD ws k 0) k _ refl ∙ note-still ws k b
 
 -- ---- past the nodes where the sets differ none is counted and none written
 

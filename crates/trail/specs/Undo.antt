@@ -1,14 +1,16 @@
 -- Undoing: when a record fits, and the board before it; newest first (01, The trail).
 use mathlib.Core.Bool.{Bool, true, false, cond, not, _&&_}
 use mathlib.Core.List.{List}
-use Prim.Native.Nat.{ℕ, zero, suc, _-_, _/_, _%_}
+use Prim.Native.Nat.{ℕ, zero, suc, _-_}
 use lib.ListN.{getD}
 use lib.Dec.{eqb}
 use Rattle.bits.specs.Places.{has, without, within}
+use Rattle.rules.specs.Day.{isInner}
 use Rattle.board.specs.Route.{indexOf}
-use Rattle.board.specs.Board.{Board, routeOf, onRoute, legsOf, setOf, inner}
+use Rattle.board.specs.Board.{Board, board, routeOf, onRoute, legsOf, setOf}
 use Rattle.board.specs.Change.{putSet, unplaced, unmarked}
-use Rattle.trail.specs.Trail.{firstOf, secondOf}
+use Rattle.trail.specs.declared.undo.Undone as code
+use Rattle.trail.specs.Trail.{firstOf, secondOf, SHRUNK, PLACED, MARKED, kindOf, nodeOf}
 
 -- the second set strictly contains the first
 unfoldable pub strictly : ℕ → ℕ → Bool
@@ -18,21 +20,25 @@ strictly v w = within v w && not (within w v)
 unfoldable pub stopBefore : Board → ℕ → ℕ
 stopBefore b x = getD (b .route) (indexOf x (routeOf b) - 1) 0
 
--- kind 1: the node is between 1 and n - 2, off the route, and the old set strictly contains the present one and names only legs
+-- set made smaller: the node is between 1 and n - 2, off the route, and the old set strictly contains the present one and names only legs
 unfoldable pub fitsShrunk : ℕ → Board → ℕ → ℕ → Bool
-fitsShrunk n b x w = (inner n x && not (onRoute b x)) && (strictly (setOf b x) w && within w (legsOf b))
+fitsShrunk n b x w = (isInner n x && not (onRoute b x)) && (strictly (setOf b x) w && within w (legsOf b))
 
--- kind 2: the node is on the route, not an end, and the old set names only legs left once it is taken out, its predecessor among them
+-- placed: the node is on the route, not an end, and the old set names only legs left once it is taken out, its predecessor among them
 unfoldable pub fitsPlaced : ℕ → Board → ℕ → ℕ → Bool
-fitsPlaced n b x w = (inner n x && onRoute b x) && (within w (without (legsOf b) x) && has w (stopBefore b x))
+fitsPlaced n b x w = (isInner n x && onRoute b x) && (within w (without (legsOf b) x) && has w (stopBefore b x))
 
--- kind 3: the node is off the route and marked, second word 0
+-- marked: the node is off the route and marked, second word 0
 unfoldable pub fitsMarked : Board → ℕ → ℕ → Bool
 fitsMarked b x w = not (onRoute b x) && (has (b .marks) x && eqb w 0)
 
 -- whether it fits, and the board after
 abbrev pub Undone : Type 0
 Undone = Bool × Board
+
+-- what undoing has left in arrays, with what it answered
+abbrev pub undid : code.Undone → List ℕ → List ℕ → Undone
+undid u route sets = (u .fits, board route (u .stops) sets (u .marks))
 
 unfoldable pub undone : Bool → Board → Board → Undone
 undone fits c b = cond fits (true, c) (false, b)
@@ -47,12 +53,12 @@ undoPlaced n b x w = undone (fitsPlaced n b x w) (unplaced b x w) b
 abbrev pub undoMarked : Board → ℕ → ℕ → Undone
 undoMarked b x w = undone (fitsMarked b x w) (unmarked b x) b
 
--- the record with these two words: 256 × kind + node, and the old set or 0. No other first word fits
+-- the record with these two words. No other kind fits
 unfoldable pub undoOne : ℕ → Board → ℕ → ℕ → Undone
 undoOne n b first w =
-    cond (eqb (first / 256) 1) (undoShrunk n b (first % 256) w)
-    (cond (eqb (first / 256) 2) (undoPlaced n b (first % 256) w)
-    (cond (eqb (first / 256) 3) (undoMarked b (first % 256) w)
+    cond (eqb (kindOf first) SHRUNK) (undoShrunk n b (nodeOf first) w)
+    (cond (eqb (kindOf first) PLACED) (undoPlaced n b (nodeOf first) w)
+    (cond (eqb (kindOf first) MARKED) (undoMarked b (nodeOf first) w)
     (false, b)))
 
 -- the k newest of so many records, newest first, each against the board after the newer ones are undone, as far as they fit

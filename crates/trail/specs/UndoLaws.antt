@@ -2,24 +2,29 @@
 use mathlib.Core.Path.{_≡_, refl, ap, sym, _∙_, subst}
 use mathlib.Core.Bool.{Bool, true, false, cond, not, _&&_, and-false}
 use mathlib.Core.List.{List}
-use Prim.Native.Nat.{ℕ, zero, suc, _-_, _/_, _%_, _≤_, _<_}
+use Prim.Native.Nat.{ℕ, zero, suc, _-_, _≤_, _<_}
 use native.Mathlib.Omega.{arith}
 use lib.ListN.{length, getD}
 use lib.Dec.{eqb, leb, ltb}
-use borrow.Author.Tests.{eqb-true, eqb-false, ne-eqb, not-true, ltb-true, ltb-false, lt-ltb, le-ltb, lt-leb, le-leb}
+use borrow.Author.Tests.{ne-eqb, not-true, ltb-true, ltb-false, lt-ltb, le-ltb, lt-leb, le-leb}
 use Rattle.laws.specs.Logic.{decided, and-true}
 use Rattle.bits.specs.Places.{has, without, within}
-use Rattle.board.specs.Board.{Board, routeOf, onRoute, legsOf, setOf, inner}
+use Rattle.rules.specs.Day.{isInner}
+use Rattle.rules.proofs.Inner.{is-inner}
+use Rattle.board.specs.Board.{Board, routeOf, onRoute, legsOf, setOf}
 use Rattle.board.specs.Change.{putSet, unplaced, unmarked}
-use Rattle.board.specs.FormLaws.{Wide, Sound, inner-in, on-leg, route-long}
+use Rattle.board.specs.FormLaws.{Wide, Sound, on-leg, route-long}
 use Rattle.board.specs.Route.{indexOf}
 use Rattle.board.specs.RouteLaws.{index-mem}
 use Rattle.board.specs.Keep.{put-wide, put-formed, unplaced-wide, unplaced-formed, unmarked-formed}
-use Rattle.trail.specs.Trail.{firstOf, secondOf}
-use Rattle.trail.specs.Undo.{strictly, stopBefore, fitsShrunk, fitsPlaced, fitsMarked, Undone, undone, undoOne, undoMany}
+use Rattle.trail.specs.Trail.{firstOf, secondOf, SHRUNK, PLACED, MARKED, kindOf, nodeOf}
+use Rattle.trail.specs.Undo.{strictly, stopBefore, fitsShrunk, fitsPlaced, fitsMarked, Undone, undone, undoShrunk, undoPlaced, undoMarked, undoOne, undoMany}
 
--- what reading the route of a sound board asks: few stops, each a place of a word
-pub readable : (n : ℕ) (b : Board) → Sound n b → (n ≤ 64) × (b .stops ≤ 64) × (length (b .route) ≡ 64) × ((i : ℕ) → i < b .stops → getD (b .route) i 0 < 64)
+-- what reading a route asks: few stops, each a place of a word
+abbrev pub Readable : ℕ → ℕ → List ℕ → Type 0
+Readable n stops route = (n ≤ 64) × (stops ≤ 64) × (length route ≡ 64) × ((i : ℕ) → i < stops → getD route i 0 < 64)
+
+pub readable : (n : ℕ) (b : Board) → Sound n b → Readable n (b .stops) (b .route)
 readable n b s = (s .small, omega (arith, s .small, s .form .route .most), s .wide .route, λ i h. omega (arith, s .small, s .form .route .below i h))
 
 -- ---- each kind
@@ -32,33 +37,33 @@ pub undone-yes : (b c : Board) {t : Bool} → t ≡ true → undone t c b ≡ (t
 unfolding undone
 undone-yes b c e = rw e
 
-pub one-shrunk : (n : ℕ) (b : Board) (a w : ℕ) → a / 256 ≡ 1 → undoOne n b a w ≡ undone (fitsShrunk n b (a % 256) w) (putSet b (a % 256) w) b
+pub one-shrunk : (n : ℕ) (b : Board) (a w : ℕ) → kindOf a ≡ SHRUNK → undoOne n b a w ≡ undoShrunk n b (nodeOf a) w
 unfolding undoOne
 one-shrunk n b a w e = rw e
 
-pub one-placed : (n : ℕ) (b : Board) (a w : ℕ) → a / 256 ≡ 2 → undoOne n b a w ≡ undone (fitsPlaced n b (a % 256) w) (unplaced b (a % 256) w) b
+pub one-placed : (n : ℕ) (b : Board) (a w : ℕ) → kindOf a ≡ PLACED → undoOne n b a w ≡ undoPlaced n b (nodeOf a) w
 unfolding undoOne
 one-placed n b a w e = rw e
 
-pub one-marked : (n : ℕ) (b : Board) (a w : ℕ) → a / 256 ≡ 3 → undoOne n b a w ≡ undone (fitsMarked b (a % 256) w) (unmarked b (a % 256)) b
+pub one-marked : (n : ℕ) (b : Board) (a w : ℕ) → kindOf a ≡ MARKED → undoOne n b a w ≡ undoMarked b (nodeOf a) w
 unfolding undoOne
 one-marked n b a w e = rw e
 
-pub one-other : (n : ℕ) (b : Board) (a w : ℕ) → (a / 256 ≡ 1 → ⊥) → (a / 256 ≡ 2 → ⊥) → (a / 256 ≡ 3 → ⊥) → undoOne n b a w ≡ (false, b)
+pub one-other : (n : ℕ) (b : Board) (a w : ℕ) → (kindOf a ≡ SHRUNK → ⊥) → (kindOf a ≡ PLACED → ⊥) → (kindOf a ≡ MARKED → ⊥) → undoOne n b a w ≡ (false, b)
 unfolding undoOne
-one-other n b a w e f g = rw (ne-eqb (a / 256) 1 e, ne-eqb (a / 256) 2 f, ne-eqb (a / 256) 3 g)
+one-other n b a w e f g = rw (ne-eqb (kindOf a) SHRUNK e, ne-eqb (kindOf a) PLACED f, ne-eqb (kindOf a) MARKED g)
 
 -- ---- the tests as the code makes them, on a board in form
 
-pub shrunk-out : (n : ℕ) (b : Board) (x w : ℕ) → inner n x ≡ false → fitsShrunk n b x w ≡ false
+pub shrunk-out : (n : ℕ) (b : Board) (x w : ℕ) → isInner n x ≡ false → fitsShrunk n b x w ≡ false
 unfolding fitsShrunk
 shrunk-out n b x w e = rw e
 
-pub placed-out : (n : ℕ) (b : Board) (x w : ℕ) → inner n x ≡ false → fitsPlaced n b x w ≡ false
+pub placed-out : (n : ℕ) (b : Board) (x w : ℕ) → isInner n x ≡ false → fitsPlaced n b x w ≡ false
 unfolding fitsPlaced
 placed-out n b x w e = rw e
 
-pub shrunk-test : (n : ℕ) (b : Board) (x w : ℕ) → Sound n b → inner n x ≡ true
+pub shrunk-test : (n : ℕ) (b : Board) (x w : ℕ) → Sound n b → isInner n x ≡ true
     → fitsShrunk n b x w ≡ not (has (legsOf b) x) && (strictly (setOf b x) w && within w (legsOf b))
 unfolding fitsShrunk
 shrunk-test n b x w s e = rw (e, on-leg n b (s .small) (s .wide) (s .form) x e)
@@ -72,9 +77,9 @@ placed-on n b x s h = sym (on-index n b x s) ∙ lt-ltb (indexOf x (routeOf b)) 
 
 pub placed-off : (n : ℕ) (b : Board) (x w : ℕ) → Sound n b → b .stops ≤ indexOf x (routeOf b) → fitsPlaced n b x w ≡ false
 unfolding fitsPlaced
-placed-off n b x w s h = rw (sym (on-index n b x s) ∙ le-ltb (indexOf x (routeOf b)) (b .stops) h, and-false (inner n x))
+placed-off n b x w s h = rw (sym (on-index n b x s) ∙ le-ltb (indexOf x (routeOf b)) (b .stops) h, and-false (isInner n x))
 
-pub placed-test : (n : ℕ) (b : Board) (x w : ℕ) → inner n x ≡ true → onRoute b x ≡ true
+pub placed-test : (n : ℕ) (b : Board) (x w : ℕ) → isInner n x ≡ true → onRoute b x ≡ true
     → fitsPlaced n b x w ≡ within w (without (legsOf b) x) && has w (stopBefore b x)
 unfolding fitsPlaced
 placed-test n b x w e m = rw (e, m)
@@ -97,20 +102,20 @@ undone-keeps n false b c f s = s
 shrunk-sound : (n : ℕ) (b : Board) (x w : ℕ) → Sound n b → fitsShrunk n b x w ≡ true → Sound n (putSet b x w)
 unfolding fitsShrunk
 shrunk-sound n b x w s e =
-    let p = and-true (inner n x && not (onRoute b x)) _ e in
-    let q = and-true (inner n x) (not (onRoute b x)) (p .0) in
+    let p = and-true (isInner n x && not (onRoute b x)) _ e in
+    let q = and-true (isInner n x) (not (onRoute b x)) (p .0) in
     let r = and-true (strictly (setOf b x) w) (within w (legsOf b)) (p .1) in
     record {
       small = s .small;
       wide = put-wide b x w (s .wide);
-      form = put-formed n b x w (s .wide) (s .form) (omega (arith, inner-in n x (q .0) .1, s .small)) (q .0) (not-true (onRoute b x) (q .1)) (r .1);
+      form = put-formed n b x w (s .wide) (s .form) (omega (arith, is-inner n x (q .0) .1, s .small)) (q .0) (not-true (onRoute b x) (q .1)) (r .1);
     }
 
 placed-sound : (n : ℕ) (b : Board) (x w : ℕ) → Sound n b → fitsPlaced n b x w ≡ true → Sound n (unplaced b x w)
 unfolding fitsPlaced
 placed-sound n b x w s e =
-    let p = and-true (inner n x && onRoute b x) _ e in
-    let q = and-true (inner n x) (onRoute b x) (p .0) in
+    let p = and-true (isInner n x && onRoute b x) _ e in
+    let q = and-true (isInner n x) (onRoute b x) (p .0) in
     let r = and-true (within w (without (legsOf b) x)) _ (p .1) in
     record {
       small = s .small;
@@ -125,15 +130,23 @@ unmarked-wide b x h = record { route = h .route; sets = h .sets }
 marked-sound : (n : ℕ) (b : Board) (x : ℕ) → Sound n b → Sound n (unmarked b x)
 marked-sound n b x s = record { small = s .small; wide = unmarked-wide b x (s .wide); form = unmarked-formed n b x (s .form) }
 
+-- what holds after a record of each kind, and where none fits, holds after any
+pub one-by : (P : Undone → Type 0) (n : ℕ) (b : Board) (a w : ℕ) → P (undoShrunk n b (nodeOf a) w) → P (undoPlaced n b (nodeOf a) w) → P (undoMarked b (nodeOf a) w)
+    → P (false, b) → P (undoOne n b a w)
+unfolding undoOne
+one-by P n b a w p q r s = pick (eqb (kindOf a) SHRUNK) p (pick (eqb (kindOf a) PLACED) q (pick (eqb (kindOf a) MARKED) r s))
+  where
+    pick : (t : Bool) {x y : Undone} → P x → P y → P (cond t x y)
+    pick true h g = h
+    pick false h g = g
+
 pub one-sound : (n : ℕ) (b : Board) (a w : ℕ) → Sound n b → Sound n (undoOne n b a w .1)
 one-sound n b a w s =
-    decided (eqb (a / 256) 1)
-    (λ e. rw (one-shrunk n b a w (eqb-true _ 1 e)) (undone-keeps n (fitsShrunk n b (a % 256) w) b _ (shrunk-sound n b (a % 256) w s) s))
-    (λ e. decided (eqb (a / 256) 2)
-    (λ f. rw (one-placed n b a w (eqb-true _ 2 f)) (undone-keeps n (fitsPlaced n b (a % 256) w) b _ (placed-sound n b (a % 256) w s) s))
-    (λ f. decided (eqb (a / 256) 3)
-    (λ g. rw (one-marked n b a w (eqb-true _ 3 g)) (undone-keeps n (fitsMarked b (a % 256) w) b _ (λ h. marked-sound n b (a % 256) s) s))
-    (λ g. rw (one-other n b a w (eqb-false _ 1 e) (eqb-false _ 2 f) (eqb-false _ 3 g)) s)))
+    one-by (λ (u : Undone). Sound n (u .1)) n b a w
+    (undone-keeps n (fitsShrunk n b (nodeOf a) w) b _ (shrunk-sound n b (nodeOf a) w s) s)
+    (undone-keeps n (fitsPlaced n b (nodeOf a) w) b _ (placed-sound n b (nodeOf a) w s) s)
+    (undone-keeps n (fitsMarked b (nodeOf a) w) b _ (λ h. marked-sound n b (nodeOf a) s) s)
+    s
 
 -- ---- many
 
@@ -160,17 +173,20 @@ module _ (n : ℕ) (b : Board) (t : List ℕ) (f : Bool) (c : Board) where
   pub one-next : (a w : ℕ) → Sound n b → undoOne n b a w ≡ (f, c) → Sound n c
   one-next a w s e = subst (λ (u : Undone). Sound n (u .1)) e (one-sound n b a w s)
 
+-- what each record of a trail keeps, undoing many keeps
+pub many-keeps : (P : Board → Type 0) (n : ℕ) (t : List ℕ) → ((b : Board) (i : ℕ) → P b → P (undoOne n b (firstOf t i) (secondOf t i) .1))
+    → (k : ℕ) (b : Board) (records : ℕ) → P b → P (undoMany k n b records t .1)
+unfolding undoMany
+many-keeps P n t one zero b records h = h
+many-keeps P n t one (suc k) b records h =
+    let o = undoOne n b (firstOf t (records - 1)) (secondOf t (records - 1)) in
+    let g : P (o .1) = one b (records - 1) h in
+    go (o .0) (undoMany k n (o .1) (records - 1) t) o (many-keeps P n t one k (o .1) (records - 1) g) g
+  where
+    go : (f : Bool) (x y : Undone) → P (x .1) → P (y .1) → P (cond f x y .1)
+    go true x y p q = p
+    go false x y p q = q
+
 -- stepping back keeps the form, whatever the trail holds
 pub many-sound : (k n : ℕ) (b : Board) (records : ℕ) (t : List ℕ) → Sound n b → Sound n (undoMany k n b records t .1)
-unfolding undoMany
-many-sound zero n b records t s = s
-many-sound (suc k) n b records t s =
-    let h = one-sound n b (firstOf t (records - 1)) (secondOf t (records - 1)) s in
-    go (undoOne n b (firstOf t (records - 1)) (secondOf t (records - 1)) .0) h
-    (many-sound k n (undoOne n b (firstOf t (records - 1)) (secondOf t (records - 1)) .1) (records - 1) t h)
-  where
-    go : (f : Bool) → Sound n (undoOne n b (firstOf t (records - 1)) (secondOf t (records - 1)) .1)
-        → Sound n (undoMany k n (undoOne n b (firstOf t (records - 1)) (secondOf t (records - 1)) .1) (records - 1) t .1)
-        → Sound n (cond f (undoMany k n (undoOne n b (firstOf t (records - 1)) (secondOf t (records - 1)) .1) (records - 1) t) (undoOne n b (firstOf t (records - 1)) (secondOf t (records - 1))) .1)
-    go true h r = r
-    go false h r = h
+many-sound k n b records t s = many-keeps (Sound n) n t (λ c i h. one-sound n c (firstOf t i) (secondOf t i) h) k b records s

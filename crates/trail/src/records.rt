@@ -3,8 +3,33 @@ ghost use mathlib.Core.Path.{_≡_};
 ghost use mathlib.Core.Bool.{cond};
 ghost use Prim.Native.Nat.{_+_, _^_, _≤_, _<_};
 ghost use lib.Dec.{eqb};
-ghost use Rattle.trail.specs.Trail.{roomOf, pushed, Alike, shrunk, noteOne, noteBelow};
+ghost use Rattle.trail.specs.Trail.{roomOf, pushed, MARKED, firstWord, Alike, shrunk, noteOne, noteBelow};
 use rules::Node;
+
+// A record, named by its kind.
+pub struct Record;
+
+impl Record {
+    // A node's set made smaller.
+    pub const SHRUNK: u64 = 1;
+
+    // A node placed.
+    pub const PLACED: u64 = 2;
+
+    // A node marked.
+    pub const MARKED: u64 = 3;
+
+    // What one kind counts in a first word.
+    pub const KIND: u64 = 256;
+}
+
+// The first word of a record: its kind and its node.
+pub fn first_word(kind: u64, x: usize) -> u64
+    requires { ⌜ (kind ≤ MARKED) × (x < 64) ⌝ }
+    ensures { λ r. ⌜ r ≡ firstWord kind x ⌝ }
+{
+    Record::KIND * kind + x as u64
+}
 
 // Record i written.
 pub fn push(trail: &mut [u64], i: usize, first: u64, second: u64)
@@ -45,7 +70,7 @@ fn note_one(trail: &mut [u64], i: usize, w: u64, v: u64, y: usize) -> usize
     if w == v {
         return i;
     }
-    push(trail, i, 256 + y as u64, w);
+    push(trail, i, first_word(Record::SHRUNK, y), w);
     i + 1
 }
 

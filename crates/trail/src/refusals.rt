@@ -1,4 +1,5 @@
 // When a step is refused, in document 01's order. The state is in form, and the caller has asked so.
+use board::Figures;
 use board::form::inner;
 use board::form::leg_node;
 use board::route::word;
@@ -6,24 +7,23 @@ use rules::Node;
 use rules::Refusal;
 ghost use mathlib.Core.Path.{_≡_};
 ghost use mathlib.Core.List.{List};
-ghost use Prim.Native.Nat.{ℕ, _<_, _≤_};
-ghost use lib.ListN.{getD, length};
+ghost use Prim.Native.Nat.{ℕ};
 ghost use Rattle.board.specs.Board.{board};
+ghost use Rattle.trail.specs.UndoLaws.{Readable};
 ghost use Rattle.trail.specs.Refusals.{placeRefusal, excludeRefusal, requireRefusal};
 
-// Steps 1 and 2 are refused alike: place x after p, close the place p of x.
+// Placing x after p and closing the place p of x are refused alike.
 pub fn place_refusal<'a>(
     route: &'a [usize; Node::MOST],
-    stops: usize,
     sets: &'a [u64; Node::MOST],
-    records: usize,
+    f: Figures,
     room: usize,
     n: usize,
     p: usize,
     x: usize,
 ) -> usize
-    requires { ⌜ (n ≤ 64) × (stops ≤ 64) × (length (now route) ≡ 64) × ((i : ℕ) → i < stops → getD (now route) i 0 < 64) ⌝ }
-    ensures { λ r. ⌜ ((m : ℕ) → r ≡ placeRefusal n (board (now (route .entry)) stops (now (sets .entry)) m) records room p x) ⌝ }
+    requires { ⌜ Readable n (f .stops) (now route) ⌝ }
+    ensures { λ r. ⌜ r ≡ placeRefusal n (board (now (route .entry)) (f .stops) (now (sets .entry)) (f .marks)) (f .records) room p x ⌝ }
 {
     if !inner(n, x) {
         return Refusal::NODE;
@@ -31,7 +31,7 @@ pub fn place_refusal<'a>(
     if !leg_node(n, p) {
         return Refusal::NODE;
     }
-    let on = word(route, stops);
+    let on = word(route, f.stops);
     if bits::has(on, x) {
         return Refusal::PLACED;
     }
@@ -41,27 +41,26 @@ pub fn place_refusal<'a>(
     if !bits::has(sets[x], p) {
         return Refusal::SHUT;
     }
-    if records < room { 0 } else { Refusal::ROOM }
+    if f.records < room { 0 } else { Refusal::ROOM }
 }
 
-// Step 3: exclude x.
+// Excluding x.
 pub fn exclude_refusal<'a>(
     route: &'a [usize; Node::MOST],
-    stops: usize,
     sets: &'a [u64; Node::MOST],
-    records: usize,
+    f: Figures,
     room: usize,
     n: usize,
     owed: bool,
     x: usize,
 ) -> usize
-    requires { ⌜ (n ≤ 64) × (stops ≤ 64) × (length (now route) ≡ 64) × ((i : ℕ) → i < stops → getD (now route) i 0 < 64) ⌝ }
-    ensures { λ r. ⌜ ((m : ℕ) → r ≡ excludeRefusal n (board (now (route .entry)) stops (now (sets .entry)) m) records room owed x) ⌝ }
+    requires { ⌜ Readable n (f .stops) (now route) ⌝ }
+    ensures { λ r. ⌜ r ≡ excludeRefusal n (board (now (route .entry)) (f .stops) (now (sets .entry)) (f .marks)) (f .records) room owed x ⌝ }
 {
     if !inner(n, x) {
         return Refusal::NODE;
     }
-    let on = word(route, stops);
+    let on = word(route, f.stops);
     if bits::has(on, x) {
         return Refusal::PLACED;
     }
@@ -71,31 +70,29 @@ pub fn exclude_refusal<'a>(
     if sets[x] == 0 {
         return 0;
     }
-    if records < room { 0 } else { Refusal::ROOM }
+    if f.records < room { 0 } else { Refusal::ROOM }
 }
 
-// Step 4: require x.
+// Requiring x.
 pub fn require_refusal(
     route: &[usize; Node::MOST],
-    stops: usize,
-    marks: u64,
-    records: usize,
+    f: Figures,
     room: usize,
     n: usize,
     x: usize,
 ) -> usize
-    requires { ⌜ (n ≤ 64) × (stops ≤ 64) × (length (now route) ≡ 64) × ((i : ℕ) → i < stops → getD (now route) i 0 < 64) ⌝ }
-    ensures { λ r. ⌜ ((l : List ℕ) → r ≡ requireRefusal n (board (now (route .entry)) stops l marks) records room x) ⌝ }
+    requires { ⌜ Readable n (f .stops) (now route) ⌝ }
+    ensures { λ r. ⌜ ((sets : List ℕ) → r ≡ requireRefusal n (board (now (route .entry)) (f .stops) sets (f .marks)) (f .records) room x) ⌝ }
 {
     if !inner(n, x) {
         return Refusal::NODE;
     }
-    let on = word(route, stops);
+    let on = word(route, f.stops);
     if bits::has(on, x) {
         return Refusal::PLACED;
     }
-    if bits::has(marks, x) {
+    if bits::has(f.marks, x) {
         return 0;
     }
-    if records < room { 0 } else { Refusal::ROOM }
+    if f.records < room { 0 } else { Refusal::ROOM }
 }

@@ -1,5 +1,7 @@
 // The steps on a state in form, asked so by the caller: the answer, and state and trail changed in place. Refused: state and trail as before.
 use crate::Outcome;
+use crate::records::Record;
+use crate::records::first_word;
 use crate::records::needed;
 use crate::records::note;
 use crate::records::push;
@@ -9,34 +11,32 @@ use crate::refusals::require_refusal;
 use crate::undo::undo_many;
 use board::Figures;
 use board::State;
-use board::places::inherit;
-use board::route::insert;
-use board::route::position;
 use rules::Node;
 use rules::Refusal;
 ghost use mathlib.Core.Path.{_≡_};
 ghost use mathlib.Core.Bool.{true};
 ghost use mathlib.Core.List.{List};
-ghost use Prim.Native.Nat.{ℕ, _+_, _≤_, _<_};
-ghost use lib.ListN.{getD, length};
-ghost use Rattle.board.specs.Board.{board, boardOf, stateWith, setOf};
+ghost use Prim.Native.Nat.{ℕ, _≤_, _<_};
+ghost use lib.ListN.{length};
+ghost use Rattle.board.specs.Board.{board, stateWith};
 ghost use Rattle.board.specs.Form.{formWith};
 ghost use Rattle.board.specs.FormLaws.{Sound};
-ghost use Rattle.board.specs.Change.{putSet};
 ghost use Rattle.trail.specs.Trail.{roomOf, Alike};
-ghost use Rattle.trail.specs.Steps.{ran, recorded, placeStep, closeStep, excludeStep, requireStep, settleStep, levelStep, backStep};
+ghost use Rattle.trail.specs.UndoLaws.{Readable};
+ghost use Rattle.trail.specs.Steps.{ran, unchanged, shrank, placeStep, closeStep, excludeStep, requireStep, settleStep, levelStep, backStep};
 
 // Nothing changed: refused with a number, or 0 where nothing was to be done.
-fn same(answer: usize, f: Figures) -> Outcome
-    ensures { λ r. ⌜ (r .answer ≡ answer) × (r .after ≡ f) ⌝ }
+pub fn same(answer: usize, f: Figures) -> Outcome
+    ensures { λ r. ⌜ r ≡ unchanged answer f ⌝ }
 {
     Outcome {
         answer: answer,
+        rounds: 0,
         after: f,
     }
 }
 
-// Step 1: place x after p.
+// Place x after p.
 pub fn place(
     route: &mut [usize; Node::MOST],
     sets: &mut [u64; Node::MOST],
@@ -47,22 +47,21 @@ pub fn place(
     trail: &mut [u64],
 ) -> Outcome
     requires { ⌜ Sound n (board (now route) (f .stops) (now sets) (f .marks)) ⌝ }
-    ensures { λ r. ⌜ ((levels : List ℕ) → placeStep n (stateWith (now (route .entry)) (now (sets .entry)) levels f) (now (trail .entry)) p x ≡ ran r (now (route .exit)) (now (sets .exit)) levels (now (trail .exit))) ⌝ }
+    ensures { λ r. ⌜ ((levels : List ℕ) → placeStep n (stateWith (now (route .entry)) (now (sets .entry)) levels f) (now (trail .entry)) p x
+        ≡ ran r (now (route .exit)) (now (sets .exit)) levels (now (trail .exit))) ⌝ }
 {
     let room = trail.len() / 2;
     let stops = f.stops;
     let i = f.records;
-    let code = place_refusal(route, stops, sets, i, room, n, p, x);
+    let code = place_refusal(route, sets, f, room, n, p, x);
     if code != 0 {
         return same(code, f);
     }
-    push(trail, i, 512 + x as u64, sets[x]);
-    let at = position(route, stops, p);
-    insert(route, at + 1, x);
-    inherit(sets, n, p, x);
-    sets[x] = 0;
+    push(trail, i, first_word(Record::PLACED, x), sets[x]);
+    board::change::place(route, sets, stops, n, p, x);
     Outcome {
         answer: 0,
+        rounds: 0,
         after: Figures {
             stops: stops + 1,
             marks: f.marks,
@@ -75,13 +74,15 @@ pub fn place(
 // The set of x becomes w, with its record.
 fn shrink(sets: &mut [u64; Node::MOST], f: Figures, x: usize, w: u64, trail: &mut [u64]) -> Outcome
     requires { ⌜ (x < 64) × (f .records < roomOf (now trail)) ⌝ }
-    ensures { λ r. ⌜ ((route levels : List ℕ) → recorded (stateWith route (now (sets .entry)) levels f) (now (trail .entry)) (putSet (boardOf (stateWith route (now (sets .entry)) levels f)) x w) (256 + x) (setOf (boardOf (stateWith route (now (sets .entry)) levels f)) x) ≡ ran r route (now (sets .exit)) levels (now (trail .exit))) ⌝ }
+    ensures { λ r. ⌜ ((route levels : List ℕ) → shrank (stateWith route (now (sets .entry)) levels f) (now (trail .entry)) x w
+        ≡ ran r route (now (sets .exit)) levels (now (trail .exit))) ⌝ }
 {
     let i = f.records;
-    push(trail, i, 256 + x as u64, sets[x]);
+    push(trail, i, first_word(Record::SHRUNK, x), sets[x]);
     sets[x] = w;
     Outcome {
         answer: 0,
+        rounds: 0,
         after: Figures {
             stops: f.stops,
             marks: f.marks,
@@ -91,7 +92,7 @@ fn shrink(sets: &mut [u64; Node::MOST], f: Figures, x: usize, w: u64, trail: &mu
     }
 }
 
-// Step 2: close the place p of x.
+// Close the place p of x.
 pub fn close(
     route: &[usize; Node::MOST],
     sets: &mut [u64; Node::MOST],
@@ -102,10 +103,11 @@ pub fn close(
     trail: &mut [u64],
 ) -> Outcome
     requires { ⌜ Sound n (board (now route) (f .stops) (now sets) (f .marks)) ⌝ }
-    ensures { λ r. ⌜ ((levels : List ℕ) → closeStep n (stateWith (now (route .entry)) (now (sets .entry)) levels f) (now (trail .entry)) p x ≡ ran r (now (route .entry)) (now (sets .exit)) levels (now (trail .exit))) ⌝ }
+    ensures { λ r. ⌜ ((levels : List ℕ) → closeStep n (stateWith (now (route .entry)) (now (sets .entry)) levels f) (now (trail .entry)) p x
+        ≡ ran r (now (route .entry)) (now (sets .exit)) levels (now (trail .exit))) ⌝ }
 {
     let room = trail.len() / 2;
-    let code = place_refusal(route, f.stops, sets, f.records, room, n, p, x);
+    let code = place_refusal(route, sets, f, room, n, p, x);
     if code != 0 {
         return same(code, f);
     }
@@ -113,7 +115,7 @@ pub fn close(
     shrink(sets, f, x, bits::without(w, p), trail)
 }
 
-// Step 3: exclude x, which is owed or not.
+// Exclude x, which is owed or not.
 pub fn exclude(
     route: &[usize; Node::MOST],
     sets: &mut [u64; Node::MOST],
@@ -124,10 +126,11 @@ pub fn exclude(
     trail: &mut [u64],
 ) -> Outcome
     requires { ⌜ Sound n (board (now route) (f .stops) (now sets) (f .marks)) ⌝ }
-    ensures { λ r. ⌜ ((levels : List ℕ) → excludeStep n (stateWith (now (route .entry)) (now (sets .entry)) levels f) (now (trail .entry)) owed x ≡ ran r (now (route .entry)) (now (sets .exit)) levels (now (trail .exit))) ⌝ }
+    ensures { λ r. ⌜ ((levels : List ℕ) → excludeStep n (stateWith (now (route .entry)) (now (sets .entry)) levels f) (now (trail .entry)) owed x
+        ≡ ran r (now (route .entry)) (now (sets .exit)) levels (now (trail .exit))) ⌝ }
 {
     let room = trail.len() / 2;
-    let code = exclude_refusal(route, f.stops, sets, f.records, room, n, owed, x);
+    let code = exclude_refusal(route, sets, f, room, n, owed, x);
     if code != 0 {
         return same(code, f);
     }
@@ -137,7 +140,7 @@ pub fn exclude(
     shrink(sets, f, x, 0, trail)
 }
 
-// Step 4: require x.
+// Require x.
 pub fn require(
     route: &[usize; Node::MOST],
     f: Figures,
@@ -145,22 +148,24 @@ pub fn require(
     x: usize,
     trail: &mut [u64],
 ) -> Outcome
-    requires { ⌜ (n ≤ 64) × (length (now route) ≡ 64) × (f .stops ≤ 64) × ((i : ℕ) → i < f .stops → getD (now route) i 0 < 64) ⌝ }
-    ensures { λ r. ⌜ ((sets levels : List ℕ) → requireStep n (stateWith (now (route .entry)) sets levels f) (now (trail .entry)) x ≡ ran r (now (route .entry)) sets levels (now (trail .exit))) ⌝ }
+    requires { ⌜ Readable n (f .stops) (now route) ⌝ }
+    ensures { λ r. ⌜ ((sets levels : List ℕ) → requireStep n (stateWith (now (route .entry)) sets levels f) (now (trail .entry)) x
+        ≡ ran r (now (route .entry)) sets levels (now (trail .exit))) ⌝ }
 {
     let room = trail.len() / 2;
     let i = f.records;
     let marks = f.marks;
-    let code = require_refusal(route, f.stops, marks, i, room, n, x);
+    let code = require_refusal(route, f, room, n, x);
     if code != 0 {
         return same(code, f);
     }
     if bits::has(marks, x) {
         return same(0, f);
     }
-    push(trail, i, 768 + x as u64, 0);
+    push(trail, i, first_word(Record::MARKED, x), 0);
     Outcome {
         answer: 0,
+        rounds: 0,
         after: Figures {
             stops: f.stops,
             marks: bits::with(marks, x),
@@ -170,17 +175,23 @@ pub fn require(
     }
 }
 
-// Step 5, its sets known: the records of a settling, and the sets become the new ones.
+// Settling, its rounds and sets known: the records of it, and the sets become the new ones. With no round nothing changes.
 pub fn settle(
     sets: &mut [u64; Node::MOST],
     f: Figures,
+    rounds: usize,
     new: &[u64; Node::MOST],
     n: usize,
     trail: &mut [u64],
 ) -> Outcome
-    requires { ⌜ (length (now sets) ≡ 64) × (length (now new) ≡ 64) × (n ≤ 64) × Alike n (now sets) (now new) × (f .records ≤ roomOf (now trail)) ⌝ }
-    ensures { λ r. ⌜ ((route levels : List ℕ) → settleStep (stateWith route (now (sets .entry)) levels f) (now (trail .entry)) (now (new .entry)) ≡ ran r route (now (sets .exit)) levels (now (trail .exit))) ⌝ }
+    requires { ⌜ (length (now sets) ≡ 64) × (length (now new) ≡ 64) × (n ≤ 64) × Alike n (now sets) (now new)
+        × (f .records ≤ roomOf (now trail)) × (rounds ≡ 0 → now new ≡ now sets) ⌝ }
+    ensures { λ r. ⌜ ((route levels : List ℕ) → settleStep (stateWith route (now (sets .entry)) levels f) (now (trail .entry)) rounds (now (new .entry))
+        ≡ ran r route (now (sets .exit)) levels (now (trail .exit))) ⌝ }
 {
+    if rounds == 0 {
+        return same(0, f);
+    }
     let room = trail.len() / 2;
     let i = f.records;
     let more = needed(sets, new, n);
@@ -191,6 +202,7 @@ pub fn settle(
     *sets = *new;
     Outcome {
         answer: 0,
+        rounds: rounds,
         after: Figures {
             stops: f.stops,
             marks: f.marks,
@@ -200,10 +212,11 @@ pub fn settle(
     }
 }
 
-// Step 6: open a level.
+// Open a level.
 pub fn level(levels: &mut [usize; State::LEVELS], f: Figures) -> Outcome
     requires { ⌜ length (now levels) ≡ 64 ⌝ }
-    ensures { λ r. ⌜ ((route sets t : List ℕ) → levelStep (stateWith route sets (now (levels .entry)) f) t ≡ ran r route sets (now (levels .exit)) t) ⌝ }
+    ensures { λ r. ⌜ ((route sets t : List ℕ) →
+        levelStep (stateWith route sets (now (levels .entry)) f) t ≡ ran r route sets (now (levels .exit)) t) ⌝ }
 {
     let d = f.depth;
     if State::LEVELS <= d {
@@ -212,6 +225,7 @@ pub fn level(levels: &mut [usize; State::LEVELS], f: Figures) -> Outcome
     levels[d] = f.records;
     Outcome {
         answer: 0,
+        rounds: 0,
         after: Figures {
             stops: f.stops,
             marks: f.marks,
@@ -221,7 +235,7 @@ pub fn level(levels: &mut [usize; State::LEVELS], f: Figures) -> Outcome
     }
 }
 
-// Step 7: undo to the last level and drop it. The undoing is tried on copies, since a record that does not fit refuses all.
+// Step back: undo to the last level and drop it. The undoing is tried on copies, since a record that does not fit refuses all.
 pub fn back(
     route: &mut [usize; Node::MOST],
     sets: &mut [u64; Node::MOST],
@@ -230,8 +244,10 @@ pub fn back(
     n: usize,
     trail: &[u64],
 ) -> Outcome
-    requires { ⌜ Sound n (board (now route) (f .stops) (now sets) (f .marks)) × (length (now levels) ≡ 64) × (formWith n (stateWith (now route) (now sets) (now levels) f) (roomOf (now trail)) ≡ true) ⌝ }
-    ensures { λ r. ⌜ backStep n (stateWith (now (route .entry)) (now (sets .entry)) (now (levels .entry)) f) (now (trail .entry)) ≡ ran r (now (route .exit)) (now (sets .exit)) (now (levels .exit)) (now (trail .entry)) ⌝ }
+    requires { ⌜ Sound n (board (now route) (f .stops) (now sets) (f .marks)) × (length (now levels) ≡ 64)
+        × (formWith n (stateWith (now route) (now sets) (now levels) f) (roomOf (now trail)) ≡ true) ⌝ }
+    ensures { λ r. ⌜ backStep n (stateWith (now (route .entry)) (now (sets .entry)) (now (levels .entry)) f) (now (trail .entry))
+        ≡ ran r (now (route .exit)) (now (sets .exit)) (now (levels .exit)) (now (trail .entry)) ⌝ }
 {
     let depth = f.depth;
     if depth < 1 {
@@ -240,16 +256,7 @@ pub fn back(
     let base = levels[depth - 1];
     let mut stops = *route;
     let mut places = *sets;
-    let u = undo_many(
-        &mut stops,
-        &mut places,
-        f.stops,
-        f.marks,
-        n,
-        f.records,
-        base,
-        trail,
-    );
+    let u = undo_many(&mut stops, &mut places, f, n, base, trail);
     if !u.fits {
         return same(Refusal::MISFIT, f);
     }
@@ -258,6 +265,7 @@ pub fn back(
     *sets = places;
     Outcome {
         answer: 0,
+        rounds: 0,
         after: Figures {
             stops: u.stops,
             marks: u.marks,

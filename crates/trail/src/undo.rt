@@ -1,18 +1,20 @@
 // Undoing: a record that fits is undone in place; one that does not changes nothing.
+use crate::records::Record;
+use board::Figures;
+use board::change::unplace;
 use board::form::inner;
-use board::places::strike_leg;
 use board::route::position;
-use board::route::remove;
 use board::route::word;
 use rules::Node;
 ghost use mathlib.Core.Path.{_≡_};
-ghost use mathlib.Core.Bool.{_&&_};
-ghost use Prim.Native.Nat.{_-_, _≤_};
+ghost use mathlib.Core.Bool.{false, _&&_};
+ghost use mathlib.Core.List.{List};
+ghost use Prim.Native.Nat.{ℕ, _-_, _≤_};
 ghost use Rattle.bits.specs.Places.{has, without, within};
 ghost use Rattle.board.specs.Board.{board};
 ghost use Rattle.board.specs.FormLaws.{Sound};
 ghost use Rattle.trail.specs.Trail.{roomOf};
-ghost use Rattle.trail.specs.Undo.{strictly, undoShrunk, undoPlaced, undoMarked, undoOne, undoMany};
+ghost use Rattle.trail.specs.Undo.{strictly, undid, undoShrunk, undoPlaced, undoMarked, undoOne, undoMany};
 
 // Whether it fitted, and the numbers of the board after; the arrays are changed in place.
 pub struct Undone {
@@ -21,13 +23,24 @@ pub struct Undone {
     pub marks: u64,
 }
 
+// A record that does not fit: the numbers as they were.
+fn misfit(stops: usize, marks: u64) -> Undone
+    ensures { λ r. ⌜ ((route sets : List ℕ) → undid r route sets ≡ (false, board route stops sets marks)) ⌝ }
+{
+    Undone {
+        fits: false,
+        stops: stops,
+        marks: marks,
+    }
+}
+
 fn grows(v: u64, w: u64, legs: u64) -> bool
     ensures { λ r. ⌜ r ≡ strictly v w && within w legs ⌝ }
 {
     (bits::within(v, w) & !bits::within(w, v)) & bits::within(w, legs)
 }
 
-// Kind 1: x gets its larger set w back.
+// A set made smaller: x gets its larger set w back.
 fn undo_shrunk(
     route: &[usize; Node::MOST],
     sets: &mut [u64; Node::MOST],
@@ -38,24 +51,16 @@ fn undo_shrunk(
     w: u64,
 ) -> Undone
     requires { ⌜ Sound n (board (now route) stops (now sets) marks) ⌝ }
-    ensures { λ r. ⌜ undoShrunk n (board (now (route .entry)) stops (now (sets .entry)) marks) x w ≡ (r .fits, board (now (route .entry)) (r .stops) (now (sets .exit)) (r .marks)) ⌝ }
+    ensures { λ r. ⌜ undoShrunk n (board (now (route .entry)) stops (now (sets .entry)) marks) x w ≡ undid r (now (route .entry)) (now (sets .exit)) ⌝ }
 {
     if !inner(n, x) {
-        return Undone {
-            fits: false,
-            stops: stops,
-            marks: marks,
-        };
+        return misfit(stops, marks);
     }
     let legs = word(route, stops - 1);
     let v = sets[x];
     let fits = !bits::has(legs, x) & grows(v, w, legs);
     if !fits {
-        return Undone {
-            fits: false,
-            stops: stops,
-            marks: marks,
-        };
+        return misfit(stops, marks);
     }
     sets[x] = w;
     Undone {
@@ -71,7 +76,7 @@ fn left_legs(w: u64, legs: u64, x: usize, stop: usize) -> bool
     bits::within(w, bits::without(legs, x)) & bits::has(w, stop)
 }
 
-// Kind 2: x is taken off the route and gets its old set back; its leg goes out of every set.
+// A placing: x is taken off the route and gets its old set back; its leg goes out of every set.
 fn undo_placed(
     route: &mut [usize; Node::MOST],
     sets: &mut [u64; Node::MOST],
@@ -82,35 +87,21 @@ fn undo_placed(
     old: u64,
 ) -> Undone
     requires { ⌜ Sound n (board (now route) stops (now sets) marks) ⌝ }
-    ensures { λ r. ⌜ undoPlaced n (board (now (route .entry)) stops (now (sets .entry)) marks) x old ≡ (r .fits, board (now (route .exit)) (r .stops) (now (sets .exit)) (r .marks)) ⌝ }
+    ensures { λ r. ⌜ undoPlaced n (board (now (route .entry)) stops (now (sets .entry)) marks) x old ≡ undid r (now (route .exit)) (now (sets .exit)) ⌝ }
 {
     if !inner(n, x) {
-        return Undone {
-            fits: false,
-            stops: stops,
-            marks: marks,
-        };
+        return misfit(stops, marks);
     }
     let i = position(route, stops, x);
     if stops <= i {
-        return Undone {
-            fits: false,
-            stops: stops,
-            marks: marks,
-        };
+        return misfit(stops, marks);
     }
     let legs = word(route, stops - 1);
     let before = route[i - 1];
     if !left_legs(old, legs, x, before) {
-        return Undone {
-            fits: false,
-            stops: stops,
-            marks: marks,
-        };
+        return misfit(stops, marks);
     }
-    remove(route, i);
-    strike_leg(sets, n, x);
-    sets[x] = old;
+    unplace(route, sets, i, n, x, old);
     Undone {
         fits: true,
         stops: stops - 1,
@@ -118,7 +109,7 @@ fn undo_placed(
     }
 }
 
-// Kind 3: the mark of x is taken off.
+// A mark: that of x is taken off.
 fn undo_marked<'a>(
     route: &'a [usize; Node::MOST],
     sets: &'a [u64; Node::MOST],
@@ -129,16 +120,12 @@ fn undo_marked<'a>(
     w: u64,
 ) -> Undone
     requires { ⌜ Sound n (board (now route) stops (now sets) marks) ⌝ }
-    ensures { λ r. ⌜ undoMarked (board (now (route .entry)) stops (now (sets .entry)) marks) x w ≡ (r .fits, board (now (route .entry)) (r .stops) (now (sets .entry)) (r .marks)) ⌝ }
+    ensures { λ r. ⌜ undoMarked (board (now (route .entry)) stops (now (sets .entry)) marks) x w ≡ undid r (now (route .entry)) (now (sets .entry)) ⌝ }
 {
     let i = position(route, stops, x);
     let fits = (stops <= i) & (bits::has(marks, x) & (w == 0));
     if !fits {
-        return Undone {
-            fits: false,
-            stops: stops,
-            marks: marks,
-        };
+        return misfit(stops, marks);
     }
     Undone {
         fits: true,
@@ -147,7 +134,7 @@ fn undo_marked<'a>(
     }
 }
 
-// The record with these two words: 256 * kind + node, and the old set or 0.
+// The record with these two words: its kind and node, and the old set or 0.
 fn undo_one(
     route: &mut [usize; Node::MOST],
     sets: &mut [u64; Node::MOST],
@@ -158,23 +145,15 @@ fn undo_one(
     w: u64,
 ) -> Undone
     requires { ⌜ Sound n (board (now route) stops (now sets) marks) ⌝ }
-    ensures { λ r. ⌜ undoOne n (board (now (route .entry)) stops (now (sets .entry)) marks) first w ≡ (r .fits, board (now (route .exit)) (r .stops) (now (sets .exit)) (r .marks)) ⌝ }
+    ensures { λ r. ⌜ undoOne n (board (now (route .entry)) stops (now (sets .entry)) marks) first w ≡ undid r (now (route .exit)) (now (sets .exit)) ⌝ }
 {
-    let kind = first / 256;
-    let x = (first % 256) as usize;
-    if kind == 1 {
-        return undo_shrunk(route, sets, stops, marks, n, x, w);
-    }
-    if kind == 2 {
-        return undo_placed(route, sets, stops, marks, n, x, w);
-    }
-    if kind == 3 {
-        return undo_marked(route, sets, stops, marks, n, x, w);
-    }
-    Undone {
-        fits: false,
-        stops: stops,
-        marks: marks,
+    let kind = first / Record::KIND;
+    let x = (first % Record::KIND) as usize;
+    match kind {
+        Record::SHRUNK => undo_shrunk(route, sets, stops, marks, n, x, w),
+        Record::PLACED => undo_placed(route, sets, stops, marks, n, x, w),
+        Record::MARKED => undo_marked(route, sets, stops, marks, n, x, w),
+        _ => misfit(stops, marks),
     }
 }
 
@@ -182,19 +161,18 @@ fn undo_one(
 pub fn undo_many(
     route: &mut [usize; Node::MOST],
     sets: &mut [u64; Node::MOST],
-    stops: usize,
-    marks: u64,
+    f: Figures,
     n: usize,
-    records: usize,
     base: usize,
     trail: &[u64],
 ) -> Undone
-    requires { ⌜ Sound n (board (now route) stops (now sets) marks) × (base ≤ records) × (records ≤ roomOf (now trail)) ⌝ }
-    ensures { λ r. ⌜ undoMany (records - base) n (board (now (route .entry)) stops (now (sets .entry)) marks) records (now (trail .entry)) ≡ (r .fits, board (now (route .exit)) (r .stops) (now (sets .exit)) (r .marks)) ⌝ }
+    requires { ⌜ Sound n (board (now route) (f .stops) (now sets) (f .marks)) × (base ≤ f .records) × (f .records ≤ roomOf (now trail)) ⌝ }
+    ensures { λ r. ⌜ undoMany (f .records - base) n (board (now (route .entry)) (f .stops) (now (sets .entry)) (f .marks)) (f .records) (now (trail .entry))
+        ≡ undid r (now (route .exit)) (now (sets .exit)) ⌝ }
 {
-    let mut s = stops;
-    let mut m = marks;
-    let mut left = records;
+    let mut s = f.stops;
+    let mut m = f.marks;
+    let mut left = f.records;
     while base < left {
         left -= 1;
         let o = undo_one(route, sets, s, m, n, trail[2 * left], trail[2 * left + 1]);

@@ -6,11 +6,11 @@ use Rattle.trail.proofs.records.note_one.Tie as tie
 returns : tie.Need-returns
 returns c = note-same _ _ _ _ (c .if1 .taken)
 
-add-push : tie.Need-add-push
-add-push c = search needs
+first-word-requires : tie.Need-first-word-requires
+first-word-requires c κs = search needs
 
 push-requires : tie.Need-push-requires
-push-requires c κs = c .before .before .before .pre .2 (c .before .if1 .left)
+push-requires c κs = let e = c .before .before in e .before .before .pre .2 (e .if1 .left)
 
 add-result : tie.Need-add-result
 add-result c = search needs
@@ -19,8 +19,10 @@ same-length : tie.Need-same-length
 same-length c = search needs
 
 returns-2 : tie.Need-returns-2
-returns-2 c = rw (c .before .before .push .ensures) (note-differ _ _ _ _ (c .before .before .before .before .if1 .left))
+returns-2 c =
+    let p = c .before .before in
+    rw (p .push .ensures, p .before .first-word .ensures) (note-differ _ _ _ _ (p .before .before .before .if1 .left))
 
 pub note-one-spec : {M : Type 1} → statement M
 note-one-spec =
-    tie.close (tie.spec returns add-push push-requires add-result same-length returns-2)
+    tie.close (tie.spec returns first-word-requires push-requires add-result same-length returns-2)

@@ -4,25 +4,27 @@ use Prim.Native.Nat.{ℕ, _<_}
 use borrow.Author.Tests.{not-true, not-false, lt-ltb, le-ltb, eq-eqb, ne-eqb}
 use Rattle.laws.specs.Choice.{orElse}
 use Rattle.bits.specs.Places.{has}
-use Rattle.board.specs.Board.{board, onRoute, setOf, inner}
-use Rattle.board.specs.FormLaws.{inner-in, on-word}
+use Rattle.rules.specs.Day.{isInner}
+use Rattle.rules.proofs.Inner.{is-inner}
+use Rattle.board.specs.Board.{board, onRoute, setOf}
+use Rattle.board.specs.FormLaws.{on-word}
 use Rattle.trail.specs.Refusals.{excludeRefusal}
 use borrow.Author.Needs.{needs}
 use native.Mathlib.Omega.{arith}
 use Rattle.trail.proofs.refusals.exclude_refusal.Statement.{statement}
 use Rattle.trail.proofs.refusals.exclude_refusal.Tie as tie
 
-node : (c : tie.Else1) → inner (c .before .before .args .n) (c .before .before .args .x) ≡ true
+node : (c : tie.Else1) → isInner (c .before .before .args .n) (c .before .before .args .x) ≡ true
 node c = sym (c .before .inner .ensures) ∙ not-false _ (c .if1 .left)
 
 low : (c : tie.Else1) → c .before .before .args .x < 64
-low c = omega (arith, inner-in _ _ (node c) .1, c .before .before .pre)
+low c = omega (arith, is-inner _ _ (node c) .1, c .before .before .pre)
 
-on-x : (c : tie.After-has) (m : ℕ) → let a = c .before .before .before .before .args in onRoute (board (a .route .now) (a .stops) (a .sets .now) m) (a .x) ≡ c .has .result
-on-x c m =
+on-x : (c : tie.After-has) → let a = c .before .before .before .before .args in onRoute (board (a .route .now) (a .f .stops) (a .sets .now) (a .f .marks)) (a .x) ≡ c .has .result
+on-x c =
     let d = c .before .before .before .before in
     let a = d .args in
-    sym (on-word (board (a .route .now) (a .stops) (a .sets .now) m) (a .x) (low (c .before .before)) (omega (arith, d .pre)))
+    sym (on-word (board (a .route .now) (a .f .stops) (a .sets .now) (a .f .marks)) (a .x) (low (c .before .before)) (omega (arith, d .pre)))
     ∙ ap (λ (w : ℕ). has w (a .x)) (sym (c .before .word .ensures)) ∙ sym (c .has .ensures)
 
 inner-requires : tie.Need-inner-requires
@@ -30,7 +32,7 @@ inner-requires c κs = search needs
 
 returns : tie.Need-returns
 unfolding excludeRefusal orElse
-returns c = λ m. rw (sym (c .before .inner .ensures) ∙ not-true _ (c .if1 .taken))
+returns c = rw (sym (c .before .inner .ensures) ∙ not-true _ (c .if1 .taken))
 
 word-requires : tie.Need-word-requires
 word-requires c κs = search needs
@@ -40,11 +42,11 @@ has-requires c κs = search needs
 
 returns-2 : tie.Need-returns-2
 unfolding excludeRefusal orElse
-returns-2 c = λ m. rw (node (c .before .before .before), on-x (c .before) m ∙ c .if2 .taken)
+returns-2 c = rw (node (c .before .before .before), on-x (c .before) ∙ c .if2 .taken)
 
 returns-3 : tie.Need-returns-3
 unfolding excludeRefusal orElse
-returns-3 c = let h = c .before .before in λ m. rw (node (h .before .before), on-x h m ∙ c .before .if2 .left, c .if3 .taken)
+returns-3 c = let h = c .before .before in rw (node (h .before .before), on-x h ∙ c .before .if2 .left, c .if3 .taken)
 
 mul-if4 : tie.Need-mul-if4
 mul-if4 c = omega (arith, low (c .before .before .before .before))
@@ -57,21 +59,21 @@ unfolding excludeRefusal orElse setOf
 returns-4 c =
     let e = c .before .before in
     let h = e .before .before in
-    λ m. rw (node (h .before .before), on-x h m ∙ e .before .if2 .left, e .if3 .left, eq-eqb _ 0 (c .if4 .taken))
+    rw (node (h .before .before), on-x h ∙ e .before .if2 .left, e .if3 .left, eq-eqb _ 0 (c .if4 .taken))
 
 returns-5 : tie.Need-returns-5
 unfolding excludeRefusal orElse setOf
 returns-5 c =
-    let e = c .before .before .before in
+    let e = c .before .before .before .before in
     let h = e .before .before in
-    λ m. rw (node (h .before .before), on-x h m ∙ e .before .if2 .left, e .if3 .left, ne-eqb _ 0 (c .before .if4 .left), lt-ltb _ _ (c .if5 .taken))
+    rw (node (h .before .before), on-x h ∙ e .before .if2 .left, e .if3 .left, ne-eqb _ 0 (c .before .before .if4 .left), lt-ltb _ _ (c .if5 .taken))
 
 returns-6 : tie.Need-returns-6
 unfolding excludeRefusal orElse setOf
 returns-6 c =
-    let e = c .before .before .before in
+    let e = c .before .before .before .before in
     let h = e .before .before in
-    λ m. rw (node (h .before .before), on-x h m ∙ e .before .if2 .left, e .if3 .left, ne-eqb _ 0 (c .before .if4 .left), le-ltb _ _ (c .if5 .left))
+    rw (node (h .before .before), on-x h ∙ e .before .if2 .left, e .if3 .left, ne-eqb _ 0 (c .before .before .if4 .left), le-ltb _ _ (c .if5 .left))
 
 pub exclude-refusal-spec : {M : Type 1} → statement M
 exclude-refusal-spec =

@@ -4,8 +4,10 @@ use Prim.Native.Nat.{ℕ, _<_}
 use borrow.Author.Tests.{not-true, not-false, lt-ltb, le-ltb}
 use Rattle.laws.specs.Choice.{orElse}
 use Rattle.bits.specs.Places.{has}
-use Rattle.board.specs.Board.{board, onRoute, setOf, openAt, inner, legNode}
-use Rattle.board.specs.FormLaws.{inner-in, leg-in, on-word}
+use Rattle.rules.specs.Day.{isInner}
+use Rattle.rules.proofs.Inner.{is-inner}
+use Rattle.board.specs.Board.{board, onRoute, setOf, openAt, legNode}
+use Rattle.board.specs.FormLaws.{leg-in, on-word}
 use Rattle.trail.specs.Refusals.{placeRefusal}
 use borrow.Author.Needs.{needs}
 use native.Mathlib.Omega.{arith}
@@ -13,27 +15,27 @@ use Rattle.trail.proofs.refusals.place_refusal.Statement.{statement}
 use Rattle.trail.proofs.refusals.place_refusal.Tie as tie
 
 -- the tests that were passed
-node : (c : tie.Else1) → inner (c .before .before .args .n) (c .before .before .args .x) ≡ true
+node : (c : tie.Else1) → isInner (c .before .before .args .n) (c .before .before .args .x) ≡ true
 node c = sym (c .before .inner .ensures) ∙ not-false _ (c .if1 .left)
 
 leg : (c : tie.Else2) → legNode (c .before .before .before .before .args .n) (c .before .before .before .before .args .p) ≡ true
 leg c = sym (c .before .leg-node .ensures) ∙ not-false _ (c .if2 .left)
 
 low : (c : tie.Else1) → c .before .before .args .x < 64
-low c = omega (arith, inner-in _ _ (node c) .1, c .before .before .pre)
+low c = omega (arith, is-inner _ _ (node c) .1, c .before .before .pre)
 
-on-x : (c : tie.After-has) (m : ℕ) → let a = c .before .before .before .before .before .before .args in onRoute (board (a .route .now) (a .stops) (a .sets .now) m) (a .x) ≡ c .has .result
-on-x c m =
+on-x : (c : tie.After-has) → let a = c .before .before .before .before .before .before .args in onRoute (board (a .route .now) (a .f .stops) (a .sets .now) (a .f .marks)) (a .x) ≡ c .has .result
+on-x c =
     let d = c .before .before .before .before .before .before in
     let a = d .args in
-    sym (on-word (board (a .route .now) (a .stops) (a .sets .now) m) (a .x) (low (c .before .before .before .before)) (omega (arith, d .pre)))
+    sym (on-word (board (a .route .now) (a .f .stops) (a .sets .now) (a .f .marks)) (a .x) (low (c .before .before .before .before)) (omega (arith, d .pre)))
     ∙ ap (λ (w : ℕ). has w (a .x)) (sym (c .before .word .ensures)) ∙ sym (c .has .ensures)
 
-on-p : (c : tie.After-has2) (m : ℕ) → let a = c .before .before .before .before .before .before .before .before .args in onRoute (board (a .route .now) (a .stops) (a .sets .now) m) (a .p) ≡ c .has2 .result
-on-p c m =
+on-p : (c : tie.After-has2) → let a = c .before .before .before .before .before .before .before .before .args in onRoute (board (a .route .now) (a .f .stops) (a .sets .now) (a .f .marks)) (a .p) ≡ c .has2 .result
+on-p c =
     let d = c .before .before .before .before .before .before .before .before in
     let a = d .args in
-    sym (on-word (board (a .route .now) (a .stops) (a .sets .now) m) (a .p) (omega (arith, leg-in _ _ (leg (c .before .before .before .before)), d .pre)) (omega (arith, d .pre)))
+    sym (on-word (board (a .route .now) (a .f .stops) (a .sets .now) (a .f .marks)) (a .p) (omega (arith, leg-in _ _ (leg (c .before .before .before .before)), d .pre)) (omega (arith, d .pre)))
     ∙ ap (λ (w : ℕ). has w (a .p)) (sym (c .before .before .before .word .ensures)) ∙ sym (c .has2 .ensures)
 
 inner-requires : tie.Need-inner-requires
@@ -41,14 +43,14 @@ inner-requires c κs = search needs
 
 returns : tie.Need-returns
 unfolding placeRefusal orElse
-returns c = λ m. rw (sym (c .before .inner .ensures) ∙ not-true _ (c .if1 .taken))
+returns c = rw (sym (c .before .inner .ensures) ∙ not-true _ (c .if1 .taken))
 
 leg-node-requires : tie.Need-leg-node-requires
 leg-node-requires c κs = search needs
 
 returns-2 : tie.Need-returns-2
 unfolding placeRefusal orElse
-returns-2 c = λ m. rw (node (c .before .before), sym (c .before .leg-node .ensures) ∙ not-true _ (c .if2 .taken))
+returns-2 c = rw (node (c .before .before), sym (c .before .leg-node .ensures) ∙ not-true _ (c .if2 .taken))
 
 word-requires : tie.Need-word-requires
 word-requires c κs = search needs
@@ -60,7 +62,7 @@ returns-3 : tie.Need-returns-3
 unfolding placeRefusal orElse
 returns-3 c =
     let l = c .before .before .before in
-    λ m. rw (node (l .before .before), leg l, on-x (c .before) m ∙ c .if3 .taken)
+    rw (node (l .before .before), leg l, on-x (c .before) ∙ c .if3 .taken)
 
 has-requires-2 : tie.Need-has-requires-2
 has-requires-2 c κs = search needs
@@ -70,7 +72,7 @@ unfolding placeRefusal orElse
 returns-4 c =
     let h = c .before .before .before in
     let l = h .before .before in
-    λ m. rw (node (l .before .before), leg l, on-x h m ∙ c .before .before .if3 .left, on-p (c .before) m ∙ not-true _ (c .if4 .taken))
+    rw (node (l .before .before), leg l, on-x h ∙ c .before .before .if3 .left, on-p (c .before) ∙ not-true _ (c .if4 .taken))
 
 mul-has : tie.Need-mul-has
 mul-has c = omega (arith, low (c .before .before .before .before .before .before .before))
@@ -87,23 +89,23 @@ returns-5 c =
     let k = c .before .before .before .before in
     let h = k .before .before in
     let l = h .before .before in
-    λ m. rw (node (l .before .before), leg l, on-x h m ∙ k .before .if3 .left, on-p k m ∙ not-false _ (c .before .before .before .if4 .left), sym (c .before .has3 .ensures) ∙ not-true _ (c .if5 .taken))
+    rw (node (l .before .before), leg l, on-x h ∙ k .before .if3 .left, on-p k ∙ not-false _ (c .before .before .before .if4 .left), sym (c .before .has3 .ensures) ∙ not-true _ (c .if5 .taken))
 
 returns-6 : tie.Need-returns-6
 unfolding placeRefusal orElse openAt setOf
 returns-6 c =
-    let k = c .before .before .before .before .before in
+    let k = c .before .before .before .before .before .before in
     let h = k .before .before in
     let l = h .before .before in
-    λ m. rw (node (l .before .before), leg l, on-x h m ∙ k .before .if3 .left, on-p k m ∙ not-false _ (c .before .before .before .before .if4 .left), sym (c .before .before .has3 .ensures) ∙ not-false _ (c .before .if5 .left), lt-ltb _ _ (c .if6 .taken))
+    rw (node (l .before .before), leg l, on-x h ∙ k .before .if3 .left, on-p k ∙ not-false _ (c .before .before .before .before .before .if4 .left), sym (c .before .before .before .has3 .ensures) ∙ not-false _ (c .before .before .if5 .left), lt-ltb _ _ (c .if6 .taken))
 
 returns-7 : tie.Need-returns-7
 unfolding placeRefusal orElse openAt setOf
 returns-7 c =
-    let k = c .before .before .before .before .before in
+    let k = c .before .before .before .before .before .before in
     let h = k .before .before in
     let l = h .before .before in
-    λ m. rw (node (l .before .before), leg l, on-x h m ∙ k .before .if3 .left, on-p k m ∙ not-false _ (c .before .before .before .before .if4 .left), sym (c .before .before .has3 .ensures) ∙ not-false _ (c .before .if5 .left), le-ltb _ _ (c .if6 .left))
+    rw (node (l .before .before), leg l, on-x h ∙ k .before .if3 .left, on-p k ∙ not-false _ (c .before .before .before .before .before .if4 .left), sym (c .before .before .before .has3 .ensures) ∙ not-false _ (c .before .before .if5 .left), le-ltb _ _ (c .if6 .left))
 
 pub place-refusal-spec : {M : Type 1} → statement M
 place-refusal-spec =

@@ -7,20 +7,22 @@ use Prim.Native.Nat.{ℕ}
 use borrow.Author.Tests.{not-true, not-false, lt-ltb, le-ltb}
 use Rattle.laws.specs.Choice.{orElse}
 use Rattle.bits.specs.Places.{has}
-use Rattle.board.specs.Board.{board, onRoute, inner}
-use Rattle.board.specs.FormLaws.{inner-in, on-word}
+use Rattle.rules.specs.Day.{isInner}
+use Rattle.rules.proofs.Inner.{is-inner}
+use Rattle.board.specs.Board.{board, onRoute}
+use Rattle.board.specs.FormLaws.{on-word}
 use Rattle.trail.specs.Refusals.{requireRefusal}
 use Rattle.trail.proofs.refusals.require_refusal.Statement.{statement}
 use Rattle.trail.proofs.refusals.require_refusal.Tie as tie
 
-node : (c : tie.Else1) → inner (c .before .before .args .n) (c .before .before .args .x) ≡ true
+node : (c : tie.Else1) → isInner (c .before .before .args .n) (c .before .before .args .x) ≡ true
 node c = sym (c .before .inner .ensures) ∙ not-false _ (c .if1 .left)
 
-on-x : (c : tie.After-has) (l : List ℕ) → let a = c .before .before .before .before .args in onRoute (board (a .route .now) (a .stops) l (a .marks)) (a .x) ≡ c .has .result
+on-x : (c : tie.After-has) (l : List ℕ) → let a = c .before .before .before .before .args in onRoute (board (a .route .now) (a .f .stops) l (a .f .marks)) (a .x) ≡ c .has .result
 on-x c l =
     let d = c .before .before .before .before in
     let a = d .args in
-    sym (on-word (board (a .route .now) (a .stops) l (a .marks)) (a .x) (omega (arith, inner-in _ _ (node (c .before .before)) .1, d .pre)) (omega (arith, d .pre)))
+    sym (on-word (board (a .route .now) (a .f .stops) l (a .f .marks)) (a .x) (omega (arith, is-inner _ _ (node (c .before .before)) .1, d .pre)) (omega (arith, d .pre)))
     ∙ ap (λ (w : ℕ). has w (a .x)) (sym (c .before .word .ensures)) ∙ sym (c .has .ensures)
 
 inner-requires : tie.Need-inner-requires
@@ -49,11 +51,11 @@ returns-3 c = let h = c .before .before .before in λ l. rw (node (h .before .be
 
 returns-4 : tie.Need-returns-4
 unfolding requireRefusal orElse
-returns-4 c = let h = c .before .before .before .before in λ l. rw (node (h .before .before), on-x h l ∙ c .before .before .before .if2 .left, sym (c .before .before .has2 .ensures) ∙ c .before .if3 .left, lt-ltb _ _ (c .if4 .taken))
+returns-4 c = let h = c .before .before .before .before .before in λ l. rw (node (h .before .before), on-x h l ∙ c .before .before .before .before .if2 .left, sym (c .before .before .before .has2 .ensures) ∙ c .before .before .if3 .left, lt-ltb _ _ (c .if4 .taken))
 
 returns-5 : tie.Need-returns-5
 unfolding requireRefusal orElse
-returns-5 c = let h = c .before .before .before .before in λ l. rw (node (h .before .before), on-x h l ∙ c .before .before .before .if2 .left, sym (c .before .before .has2 .ensures) ∙ c .before .if3 .left, le-ltb _ _ (c .if4 .left))
+returns-5 c = let h = c .before .before .before .before .before in λ l. rw (node (h .before .before), on-x h l ∙ c .before .before .before .before .if2 .left, sym (c .before .before .before .has2 .ensures) ∙ c .before .before .if3 .left, le-ltb _ _ (c .if4 .left))
 
 pub require-refusal-spec : {M : Type 1} → statement M
 require-refusal-spec =

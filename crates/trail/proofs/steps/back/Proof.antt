@@ -15,7 +15,7 @@ same-requires : tie.Need-same-requires
 same-requires c κs = search needs
 
 returns : tie.Need-returns
-returns c = rw (c .same .ensures .0, c .same .ensures .1) (back-none _ _ _ (c .before .if1 .taken))
+returns c = rw (c .same .ensures) (back-none _ _ _ (c .before .if1 .taken))
 
 mul-base : tie.Need-mul-base
 mul-base c = omega (arith, form c .levels .most)
@@ -38,7 +38,7 @@ unfolding undoLevel baseOf
 returns-2 c =
     let u = c .before .before .before in
     let e = u .before .before .before .before .before .before in
-    rw (c .same2 .ensures .0, c .same2 .ensures .1) (back-misfit _ _ _ _ _ (e .if1 .left) (u .undo-many .ensures) (not-true _ (c .before .if2 .taken)))
+    rw (c .same2 .ensures) (back-misfit _ _ _ _ _ (e .if1 .left) (u .undo-many .ensures) (not-true _ (c .before .if2 .taken)))
 
 mul-levels : tie.Need-mul-levels
 mul-levels c = omega (arith, form (c .before .before .before .before .before .before .before .before) .levels .most)

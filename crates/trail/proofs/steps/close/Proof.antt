@@ -1,8 +1,8 @@
 use mathlib.Core.Path.{_≡_, sym, _∙_}
 use Prim.Native.Nat.{_<_}
 use native.Mathlib.Omega.{arith}
+use Rattle.rules.proofs.Inner.{is-inner}
 use Rattle.board.specs.Board.{board, setOf}
-use Rattle.board.specs.FormLaws.{inner-in}
 use Rattle.trail.specs.Trail.{roomOf}
 use Rattle.trail.specs.Refusals.{placeRefusal}
 use Rattle.trail.specs.Steps.{closeStep}
@@ -15,14 +15,14 @@ use Rattle.trail.proofs.steps.close.Tie as tie
 code : (c : tie.Else1) → let a = c .before .before .before .before .args in
     placeRefusal (a .n) (board (a .route .now) (a .f .stops) (a .sets .now) (a .f .marks)) (a .f .records) (roomOf (a .trail .now)) (a .p) (a .x) ≡ 0
 unfolding roomOf
-code c = sym (c .before .place-refusal .ensures _) ∙ c .if1 .left
+code c = sym (c .before .place-refusal .ensures) ∙ c .if1 .left
 
 ok : (c : tie.Else1) → let a = c .before .before .before .before .args in
     Placeable (a .n) (board (a .route .now) (a .f .stops) (a .sets .now) (a .f .marks)) (a .f .records) (roomOf (a .trail .now)) (a .p) (a .x)
 ok c = placeable _ _ _ _ _ _ (code c)
 
 low : (c : tie.Else1) → c .before .before .before .before .args .x < 64
-low c = omega (arith, inner-in _ _ (ok c .split .node) .1, c .before .before .before .before .pre .small)
+low c = omega (arith, is-inner _ _ (ok c .split .node) .1, c .before .before .before .before .pre .small)
 
 place-refusal-requires : tie.Need-place-refusal-requires
 place-refusal-requires c κs = readable _ _ (c .before .before .pre)
@@ -34,8 +34,8 @@ returns : tie.Need-returns
 unfolding closeStep roomOf
 returns c =
     let d = c .before .before in
-    λ levels. rw (c .same .ensures .0, c .same .ensures .1, d .place-refusal .ensures (d .before .before .before .args .f .marks))
-    (step-no _ _ _ _ (λ e. c .before .if1 .taken (d .place-refusal .ensures _ ∙ e)))
+    λ levels. rw (c .same .ensures, d .place-refusal .ensures)
+    (step-no _ _ _ _ (λ e. c .before .if1 .taken (d .place-refusal .ensures ∙ e)))
 
 mul-w : tie.Need-mul-w
 mul-w c = omega (arith, low c)

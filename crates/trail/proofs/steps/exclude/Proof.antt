@@ -2,8 +2,8 @@ use mathlib.Core.Path.{_≡_, sym, _∙_}
 use Prim.Native.Nat.{_<_}
 use native.Mathlib.Omega.{arith}
 use borrow.Author.Tests.{eq-eqb, ne-eqb}
+use Rattle.rules.proofs.Inner.{is-inner}
 use Rattle.board.specs.Board.{board, setOf}
-use Rattle.board.specs.FormLaws.{inner-in}
 use Rattle.trail.specs.Trail.{roomOf}
 use Rattle.trail.specs.Refusals.{excludeRefusal}
 use Rattle.trail.specs.Steps.{excludeStep}
@@ -16,10 +16,10 @@ use Rattle.trail.proofs.steps.exclude.Tie as tie
 code : (c : tie.Else1) → let a = c .before .before .before .before .args in
     excludeRefusal (a .n) (board (a .route .now) (a .f .stops) (a .sets .now) (a .f .marks)) (a .f .records) (roomOf (a .trail .now)) (a .owed) (a .x) ≡ 0
 unfolding roomOf
-code c = sym (c .before .exclude-refusal .ensures _) ∙ c .if1 .left
+code c = sym (c .before .exclude-refusal .ensures) ∙ c .if1 .left
 
 low : (c : tie.Else1) → c .before .before .before .before .args .x < 64
-low c = omega (arith, inner-in _ _ (excludable _ _ _ _ _ _ (code c) .0 .node) .1, c .before .before .before .before .pre .small)
+low c = omega (arith, is-inner _ _ (excludable _ _ _ _ _ _ (code c) .0 .node) .1, c .before .before .before .before .pre .small)
 
 exclude-refusal-requires : tie.Need-exclude-refusal-requires
 exclude-refusal-requires c κs = readable _ _ (c .before .before .pre)
@@ -31,8 +31,8 @@ returns : tie.Need-returns
 unfolding excludeStep roomOf
 returns c =
     let d = c .before .before in
-    λ levels. rw (c .same .ensures .0, c .same .ensures .1, d .exclude-refusal .ensures (d .before .before .before .args .f .marks))
-    (step-no _ _ _ _ (λ e. c .before .if1 .taken (d .exclude-refusal .ensures _ ∙ e)))
+    λ levels. rw (c .same .ensures, d .exclude-refusal .ensures)
+    (step-no _ _ _ _ (λ e. c .before .if1 .taken (d .exclude-refusal .ensures ∙ e)))
 
 mul-if2 : tie.Need-mul-if2
 mul-if2 c = omega (arith, low c)
@@ -47,7 +47,7 @@ returns-2 : tie.Need-returns-2
 unfolding excludeStep setOf
 returns-2 c =
     let t = c .before in
-    λ levels. rw (c .same2 .ensures .0, c .same2 .ensures .1, eq-eqb _ 0 (t .if2 .taken)) (step-yes _ _ _ _ (code (t .before .before)))
+    λ levels. rw (c .same2 .ensures, eq-eqb _ 0 (t .if2 .taken)) (step-yes _ _ _ _ (code (t .before .before)))
 
 shrink-requires : tie.Need-shrink-requires
 unfolding setOf

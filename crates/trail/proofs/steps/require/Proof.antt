@@ -2,9 +2,9 @@ use mathlib.Core.Path.{_≡_, sym, _∙_}
 use mathlib.Core.List.{List, []}
 use Prim.Native.Nat.{ℕ, _<_}
 use native.Mathlib.Omega.{arith}
+use Rattle.rules.proofs.Inner.{is-inner}
 use Rattle.board.specs.Board.{board}
 use Rattle.board.specs.Change.{marked}
-use Rattle.board.specs.FormLaws.{inner-in}
 use Rattle.trail.specs.Trail.{roomOf}
 use Rattle.trail.specs.Refusals.{requireRefusal}
 use Rattle.trail.specs.Steps.{requireStep, recorded}
@@ -19,7 +19,7 @@ unfolding roomOf
 code c l = sym (c .before .require-refusal .ensures l) ∙ c .if1 .left
 
 low : (c : tie.Else1) → c .before .before .before .args .x < 64
-low c = omega (arith, inner-in _ _ (requirable _ _ _ _ _ (code c []) .0 .node) .1, c .before .before .before .pre .0)
+low c = omega (arith, is-inner _ _ (requirable _ _ _ _ _ (code c []) .0 .node) .1, c .before .before .before .pre .0)
 
 room : (c : tie.Else2) → let a = c .before .before .before .before .before .args in a .f .records < roomOf (a .trail .now)
 room c = requirable _ _ _ _ _ (code (c .before .before) []) .1 (sym (c .before .has .ensures) ∙ c .if2 .left)
@@ -34,7 +34,7 @@ returns : tie.Need-returns
 unfolding requireStep roomOf
 returns c =
     let d = c .before .before in
-    λ sets levels. rw (c .same .ensures .0, c .same .ensures .1, d .require-refusal .ensures sets)
+    λ sets levels. rw (c .same .ensures, d .require-refusal .ensures sets)
     (step-no _ _ _ _ (λ e. c .before .if1 .taken (d .require-refusal .ensures sets ∙ e)))
 
 has-requires : tie.Need-has-requires
@@ -47,14 +47,14 @@ returns-2 : tie.Need-returns-2
 unfolding requireStep
 returns-2 c =
     let t = c .before in
-    λ sets levels. rw (c .same2 .ensures .0, c .same2 .ensures .1, sym (t .before .has .ensures) ∙ t .if2 .taken)
+    λ sets levels. rw (c .same2 .ensures, sym (t .before .has .ensures) ∙ t .if2 .taken)
     (step-yes _ _ _ _ (code (t .before .before) sets))
 
-add-push : tie.Need-add-push
-add-push c = omega (arith, low (c .before .before .before))
+first-word-requires : tie.Need-first-word-requires
+first-word-requires c κs = (omega arith, low (c .before .before .before))
 
 push-requires : tie.Need-push-requires
-push-requires c κs = room (c .before)
+push-requires c κs = room (c .before .before)
 
 with-requires : tie.Need-with-requires
 with-requires c κs = search needs
@@ -62,7 +62,7 @@ with-requires c κs = search needs
 add-t10 : tie.Need-add-t10
 unfolding roomOf
 add-t10 c =
-    let e = c .before .before .before .before .before in
+    let e = c .before .before .before .before .before .before in
     omega (arith, room e, e .before .before .before .before .before .good)
 
 same-length : tie.Need-same-length
@@ -72,8 +72,8 @@ returns-3 : tie.Need-returns-3
 unfolding requireStep recorded marked
 returns-3 c =
     let p = c .before .before .before in
-    let e = p .before .before in
-    λ sets levels. rw (c .with .ensures, p .push .ensures, sym (e .before .has .ensures) ∙ e .if2 .left) (step-yes _ _ _ _ (code (e .before .before) sets))
+    let e = p .before .before .before in
+    λ sets levels. rw (c .with .ensures, p .push .ensures, p .before .first-word .ensures, sym (e .before .has .ensures) ∙ e .if2 .left) (step-yes _ _ _ _ (code (e .before .before) sets))
 
 pub require-spec : {M : Type 1} → statement M
 require-spec =
@@ -85,7 +85,7 @@ require-spec =
     has-requires
     same-requires-2
     returns-2
-    add-push
+    first-word-requires
     push-requires
     with-requires
     add-t10

@@ -4,59 +4,78 @@ use Prim.Native.Nat.{ℕ, _+_, _/_}
 use lib.ListN.{length}
 use native.Mathlib.Omega.{arith}
 use borrow.Author.Tests.{lt-leb, le-leb, eqb-false}
+use Rattle.rules.specs.Refusal.{ROOM}
 use Rattle.board.specs.Board.{stateOf}
 use Rattle.trail.specs.Trail.{roomOf, shrunk, Noted}
 use Rattle.trail.specs.TrailLaws.{note-all}
-use Rattle.trail.specs.Steps.{settleStep, answered}
-use Rattle.trail.specs.StepLaws.{step-no, step-yes}
+use Rattle.trail.specs.Steps.{settleStep, acted}
+use Rattle.trail.specs.StepLaws.{step-no, step-yes, settle-still}
 use borrow.Author.Needs.{needs}
 use Rattle.trail.proofs.steps.settle.Statement.{statement}
 use Rattle.trail.proofs.steps.settle.Tie as tie
-
-needed-requires : tie.Need-needed-requires
-needed-requires c κs = let p = c .before .before .pre in (p .2, p .3)
-
-add-if1 : tie.Need-add-if1
-unfolding roomOf
-add-if1 c = let d = c .before .before .before in omega (arith, d .pre .4, c .needed .ensures .1, d .good)
 
 same-requires : tie.Need-same-requires
 same-requires c κs = search needs
 
 returns : tie.Need-returns
-unfolding settleStep roomOf
 returns c =
+    let e = c .before in
+    let d = e .before .before in
+    λ route levels. rw (c .same .ensures, e .if1 .taken, d .pre .5 (e .if1 .taken)) (settle-still _ _ (d .pre .4))
+
+needed-requires : tie.Need-needed-requires
+needed-requires c κs = let p = c .before .before .before .pre in (p .2, p .3)
+
+add-if2 : tie.Need-add-if2
+unfolding roomOf
+add-if2 c = let d = c .before .before .before .before in omega (arith, d .pre .4, c .needed .ensures .1, d .good)
+
+same-requires-2 : tie.Need-same-requires-2
+same-requires-2 c κs = search needs
+
+returns-2 : tie.Need-returns-2
+unfolding settleStep roomOf
+returns-2 c =
     let k = c .before .before in
-    let a = k .before .before .before .args in
+    let a = k .before .before .before .before .args in
     let e = lt-leb (a .f .records + shrunk (a .sets .now) (a .new .now) 64) (length (a .trail .now) / 2)
-    (omega (arith, k .needed .ensures .0, c .before .if1 .taken)) in
-    λ route levels. rw (c .same .ensures .0, c .same .ensures .1, e) (step-no 17 _ _ _ (eqb-false 17 0 refl))
+    (omega (arith, k .needed .ensures .0, c .before .if2 .taken)) in
+    λ route levels. rw (c .same2 .ensures, e) (step-no ROOM _ _ _ (eqb-false ROOM 0 refl))
 
 note-requires : tie.Need-note-requires
 unfolding roomOf
 note-requires c κs =
     let n = c .before .before .before in
-    let p = n .before .before .before .pre in
-    (p .2, p .3, omega (arith, n .needed .ensures .0, c .before .before .if1 .left))
+    let p = n .before .before .before .before .pre in
+    (p .2, p .3, omega (arith, n .needed .ensures .0, c .before .before .if2 .left))
 
 same-length : tie.Need-same-length
 same-length c = search needs
 
-returns-2 : tie.Need-returns-2
+returns-3 : tie.Need-returns-3
 unfolding settleStep roomOf
-returns-2 c =
+returns-3 c =
     let k = c .before .before .before in
     let e = k .before .before .before in
-    let a = e .before .before .before .before .args in
+    let a = e .before .before .before .before .before .args in
     let n = k .note .ensures in
     let h = le-leb (a .f .records + shrunk (a .sets .now) (a .new .now) 64) (length (a .trail .now) / 2)
-    (omega (arith, e .before .needed .ensures .0, e .if1 .left)) in
+    (omega (arith, e .before .needed .ensures .0, e .if2 .left)) in
     λ route levels. rw h
     (step-yes 0 _ _ _ refl
-    ∙ ap₂ (λ (i : ℕ) (t : List ℕ). answered 0 (stateOf route (a .f .stops) (a .new .now) (a .f .marks) levels (a .f .depth) i) t)
+    ∙ ap₂ (λ (i : ℕ) (t : List ℕ). acted 0 (a .rounds) (stateOf route (a .f .stops) (a .new .now) (a .f .marks) levels (a .f .depth) i) t)
     (sym (note-all (a .sets .now) (a .new .now) 64 (a .f .records) (a .trail .now) .0) ∙ ap (λ (b : Noted). b .0) n) (ap (λ (b : Noted). b .1) n))
 
 pub settle-spec : {M : Type 1} → statement M
 settle-spec =
     tie.close
-    (tie.spec needed-requires add-if1 same-requires returns note-requires same-length returns-2)
+    (tie.spec
+    same-requires
+    returns
+    needed-requires
+    add-if2
+    same-requires-2
+    returns-2
+    note-requires
+    same-length
+    returns-3)

@@ -8,8 +8,8 @@ use borrow.Author.Needs.{needs}
 use Rattle.trail.proofs.steps.shrink.Statement.{statement}
 use Rattle.trail.proofs.steps.shrink.Tie as tie
 
-add-push : tie.Need-add-push
-add-push c = search needs
+first-word-requires : tie.Need-first-word-requires
+first-word-requires c κs = search needs
 
 mul-push : tie.Need-mul-push
 mul-push c = search needs
@@ -26,27 +26,27 @@ mul-sets c = search needs
 element-write-sets : tie.Need-element-write-sets
 element-write-sets c = search needs
 
-add-t12 : tie.Need-add-t12
+add-t11 : tie.Need-add-t11
 unfolding roomOf
-add-t12 c = let d = c .before .before .before .before .before .before in omega (arith, d .pre .1, d .good)
+add-t11 c = let d = c .before .before .before .before .before .before .before in omega (arith, d .pre .1, d .good)
 
 same-length : tie.Need-same-length
 same-length c = search needs
 
 returns : tie.Need-returns
 unfolding recorded putSet setOf
-returns c = λ route levels. rw (c .before .before .push .ensures) refl
+returns c = λ route levels. let p = c .before .before in rw (p .push .ensures, p .before .before .first-word .ensures) refl
 
 pub shrink-spec : {M : Type 1} → statement M
 shrink-spec =
     tie.close
     (tie.spec
-    add-push
+    first-word-requires
     mul-push
     element-copy-out-push
     push-requires
     mul-sets
     element-write-sets
-    add-t12
+    add-t11
     same-length
     returns)

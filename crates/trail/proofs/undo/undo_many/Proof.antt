@@ -11,10 +11,12 @@ use Rattle.trail.proofs.undo.undo_many.Statement.{statement}
 use Rattle.trail.proofs.undo.undo_many.Tie as tie
 
 abbrev Inv-loop : tie.InvT-loop
-Inv-loop route₀ sets₀ stops marks n records base trail s₀ m₀ left₀ route sets s m left = Sound n (board route s sets m) × (base ≤ left) × (left ≤ records) × (undoMany (left - base) n (board route s sets m) left trail ≡ undoMany (records - base) n (board route₀ stops sets₀ marks) records trail)
+Inv-loop route₀ sets₀ n base trail s₀ m₀ left₀ route sets s m left =
+    Sound n (board route s sets m) × (base ≤ left) × (left ≤ left₀)
+    × (undoMany (left - base) n (board route s sets m) left trail ≡ undoMany (left₀ - base) n (board route₀ s₀ sets₀ m₀) left₀ trail)
 
 abbrev μ-loop : tie.MeasureT-loop
-μ-loop route₀ sets₀ stops marks n records base trail s₀ m₀ left₀ route sets s m left = left
+μ-loop route₀ sets₀ n base trail s₀ m₀ left₀ route sets s m left = left
 
 loop-holds : tie.Need-loop-holds Inv-loop μ-loop
 loop-holds c = let h = c .before .pre in (h .0, h .1, omega arith, refl)

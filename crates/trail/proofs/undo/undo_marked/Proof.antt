@@ -1,4 +1,4 @@
-use mathlib.Core.Path.{_≡_, refl, _∙_}
+use mathlib.Core.Path.{_≡_, refl, sym, _∙_}
 use mathlib.Core.Bool.{_&&_}
 use lib.Dec.{leb, eqb}
 use borrow.Author.Tests.{not-true, not-false}
@@ -21,8 +21,11 @@ position-requires c κs = let r = readable _ _ (c .pre) in (r .1, r .2)
 has-requires : tie.Need-has-requires
 has-requires c κs = search needs
 
+misfit-requires : tie.Need-misfit-requires
+misfit-requires c κs = search needs
+
 returns : tie.Need-returns
-returns c = undone-no _ _ (fits-is (c .before) ∙ not-true _ (c .if1 .taken))
+returns c = let t = c .before in undone-no _ _ (fits-is (t .before) ∙ not-true _ (t .if1 .taken)) ∙ sym (c .misfit .ensures _ _)
 
 without-requires : tie.Need-without-requires
 without-requires c κs = search needs
@@ -33,4 +36,4 @@ returns-2 c = rw (c .without .ensures) (undone-yes _ _ (fits-is (c .before .befo
 
 pub undo-marked-spec : {M : Type 1} → statement M
 undo-marked-spec =
-    tie.close (tie.spec position-requires has-requires returns without-requires returns-2)
+    tie.close (tie.spec position-requires has-requires misfit-requires returns without-requires returns-2)

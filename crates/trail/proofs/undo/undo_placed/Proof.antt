@@ -1,23 +1,23 @@
 use borrow.Author.Needs.{needs}
 use native.Mathlib.Omega.{arith}
-use mathlib.Core.Path.{_≡_, refl, sym, _∙_}
+use mathlib.Core.Path.{_≡_, refl, ap, sym, _∙_}
 use mathlib.Core.Bool.{true}
 use Prim.Native.Nat.{_<_}
 use borrow.Author.Tests.{not-true, not-false}
-use Rattle.board.specs.Board.{board, routeOf, onRoute, legsOf, inner}
-use Rattle.board.specs.Change.{unplaced}
-use Rattle.board.specs.FormLaws.{inner-in, inner-inside}
-use Rattle.board.specs.Ends.{sets-end}
+use Rattle.rules.specs.Day.{isInner}
+use Rattle.rules.proofs.Inner.{is-inner}
+use Rattle.board.specs.Board.{Board, board, routeOf, onRoute, legsOf}
+use Rattle.board.specs.FormLaws.{inner-inside}
 use Rattle.trail.specs.Undo.{fitsPlaced, stopBefore}
 use Rattle.trail.specs.UndoLaws.{readable, undone-no, undone-yes, placed-out, placed-off, placed-on, placed-test}
 use Rattle.trail.proofs.undo.undo_placed.Statement.{statement}
 use Rattle.trail.proofs.undo.undo_placed.Tie as tie
 
-node : (c : tie.Else1) → inner (c .before .before .args .n) (c .before .before .args .x) ≡ true
+node : (c : tie.Else1) → isInner (c .before .before .args .n) (c .before .before .args .x) ≡ true
 node c = sym (c .before .inner .ensures) ∙ not-false _ (c .if1 .left)
 
 low : (c : tie.Else1) → c .before .before .args .x < 64
-low c = omega (arith, inner-in _ _ (node c) .1, c .before .before .pre .small)
+low c = omega (arith, is-inner _ _ (node c) .1, c .before .before .pre .small)
 
 on : (c : tie.Else2) → let a = c .before .before .before .before .before .args in onRoute (board (a .route .now) (a .stops) (a .sets .now) (a .marks)) (a .x) ≡ true
 unfolding routeOf
@@ -34,15 +34,26 @@ fits-is c =
 inner-requires : tie.Need-inner-requires
 inner-requires c κs = search needs
 
+misfit-requires : tie.Need-misfit-requires
+misfit-requires c κs = search needs
+
 returns : tie.Need-returns
-returns c = undone-no _ _ (placed-out _ _ _ _ (sym (c .before .inner .ensures) ∙ not-true _ (c .if1 .taken)))
+returns c =
+    let t = c .before in
+    undone-no _ _ (placed-out _ _ _ _ (sym (t .before .inner .ensures) ∙ not-true _ (t .if1 .taken))) ∙ sym (c .misfit .ensures _ _)
 
 position-requires : tie.Need-position-requires
 position-requires c κs = let r = readable _ _ (c .before .before .before .pre) in (r .1, r .2)
 
+misfit-requires-2 : tie.Need-misfit-requires-2
+misfit-requires-2 c κs = search needs
+
 returns-2 : tie.Need-returns-2
 unfolding routeOf
-returns-2 c = undone-no _ _ (placed-off _ _ _ _ (c .before .before .before .before .before .pre) (omega (arith, c .before .position .ensures, c .if2 .taken)))
+returns-2 c =
+    let t = c .before in
+    undone-no _ _ (placed-off _ _ _ _ (t .before .before .before .before .before .pre) (omega (arith, t .before .position .ensures, t .if2 .taken)))
+    ∙ sym (c .misfit2 .ensures _ _)
 
 sub-word : tie.Need-sub-word
 sub-word c = search needs
@@ -68,37 +79,36 @@ element-copy-out-before c = search needs
 left-legs-requires : tie.Need-left-legs-requires
 left-legs-requires c κs = search needs
 
+misfit-requires-3 : tie.Need-misfit-requires-3
+misfit-requires-3 c κs = search needs
+
 returns-3 : tie.Need-returns-3
-returns-3 c = undone-no _ _ (fits-is (c .before) ∙ not-true _ (c .if3 .taken))
+returns-3 c = let t = c .before in undone-no _ _ (fits-is (t .before) ∙ not-true _ (t .if3 .taken)) ∙ sym (c .misfit3 .ensures _ _)
 
-remove-requires : tie.Need-remove-requires
-remove-requires c κs = search needs
+unplace-requires : tie.Need-unplace-requires
+unplace-requires c κs =
+    let e = c .before .before .before .before .before .before .before in
+    let d = e .before .before .before .before .before in
+    (omega (arith, readable _ _ (d .pre) .1, e .if2 .left), low (e .before .before .before), (_, _, d .pre))
 
-strike-leg-requires : tie.Need-strike-leg-requires
-strike-leg-requires c κs = let s = c .before .before .before .before .before .before .before .before .before .before .before .before .before .pre in (s .wide .sets, s .small, sets-end _ _ s)
-
-mul-sets : tie.Need-mul-sets
-mul-sets c = omega (arith, low (c .before .before .before .before .before .before .before .before .before .before .before .before))
-
-element-write-sets : tie.Need-element-write-sets
-element-write-sets c = low (c .before .before .before .before .before .before .before .before .before .before .before .before)
-
-sub-t16 : tie.Need-sub-t16
-sub-t16 c = search needs
+sub-t19 : tie.Need-sub-t19
+sub-t19 c = search needs
 
 returns-4 : tie.Need-returns-4
-unfolding unplaced routeOf
 returns-4 c =
-    let d = c .before .before .before .before .before in
-    rw (c .strike-leg .ensures, c .before .before .remove .ensures, d .before .before .before .before .before .position .ensures) (undone-yes _ _ (fits-is d ∙ not-false _ (c .before .before .before .before .if3 .left)))
+    let l = c .before .before .before .before in
+    let e = l .before .before .before .before in
+    undone-yes _ _ (fits-is l ∙ not-false _ (c .before .before .before .if3 .left)) ∙ ap (λ (b : Board). (true, b)) (c .unplace .ensures _ _ (e .before .position .ensures))
 
 pub undo-placed-spec : {M : Type 1} → statement M
 undo-placed-spec =
     tie.close
     (tie.spec
     inner-requires
+    misfit-requires
     returns
     position-requires
+    misfit-requires-2
     returns-2
     sub-word
     word-requires
@@ -106,10 +116,8 @@ undo-placed-spec =
     mul-before
     element-copy-out-before
     left-legs-requires
+    misfit-requires-3
     returns-3
-    remove-requires
-    strike-leg-requires
-    mul-sets
-    element-write-sets
-    sub-t16
+    unplace-requires
+    sub-t19
     returns-4)

@@ -2,9 +2,10 @@ use mathlib.Core.Path.{_≡_, refl, sym, _∙_}
 use mathlib.Core.Bool.{true, not, _&&_}
 use Prim.Native.Nat.{_<_}
 use borrow.Author.Tests.{not-true, not-false}
-use Rattle.board.specs.Board.{board, legsOf, setOf, inner}
+use Rattle.rules.specs.Day.{isInner}
+use Rattle.rules.proofs.Inner.{is-inner}
+use Rattle.board.specs.Board.{board, legsOf, setOf}
 use Rattle.board.specs.Change.{putSet}
-use Rattle.board.specs.FormLaws.{inner-in}
 use Rattle.trail.specs.Undo.{fitsShrunk}
 use Rattle.trail.specs.UndoLaws.{readable, undone-no, undone-yes, shrunk-out, shrunk-test}
 use borrow.Author.Needs.{needs}
@@ -12,11 +13,11 @@ use native.Mathlib.Omega.{arith}
 use Rattle.trail.proofs.undo.undo_shrunk.Statement.{statement}
 use Rattle.trail.proofs.undo.undo_shrunk.Tie as tie
 
-node : (c : tie.Else1) → inner (c .before .before .args .n) (c .before .before .args .x) ≡ true
+node : (c : tie.Else1) → isInner (c .before .before .args .n) (c .before .before .args .x) ≡ true
 node c = sym (c .before .inner .ensures) ∙ not-false _ (c .if1 .left)
 
 low : (c : tie.Else1) → c .before .before .args .x < 64
-low c = omega (arith, inner-in _ _ (node c) .1, c .before .before .pre .small)
+low c = omega (arith, is-inner _ _ (node c) .1, c .before .before .pre .small)
 
 fits-is : (c : tie.After-grows) → let a = c .before .before .before .before .before .before .args in
     fitsShrunk (a .n) (board (a .route .now) (a .stops) (a .sets .now) (a .marks)) (a .x) (a .w) ≡ not (c .before .has .result) && c .grows .result
@@ -30,7 +31,12 @@ inner-requires : tie.Need-inner-requires
 inner-requires c κs = search needs
 
 returns : tie.Need-returns
-returns c = undone-no _ _ (shrunk-out _ _ _ _ (sym (c .before .inner .ensures) ∙ not-true _ (c .if1 .taken)))
+returns c =
+    let t = c .before in
+    undone-no _ _ (shrunk-out _ _ _ _ (sym (t .before .inner .ensures) ∙ not-true _ (t .if1 .taken))) ∙ sym (c .misfit .ensures _ _)
+
+misfit-requires : tie.Need-misfit-requires
+misfit-requires c κs = search needs
 
 sub-word : tie.Need-sub-word
 sub-word c = omega (arith, c .before .before .pre .form .route .two)
@@ -53,7 +59,10 @@ grows-requires : tie.Need-grows-requires
 grows-requires c κs = search needs
 
 returns-2 : tie.Need-returns-2
-returns-2 c = undone-no _ _ (fits-is (c .before) ∙ not-true _ (c .if2 .taken))
+returns-2 c = let t = c .before in undone-no _ _ (fits-is (t .before) ∙ not-true _ (t .if2 .taken)) ∙ sym (c .misfit2 .ensures _ _)
+
+misfit-requires-2 : tie.Need-misfit-requires-2
+misfit-requires-2 c κs = search needs
 
 mul-sets : tie.Need-mul-sets
 mul-sets c = omega (arith, low (c .before .before .before .before .before))
@@ -70,6 +79,7 @@ undo-shrunk-spec =
     tie.close
     (tie.spec
     inner-requires
+    misfit-requires
     returns
     sub-word
     word-requires
@@ -77,6 +87,7 @@ undo-shrunk-spec =
     element-copy-out-v
     has-requires
     grows-requires
+    misfit-requires-2
     returns-2
     mul-sets
     element-write-sets
