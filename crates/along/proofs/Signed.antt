@@ -1,5 +1,5 @@
 -- Signed numbers of 64 bits: what a difference keeps to, what a test says, and that L stays far from the ends.
-use mathlib.Core.Path.{_≡_}
+use mathlib.Core.Path.{_≡_, ap, _∙_}
 use Prim.Native.Nat.{ℕ, zero, suc, _+_, _-_, _*_, _<_, _≤_}
 use mathlib.Core.Bool.{Bool, true, false, cond}
 use mathlib.Core.List.{List, [], _∷_}
@@ -12,7 +12,7 @@ use mir.Syntax.{w64}
 use mir.Val.{toZ, ofZ}
 use mir.Facts.{toZ-ofZ, toZ-pos}
 use Rattle.rules.specs.Day.{Day}
-use Rattle.rules.specs.Time.{lastMoment, lastStart, minZ}
+use Rattle.rules.specs.Time.{lastMoment, inTime, lastStart, minZ}
 use Rattle.rules.specs.Along.{lastAt}
 use Rattle.along.specs.Times.{Low}
 
@@ -71,3 +71,7 @@ last-kept d w l n i {z} h e = rw e (back (lastAt d (take n l) i) (omega (arith, 
 -- and what is handed on of a last moment
 pub moment-kept : (d : Day) → Low d → (x : ℕ) {z : ℤ} → z ≡ lastMoment d x → toZ w64 (ofZ w64 z) ≡ lastMoment d x
 moment-kept d w x {z} e = rw e (back (lastMoment d x) (omega (arith, w .moment x)))
+
+-- the answer whether a start at t is in time at x
+pub in-time-told : (d : Day) → Low d → (x t : ℕ) {z : ℤ} {b : Bool} → z ≡ lastMoment d x → b ≡ leZ (pos t) (toZ w64 (ofZ w64 z)) → b ≡ inTime d x t
+in-time-told d w x t e f = f ∙ ap (leZ (pos t)) (moment-kept d w x e)

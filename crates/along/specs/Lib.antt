@@ -4,3 +4,6 @@ pub mod Route
 pub mod Walks
 pub mod Stretches
 pub mod Loads
+pub mod Told
+pub mod Sets
+pub mod Ready

@@ -1,14 +1,14 @@
 -- What a route in an array is, and that every number of a day is small.
 use mathlib.Core.Path.{_≡_, subst}
-use Prim.Native.Nat.{ℕ, _+_, _*_, _<_, _≤_}
+use Prim.Native.Nat.{ℕ, _+_, _-_, _*_, _<_, _≤_}
 use mathlib.Core.Bool.{Bool, true, false, cond}
 use mathlib.Core.List.{List}
 use native.Mathlib.Omega.{arith}
 use lib.Dec.{eqb}
 use lib.ListN.{getD, take, length, length-take}
 use lib.Seq.{getD-take}
-use Rattle.sheet.specs.Word.{wordAt, word-low}
-use Rattle.sheet.specs.Section.{nOf, jobsAt}
+use Rattle.sheet.specs.Word.{jobWords, wordAt, word-low}
+use Rattle.sheet.specs.Section.{jobsFrom}
 use Rattle.rules.specs.Rounds.{Distinct}
 use Rattle.rules.specs.declared.Job.the-variants.{Clean, Soiled, Transfer}
 use Rattle.day.specs.Jobs.{jobOf, jobAt, jobIn}
@@ -26,6 +26,10 @@ pub record Route (k : ℕ) (l : List ℕ) (n : ℕ) : Type 0 where
 
 pub node-at : {k : ℕ} {l : List ℕ} {n : ℕ} → Route k l n → (i : ℕ) → i < n → getD l i 0 < k
 node-at {k} {l} {n} r i h = subst (λ (x : ℕ). x < k) (getD-take n l i 0 h) (node-low (r .nodes) i (omega (arith, length-take n l, r .long, r .most)))
+
+-- one stop more than legs
+pub stops-legs : {k : ℕ} {l : List ℕ} {n : ℕ} → Route k l n → n - 1 + 1 ≡ n
+stops-legs r = omega (arith, r .some)
 
 pub low : (s : List ℕ) → Low (dayOf s)
 unfolding cell
@@ -47,4 +51,4 @@ of-low k a b w h = go (eqb k 1) (eqb k 2)
 
 pub job-low : (s : List ℕ) (i : ℕ) → loadOf (jobIn s i) < 4294967296
 unfolding jobAt
-job-low s i = let p = jobsAt (nOf s) + 1 + 4 * i in of-low (wordAt s p) (wordAt s (p + 1)) (wordAt s (p + 2)) (wordAt s (p + 3)) (word-low s (p + 3))
+job-low s i = let p = jobsFrom s + jobWords * i in of-low (wordAt s p) (wordAt s (p + 1)) (wordAt s (p + 2)) (wordAt s (p + 3)) (word-low s (p + 3))

@@ -7,7 +7,7 @@ use mathlib.Core.Logic.{⊎-elim}
 use native.Mathlib.Numerals.{add-one}
 use native.Mathlib.Nat.{eq-or-lt-of-le, le-of-suc-le-suc}
 use native.Mathlib.Omega.{arith}
-use lib.Dec.{T, leb, ltb, eqb}
+use lib.Dec.{T, ltb, eqb}
 use borrow.Author.Tests.{eqb-true, eqb-false, ltb-true, ltb-false, le-leb, not-true}
 use lib.ListN.{getD, length}
 use Rattle.laws.specs.Logic.{decided, T→true, true→T, and-i, and-l, and-r}
@@ -69,35 +69,27 @@ fails-down {f} {i} {hi} p e k a b = ⊎-elim (λ z. ap f (sym z) ∙ e) (λ l. p
 
 -- ---- what is searched for
 
--- a ride's load fits on a leg; its partner is met behind it, or ahead
-abbrev pub room : List ℕ → Ride → ℕ → Bool
-room h r = fitsAt h (r .capacity) (r .load)
-
-abbrev pub behind : List ℕ → Ride → ℕ → Bool
-behind l r = metBehind l (r .partner) (r .places)
-
-abbrev pub ahead : List ℕ → Ride → ℕ → Bool
-ahead l r = metAhead l (r .partner) (r .places)
-
 -- a leg without room, and a leg on which a ride begins, forward and backward
 abbrev pub full : List ℕ → Ride → ℕ → Bool
-full h r i = not (room h r i)
+full h r i = not (fitsAt h r i)
 
 abbrev pub boards : List ℕ → List ℕ → Ride → ℕ → Bool
-boards l h r i = behind l r i && room h r i
+boards l h r i = metBehind l r i && fitsAt h r i
 
 abbrev pub alights : List ℕ → List ℕ → Ride → ℕ → Bool
-alights l h r i = ahead l r i && room h r i
+alights l h r i = metAhead l r i && fitsAt h r i
 
--- from the word's own answer whether the partner is open
-pub boards-is : (l h : List ℕ) (r : Ride) (i : ℕ) {c t : Bool} → c ≡ has (r .places) (getD l i 0)
-    → ((eqb (getD l i 0) (r .partner) || c) && leb (getD h i 0 + r .load) (r .capacity)) ≡ t → boards l h r i ≡ t
-boards-is l h r i e q = (λ z. (eqb (getD l i 0) (r .partner) || sym e z) && leb (getD h i 0 + r .load) (r .capacity)) ∙ q
+-- from the answers whether the load fits, and whether the partner is open
+pub full-is : {f t : Bool} (b : Bool) → f ≡ b → not f ≡ t → not b ≡ t
+full-is b e q = ap not (sym e) ∙ q
 
-pub alights-is : (l h : List ℕ) (r : Ride) (i : ℕ) {c t : Bool} → 0 < i → c ≡ has (r .places) (getD l (i - 1) 0)
-    → ((eqb (getD l i 0) (r .partner) || c) && leb (getD h (i - 1) 0 + r .load) (r .capacity)) ≡ t → alights l h r (i - 1) ≡ t
-alights-is l h r i a e q =
-    let j : i - 1 + 1 ≡ i = omega arith in (λ z. (eqb (getD l (j z) 0) (r .partner) || sym e z) && leb (getD h (i - 1) 0 + r .load) (r .capacity)) ∙ q
+pub boards-is : (l h : List ℕ) (r : Ride) (i : ℕ) {c f t : Bool} → c ≡ has (r .places) (getD l i 0) → f ≡ fitsAt h r i
+    → ((eqb (getD l i 0) (r .partner) || c) && f) ≡ t → boards l h r i ≡ t
+boards-is l h r i e g q = (λ z. (eqb (getD l i 0) (r .partner) || sym e z) && sym g z) ∙ q
+
+pub alights-is : (l h : List ℕ) (r : Ride) (i : ℕ) {c f t : Bool} → 0 < i → c ≡ has (r .places) (getD l (i - 1) 0) → f ≡ fitsAt h r (i - 1)
+    → ((eqb (getD l i 0) (r .partner) || c) && f) ≡ t → alights l h r (i - 1) ≡ t
+alights-is l h r i a e g q = let j : i - 1 + 1 ≡ i = omega arith in (λ z. (eqb (getD l (j z) 0) (r .partner) || sym e z) && sym g z) ∙ q
 
 -- ---- the most that is aboard
 
@@ -407,10 +399,10 @@ module _ {l h : List ℕ} {n load cap highest : ℕ} (g : Legs l h n load) (e : 
   pub through-up : {w : ℕ} → Kept l 0 n (ridesUp l h (through cap load)) w w
   unfolding upFlag walkUp
   through-up =
-      kept-pass (stretch-all (up-stretch (room h (through cap load)) (behind l (through cap load)) true 0 n) (or-true (behind l (through cap load) 0)) roomy-legs)
+      kept-pass (stretch-all (up-stretch (fitsAt h (through cap load)) (metBehind l (through cap load)) true 0 n) (or-true (metBehind l (through cap load) 0)) roomy-legs)
 
   pub through-down : {w : ℕ} → Kept l 0 n (ridesDown l h (through cap load) n) w w
   unfolding downFlag
-  through-down = kept-pass (λ i b c. stretch-all (down-stretch (room h (through cap load)) (ahead l (through cap load)) true n n 0 (omega arith))
-      (ap (λ (t : Bool). ahead l (through cap load) (n - 1) || t) (down-last (room h (through cap load)) (ahead l (through cap load)) true n (omega arith)) ∙ or-true (ahead l (through cap load) (n - 1)))
+  through-down = kept-pass (λ i b c. stretch-all (down-stretch (fitsAt h (through cap load)) (metAhead l (through cap load)) true n n 0 (omega arith))
+      (ap (λ (t : Bool). metAhead l (through cap load) (n - 1) || t) (down-last (fitsAt h (through cap load)) (metAhead l (through cap load)) true n (omega arith)) ∙ or-true (metAhead l (through cap load) (n - 1)))
       roomy-legs i b c)

@@ -98,16 +98,16 @@ walkDown f g b i (suc k) = f i && (g i || walkDown f g b (suc i) k)
 -- ---- what a load asks of a leg, from arrays
 
 -- H + load is within the capacity on the i-th leg
-abbrev pub fitsAt : List ℕ → ℕ → ℕ → ℕ → Bool
-fitsAt h cap load i = leb (getD h i 0 + load) cap
+abbrev pub fitsAt : List ℕ → Ride → ℕ → Bool
+fitsAt h r i = leb (getD h i 0 + r .load) (r .capacity)
 
--- on the i-th leg the partner y, with the places w, stands at the stop that the leg leaves, or is open in it
-abbrev pub metBehind : List ℕ → ℕ → ℕ → ℕ → Bool
-metBehind l y w i = eqb (getD l i 0) y || has w (getD l i 0)
+-- on the i-th leg the partner stands at the stop that the leg leaves, or is open in it
+abbrev pub metBehind : List ℕ → Ride → ℕ → Bool
+metBehind l r i = eqb (getD l i 0) (r .partner) || has (r .places) (getD l i 0)
 
 -- it stands at the stop that the leg enters, or is open in it
-abbrev pub metAhead : List ℕ → ℕ → ℕ → ℕ → Bool
-metAhead l y w i = eqb (getD l (i + 1) 0) y || has w (getD l i 0)
+abbrev pub metAhead : List ℕ → Ride → ℕ → Bool
+metAhead l r i = eqb (getD l (i + 1) 0) (r .partner) || has (r .places) (getD l i 0)
 
 -- a load that rides to the end of the route, and one that rides to its partner y with the places w
 abbrev pub through : ℕ → ℕ → Ride
@@ -118,10 +118,10 @@ between cap load y w = record { capacity = cap; load = load; partner = y; places
 
 -- the flag of a ride behind the first i legs, and before the i-th of n
 unfoldable pub upFlag : List ℕ → List ℕ → Ride → ℕ → Bool
-upFlag l h r = walkUp (fitsAt h (r .capacity) (r .load)) (metBehind l (r .partner) (r .places)) (r .through)
+upFlag l h r = walkUp (fitsAt h r) (metBehind l r) (r .through)
 
 unfoldable pub downFlag : List ℕ → List ℕ → Ride → ℕ → ℕ → Bool
-downFlag l h r n i = walkDown (fitsAt h (r .capacity) (r .load)) (metAhead l (r .partner) (r .places)) (r .through) i (n - i)
+downFlag l h r n i = walkDown (fitsAt h r) (metAhead l r) (r .through) i (n - i)
 
 -- the ride can be on the i-th leg: leg by leg back to a leg where the partner is met, or to the first
 abbrev pub ridesUp : List ℕ → List ℕ → Ride → ℕ → Bool

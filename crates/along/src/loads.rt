@@ -25,7 +25,8 @@ pub fn stow(
 ) -> usize
     requires { ⌜ Placed job × (length (now at) ≡ 64) × (length (now on) ≡ 64) × (length (now off) ≡ 64) × (loadOf job < 4294967296) ⌝ }
     requires { ⌜ ((i : ℕ) → getD (now on) i 0 < 1099511627776) × ((i : ℕ) → getD (now off) i 0 < 1099511627776) ⌝ }
-    ensures { λ r. ⌜ (r ≡ stowFirst job (now (at .entry))) × (now (on .exit) ≡ stowOn job (now (at .entry)) (now (on .entry))) × (now (off .exit) ≡ stowOff job (now (at .entry)) (now (off .entry))) ⌝ }
+    ensures { λ r. ⌜ (r ≡ stowFirst job (now (at .entry))) × (now (on .exit) ≡ stowOn job (now (at .entry)) (now (on .entry)))
+        × (now (off .exit) ≡ stowOff job (now (at .entry)) (now (off .entry))) ⌝ }
 {
     match job {
         Job::Clean { node, load } => {
@@ -58,7 +59,8 @@ pub fn stow(
 // What is aboard on each leg: `first`, and what has come and gone up to its stop. It takes the place of what comes.
 pub fn run(on: &mut [usize; Node::MOST], off: &[usize; Node::MOST], first: usize, stops: usize)
     requires { ⌜ (length (now on) ≡ 64) × (length (now off) ≡ 64) × (stops ≤ 64) ⌝ }
-    requires { ⌜ ((i : ℕ) → i + 1 < stops → first + sumBelow (i + 1) (λ k. getD (now on) k 0) < 4611686018427387904) × ((i : ℕ) → i + 1 < stops → sumBelow (i + 1) (λ k. getD (now off) k 0) ≤ first + sumBelow (i + 1) (λ k. getD (now on) k 0)) ⌝ }
+    requires { ⌜ ((i : ℕ) → i + 1 < stops → first + sumBelow (i + 1) (λ k. getD (now on) k 0) < 4611686018427387904)
+        × ((i : ℕ) → i + 1 < stops → sumBelow (i + 1) (λ k. getD (now off) k 0) ≤ first + sumBelow (i + 1) (λ k. getD (now on) k 0)) ⌝ }
     ensures { λ _. ⌜ Filled 64 (running first (now (on .entry)) (now (off .entry))) 0 (stops - 1) (now (on .exit)) ⌝ }
 {
     let mut aboard = first;

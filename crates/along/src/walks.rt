@@ -45,12 +45,12 @@ impl Ride {
     }
 }
 
-// Whether the leg on which `highest` is aboard has room for the load. If it is the fullest, every leg has.
-pub fn roomy(highest: usize, load: usize, capacity: usize) -> bool
-    requires { ⌜ (highest < 1099511627776) × (load < 4294967296) ⌝ }
-    ensures { λ r. ⌜ r ≡ leb (highest + load) capacity ⌝ }
+// Whether a load fits on a leg that has so much aboard. Where it fits on the fullest leg, it fits on every one.
+pub fn has_room(aboard: usize, load: usize, capacity: usize) -> bool
+    requires { ⌜ (aboard < 1099511627776) × (load < 4294967296) ⌝ }
+    ensures { λ r. ⌜ r ≡ leb (aboard + load) capacity ⌝ }
 {
-    highest + load <= capacity
+    aboard + load <= capacity
 }
 
 // The first leg from `from` on, of `legs`, on which the load does not fit; `highest` is the most that is aboard on any leg.
@@ -64,12 +64,12 @@ fn fits_until(
     requires { ⌜ Under (now h) legs highest × (legs < 64) × (from ≤ legs) × (ride .load < 4294967296) ⌝ }
     ensures { λ r. ⌜ First (full (now (h .entry)) ride) from legs r ⌝ }
 {
-    if roomy(highest, ride.load, ride.capacity) {
+    if has_room(highest, ride.load, ride.capacity) {
         return legs;
     }
     let mut i = from;
     while i < legs {
-        if ride.capacity < h[i] + ride.load {
+        if !has_room(h[i], ride.load, ride.capacity) {
             return i;
         }
         i += 1;
@@ -82,12 +82,12 @@ fn fits_since(h: &[usize; Node::MOST], highest: usize, from: usize, ride: Ride) 
     requires { ⌜ Under (now h) from highest × (from < 64) × (ride .load < 4294967296) ⌝ }
     ensures { λ r. ⌜ Last (full (now (h .entry)) ride) from r ⌝ }
 {
-    if roomy(highest, ride.load, ride.capacity) {
+    if has_room(highest, ride.load, ride.capacity) {
         return 0;
     }
     let mut i = from;
     while 0 < i {
-        if ride.capacity < h[i - 1] + ride.load {
+        if !has_room(h[i - 1], ride.load, ride.capacity) {
             return i;
         }
         i -= 1;
@@ -110,7 +110,7 @@ fn boards(
     while i < legs {
         let p = route[i];
         let met = (p == ride.partner) | bits::holds(ride.places, p);
-        let fits = h[i] + ride.load <= ride.capacity;
+        let fits = has_room(h[i], ride.load, ride.capacity);
         if met & fits {
             return i;
         }
@@ -129,7 +129,7 @@ fn alights(route: &[usize; Node::MOST], h: &[usize; Node::MOST], from: usize, ri
         let k = route[i];
         let p = route[i - 1];
         let met = (k == ride.partner) | bits::holds(ride.places, p);
-        let room = h[i - 1] + ride.load <= ride.capacity;
+        let room = has_room(h[i - 1], ride.load, ride.capacity);
         if met & room {
             return i;
         }

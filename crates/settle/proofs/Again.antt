@@ -1,5 +1,5 @@
 -- The rounds of settling and its ways out, from a caller that is ready.
-use mathlib.Core.Path.{_≡_, sym, ap, _∙_, subst}
+use mathlib.Core.Path.{_≡_, refl, sym, ap, _∙_, subst}
 use Prim.Native.Nat.{ℕ, _-_}
 use mathlib.Core.Bool.{Bool, true, false}
 use mathlib.Core.List.{List}
@@ -19,15 +19,19 @@ use Rattle.sheet.specs.declared.Layout.{Layout}
 use Rattle.day.specs.Asked.{one-end}
 use Rattle.day.specs.Jobs.{jobIn}
 use Rattle.day.specs.Tell.{dayOf}
-use Rattle.settle.specs.Sets.{placesOf, setsOf}
-use Rattle.settle.specs.Round.{Kepts, past, pairOk, jobsOk}
-use Rattle.settle.specs.Ready.{Ready, Settles, jobs-are}
-use Rattle.settle.proofs.Facts.{two-stops, few-nodes, some-nodes, places-seen, places-small, ready-round}
+use Rattle.along.specs.Sets.{placesIn, setsOf}
+use Rattle.along.specs.Sets.{past}
+use Rattle.settle.specs.declared.strike.Pass.{Pass}
+use Rattle.settle.specs.Round.{Kepts, further, jobLeaves, jobsLeave}
+use Rattle.along.specs.Ready.{Ready, jobs-are}
+use Rattle.settle.specs.Settles.{Settles}
+use Rattle.along.proofs.Facts.{two-stops, few-nodes, some-nodes, places-seen, places-small}
+use Rattle.settle.proofs.Facts.{ready-round}
 use Rattle.settle.proofs.Rounds.{again-sets}
 use Rattle.settle.proofs.Struck.{sameSets, sets-same, round-open, round-still, settle-none, settle-once, settle-again}
 
 module _ {s : List ℕ} {at : Layout} {l : List ℕ} {n : ℕ} {ws : List ℕ} (v : Van) (r : Ready s at l n ws 0) {first : List ℕ}
-    (f : first ≡ setsOf (round v (dayOf s) (take n l) (placesOf ws))) where
+    (f : first ≡ setsOf (round v (dayOf s) (take n l) (placesIn ws))) where
   -- no round strikes
   pub none-left : sameSets ws first ≡ true → Settles v (dayOf s) (take n l) ws 0 first
   none-left = settle-none v (dayOf s) (one-end s (r .clear)) (take n l) (r .form .nodes) (some-nodes r) ws (r .sized) (places-seen r) (places-small r) f
@@ -35,24 +39,33 @@ module _ {s : List ℕ} {at : Layout} {l : List ℕ} {n : ℕ} {ws : List ℕ} (
   pub ready-first : Ready s at l n first 0
   ready-first = ready-round v r f
 
-  module _ {h : List ℕ} (loads : Filled 64 (loadAt (dayOf s) (take n l)) 0 (n - 1) h) {second : List ℕ}
-      (kept : Kepts l (n - 1) (jobsOk (pairOk first l h (n - 1) (v .capacity)) (jobIn s) (at .jobs)) first second) where
-    -- the round after the first
-    again-round : second ≡ setsOf (round v (dayOf s) (take n l) (placesOf first))
-    again-round =
-        again-sets v (dayOf s) (jobIn s) (at .jobs) (ap (λ (k : ℕ). tab k (jobIn s)) (sym (jobs-are (r .laid)))) l n (r .long) (two-stops r) (r .most) (few-nodes r)
-        (r .form .nodes) h loads first (ready-first .form .off) (ready-first .form .leg) (placesOf ws)
-        (ap placesOf f ∙ round-open v (dayOf s) (one-end s (r .clear)) (take n l) (r .form .nodes) (some-nodes r) ws (r .sized) (places-seen r) (places-small r)) second kept
+-- a round has been made, and a further one on the same route
+module _ {s : List ℕ} {at : Layout} {l ws first second h : List ℕ} (pass : Pass) (r : Ready s at l (pass .stops) ws 0)
+    (f : first ≡ setsOf (round (pass .van) (dayOf s) (take (pass .stops) l) (placesIn ws)))
+    (loads : Filled 64 (loadAt (dayOf s) (take (pass .stops) l)) 0 (pass .stops - 1) h)
+    (kept : Kepts l (pass .stops - 1) (jobsLeave (jobLeaves first l h (further pass)) (jobIn s) (at .jobs)) first second) where
+  abbrev v : Van
+  v = pass .van
 
-    pub ready-second : Ready s at l n second 0
-    ready-second = ready-round v ready-first again-round
+  abbrev n : ℕ
+  n = pass .stops
 
-    -- one strikes, two strike
-    pub one-left : sameSets ws first ≡ false → sameSets first second ≡ true → Settles v (dayOf s) (take n l) ws 1 second
-    one-left = settle-once v (dayOf s) (one-end s (r .clear)) (take n l) (r .form .nodes) (some-nodes r) ws (r .sized) (places-seen r) (places-small r) f again-round
+  -- the round after the first
+  again-round : second ≡ setsOf (round v (dayOf s) (take n l) (placesIn first))
+  again-round =
+      again-sets (further pass) (dayOf s) (jobIn s) (at .jobs) (ap (λ (k : ℕ). tab k (jobIn s)) (sym (jobs-are (r .laid)))) l (r .long) (two-stops r) (r .most) (few-nodes r)
+      (r .form .nodes) h loads first (ready-first v r f .form .off) (ready-first v r f .form .leg) refl (placesIn ws)
+      (ap placesIn f ∙ round-open v (dayOf s) (one-end s (r .clear)) (take n l) (r .form .nodes) (some-nodes r) ws (r .sized) (places-seen r) (places-small r)) second kept
 
-    pub two-left : sameSets ws first ≡ false → sameSets first second ≡ false → Settles v (dayOf s) (take n l) ws 2 second
-    two-left = settle-again v (dayOf s) (one-end s (r .clear)) (take n l) (r .form .nodes) (some-nodes r) ws (r .sized) (places-seen r) (places-small r) f again-round
+  pub ready-second : Ready s at l n second 0
+  ready-second = ready-round v (ready-first v r f) again-round
+
+  -- one strikes, two strike
+  pub one-left : sameSets ws first ≡ false → sameSets first second ≡ true → Settles v (dayOf s) (take n l) ws 1 second
+  one-left = settle-once v (dayOf s) (one-end s (r .clear)) (take n l) (r .form .nodes) (some-nodes r) ws (r .sized) (places-seen r) (places-small r) f again-round
+
+  pub two-left : sameSets ws first ≡ false → sameSets first second ≡ false → Settles v (dayOf s) (take n l) ws 2 second
+  two-left = settle-again v (dayOf s) (one-end s (r .clear)) (take n l) (r .form .nodes) (some-nodes r) ws (r .sized) (places-seen r) (places-small r) f again-round
 
 -- no node has a place: no round strikes
 pub none-open : {s : List ℕ} {at : Layout} {l : List ℕ} {n : ℕ} {ws : List ℕ} (v : Van) → Ready s at l n ws 0 → allBelow 64 (λ i. eqb (getD ws i 0) 0) ≡ true
@@ -63,5 +76,5 @@ none-open {s} {at} {l} {n} {ws} v r z {vs} e =
     empty : (x : ℕ) → getD ws x 0 ≡ 0
     empty x = decided (ltb x 64) (λ t. eqb-true (getD ws x 0) 0 (below-at 64 x (λ i. eqb (getD ws i 0) 0) z (ltb-true x 64 t))) (λ t. past ws x (r .sized) (ltb-false x 64 t))
 
-    none : placesOf ws ⊆ round v (dayOf s) (take n l) (placesOf ws)
+    none : placesIn ws ⊆ round v (dayOf s) (take n l) (placesIn ws)
     none x p t = absurd (subst (λ (b : Bool). T b) (ap (λ (w : ℕ). has w p) (empty x) ∙ has-none p) t)

@@ -25,8 +25,9 @@ use Rattle.rules.specs.declared.Job.{Job}
 use Rattle.rules.specs.declared.Job.the-variants.{Clean, Soiled, Transfer}
 use Rattle.rules.proofs.AlongLaws.{atLeg, ahead-next, ahead-end, back-first, back-next, reach-ahead-next, reach-ahead-end, reach-back-first, reach-back-next, mem-at}
 use Rattle.along.specs.Walks.{walkUp, walkDown, upFlag, downFlag, fitsAt, metBehind, metAhead, through, between, ridesUp, ridesDown}
-use Rattle.settle.specs.Sets.{placesOf}
-use Rattle.settle.specs.Round.{pairOk, loadOk}
+use Rattle.along.specs.Sets.{placesIn}
+use Rattle.settle.specs.declared.strike.Pass.{Pass}
+use Rattle.settle.specs.Round.{jobLeaves}
 
 pub and-swap : (a b c e : Bool) → ((a && b) && (c && e)) ≡ ((a && c) && (b && e))
 and-swap true true c e = refl
@@ -51,8 +52,14 @@ down-is f g b n u e s (suc k) i h = ap (λ (t : Bool). f i && (g i || t)) (down-
 
 -- ---- a day, a route of n stops in l, and its H
 
-module _ (v : Van) (d : Day) (l h : List ℕ) (n : ℕ) (two : 2 ≤ n) (fits : n ≤ length l) (near : (i : ℕ) → i < n → getD l i 0 < 64)
-    (loads : Filled 64 (loadAt d (take n l)) 0 (n - 1) h) where
+module _ (pass : Pass) (d : Day) (l h : List ℕ) (two : 2 ≤ pass .stops) (fits : pass .stops ≤ length l)
+    (near : (i : ℕ) → i < pass .stops → getD l i 0 < 64) (loads : Filled 64 (loadAt d (take (pass .stops) l)) 0 (pass .stops - 1) h) where
+  abbrev v : Van
+  v = pass .van
+
+  abbrev n : ℕ
+  n = pass .stops
+
   abbrev m : List ℕ
   m = take n l
 
@@ -62,7 +69,7 @@ module _ (v : Van) (d : Day) (l h : List ℕ) (n : ℕ) (two : 2 ≤ n) (fits : 
   size : length m ≡ n
   size = simp length-take (omega arith)
 
-  room-at : (w i : ℕ) → i < n - 1 → atLeg (room v d w) m i ≡ fitsAt h cap w i
+  room-at : (w i : ℕ) → i < n - 1 → atLeg (room v d w) m i ≡ leb (getD h i 0 + w) cap
   room-at w i k = ap (λ (x : ℕ). leb (x + w) cap) (sym (loads .at i k))
 
   -- nobody is met at 64
@@ -72,40 +79,40 @@ module _ (v : Van) (d : Day) (l h : List ℕ) (n : ℕ) (two : 2 ≤ n) (fits : 
   -- the flag before the first leg, or behind the last, goes through where nobody is met
   pub clean-is : (w i : ℕ) → i < n - 1 → ridesUp l h (through cap w) i ≡ atLeg (legsBehind (room v d w)) m i
   unfolding upFlag
-  clean-is w i k = rw (add-one i) (up-is (fitsAt h cap w) (metBehind l 64 0) true (n - 1) (atLeg (legsBehind (room v d w)) m)
-      (λ j. back-first (room v d w) m ∙ room-at w 0 j ∙ sym (and-true (fitsAt h cap w 0)) ∙ ap (λ (b : Bool). fitsAt h cap w 0 && (b || true)) (sym (none-met 0 0 (omega arith))))
+  clean-is w i k = rw (add-one i) (up-is (fitsAt h (through cap w)) (metBehind l (through cap w)) true (n - 1) (atLeg (legsBehind (room v d w)) m)
+      (λ j. back-first (room v d w) m ∙ room-at w 0 j ∙ sym (and-true (leb (getD h 0 0 + w) cap)) ∙ ap (λ (b : Bool). leb (getD h 0 0 + w) cap && (b || true)) (sym (none-met 0 0 (omega arith))))
       (λ j g. back-next (room v d w) m j (omega (arith, size)) ∙ (λ u. room-at w (suc j) g u && (sym (none-met (suc j) (suc j) (omega arith)) u || atLeg (legsBehind (room v d w)) m j)))
       i k)
 
   pub soiled-is : (w i : ℕ) → i < n - 1 → ridesDown l h (through cap w) (n - 1) i ≡ atLeg (legsAhead (room v d w)) m i
   unfolding downFlag
-  soiled-is w i k = down-is (fitsAt h cap w) (metAhead l 64 0) true (n - 1) (atLeg (legsAhead (room v d w)) m)
+  soiled-is w i k = down-is (fitsAt h (through cap w)) (metAhead l (through cap w)) true (n - 1) (atLeg (legsAhead (room v d w)) m)
       (ahead-end (room v d w) m (n - 1) (omega (arith, size)))
       (λ j g. ahead-next (room v d w) m j (omega (arith, size)) ∙ (λ u. room-at w j g u && (sym (none-met j (j + 1) (omega arith)) u || atLeg (legsAhead (room v d w)) m (suc j))))
       (n - 1 - i) i (omega arith)
 
   -- a partner y with the places o is met where g holds of the leg's stops
-  pub back-is : (g : ℕ → ℕ → Bool) (w y o : ℕ) → ((i : ℕ) → i < n - 1 → g (getD m i 0) (getD m (suc i) 0) ≡ metBehind l y o i)
+  pub back-is : (g : ℕ → ℕ → Bool) (w y o : ℕ) → ((i : ℕ) → i < n - 1 → g (getD m i 0) (getD m (suc i) 0) ≡ metBehind l (between cap w y o) i)
       → (i : ℕ) → i < n - 1 → ridesUp l h (between cap w y o) i ≡ atLeg (reachBack v d g w) m i
   unfolding upFlag
-  back-is g w y o e i k = rw (add-one i) (up-is (fitsAt h cap w) (metBehind l y o) false (n - 1) (atLeg (reachBack v d g w) m)
+  back-is g w y o e i k = rw (add-one i) (up-is (fitsAt h (between cap w y o)) (metBehind l (between cap w y o)) false (n - 1) (atLeg (reachBack v d g w) m)
       (λ j. reach-back-first v d g w m (omega (arith, size)) ∙ (λ u. room-at w 0 j u && (e 0 j u || false)))
       (λ j q. reach-back-next v d g w m j (omega (arith, size)) ∙ (λ u. room-at w (suc j) q u && (e (suc j) q u || atLeg (reachBack v d g w) m j)))
       i k)
 
-  pub ahead-is : (g : ℕ → ℕ → Bool) (w y o : ℕ) → ((i : ℕ) → i < n - 1 → g (getD m i 0) (getD m (suc i) 0) ≡ metAhead l y o i)
+  pub ahead-is : (g : ℕ → ℕ → Bool) (w y o : ℕ) → ((i : ℕ) → i < n - 1 → g (getD m i 0) (getD m (suc i) 0) ≡ metAhead l (between cap w y o) i)
       → (i : ℕ) → i < n - 1 → ridesDown l h (between cap w y o) (n - 1) i ≡ atLeg (reachAhead v d g w) m i
   unfolding downFlag
-  ahead-is g w y o e i k = down-is (fitsAt h cap w) (metAhead l y o) false (n - 1) (atLeg (reachAhead v d g w) m)
+  ahead-is g w y o e i k = down-is (fitsAt h (between cap w y o)) (metAhead l (between cap w y o)) false (n - 1) (atLeg (reachAhead v d g w) m)
       (reach-ahead-end v d g w m (n - 1) (omega (arith, size)))
       (λ j q. reach-ahead-next v d g w m j (omega (arith, size)) ∙ (λ u. room-at w j q u && (e j q u || atLeg (reachAhead v d g w) m (suc j))))
       (n - 1 - i) i (omega arith)
 
   -- ---- the two tests of a transfer's end are one walk: a placed partner has no places, and one off the route is at no stop
 
-  module _ (old : List ℕ) (off : (y q : ℕ) → T (placesOf old y q) → T (not (mem y m))) where
+  module _ (old : List ℕ) (off : (y q : ℕ) → T (placesIn old y q) → T (not (mem y m))) where
     abbrev o : Places
-    o = placesOf old
+    o = placesIn old
 
     shut : (y q : ℕ) → mem y m ≡ true → has (getD old y 0) q ≡ false
     shut y q e = decided (has (getD old y 0) q) (λ t. absurd (subst (λ (b : Bool). T (not b)) e (off y q (true→T _ t)))) (λ t. t)
@@ -155,19 +162,25 @@ module _ (v : Van) (d : Day) (l h : List ℕ) (n : ℕ) (two : 2 ≤ n) (fits : 
         next : (j : ℕ) → j < n - 1 → getD m (suc j) 0 ≡ getD l (j + 1) 0
         next j q = rw (add-one j) (getD-take n l (suc j) 0 (omega arith))
 
-    -- a transfer's tests from arrays are the rules' two, and a job's are the rules' four
-    pub pair-is : (x i : ℕ) → i < n - 1 → (j : Job) → pairOk old l h (n - 1) cap j x i
-        ≡ (meetsPartner v d m x (behind m (suc i)) (drop (suc i) m) j && hasSupport v d m o x (behind m (suc i)) (drop (suc i) m) j)
-    unfolding pairOk
-    pair-is x i k (Clean a w) = refl
-    pair-is x i k (Soiled a w) = refl
-    pair-is x i k (Transfer a b w) =
+    -- a transfer's tests from arrays are the rules' two
+    transfer-is : (x i : ℕ) → i < n - 1 → (a b w : ℕ) → jobLeaves old l h pass (Transfer a b w) x i
+        ≡ (meetsPartner v d m x (behind m (suc i)) (drop (suc i) m) (Transfer a b w) && hasSupport v d m o x (behind m (suc i)) (drop (suc i) m) (Transfer a b w))
+    unfolding jobLeaves
+    transfer-is x i k a b w =
         (λ u. first-is x a b w i k u && second-is x a b w i k u) ∙ and-swap (meetB x a b w i) (holdB x a b w i) (meetA x a b w i) (holdA x a b w i)
 
-    pub load-is : (x i : ℕ) → i < n - 1 → (j : Job) → loadOk old l h (n - 1) cap j x i
+    -- of a further round a job's tests are those two, and of the first the rules' four
+    pub again-is : pass .again ≡ true → (x i : ℕ) → i < n - 1 → (j : Job) → jobLeaves old l h pass j x i
+        ≡ (meetsPartner v d m x (behind m (suc i)) (drop (suc i) m) j && hasSupport v d m o x (behind m (suc i)) (drop (suc i) m) j)
+    unfolding jobLeaves
+    again-is e x i k (Clean a w) = ap (λ (b : Bool). b || (not (eqb a x) || ridesUp l h (through cap w) i)) e
+    again-is e x i k (Soiled a w) = ap (λ (b : Bool). b || (not (eqb a x) || ridesDown l h (through cap w) (n - 1) i)) e
+    again-is e x i k (Transfer a b w) = transfer-is x i k a b w
+
+    pub first-round-is : pass .again ≡ false → (x i : ℕ) → i < n - 1 → (j : Job) → jobLeaves old l h pass j x i
         ≡ (cleanFits v d x (behind m (suc i)) (drop (suc i) m) j && soiledFits v d x (behind m (suc i)) (drop (suc i) m) j
         && (meetsPartner v d m x (behind m (suc i)) (drop (suc i) m) j && hasSupport v d m o x (behind m (suc i)) (drop (suc i) m) j))
-    unfolding loadOk pairOk
-    load-is x i k (Clean a w) = ap (λ (b : Bool). not (eqb a x) || b) (clean-is w i k) ∙ sym (and-true _) ∙ sym (and-true _)
-    load-is x i k (Soiled a w) = ap (λ (b : Bool). not (eqb a x) || b) (soiled-is w i k) ∙ sym (and-true _)
-    load-is x i k (Transfer a b w) = pair-is x i k (Transfer a b w)
+    unfolding jobLeaves
+    first-round-is e x i k (Clean a w) = (λ u. e u || (not (eqb a x) || clean-is w i k u)) ∙ sym (and-true _) ∙ sym (and-true _)
+    first-round-is e x i k (Soiled a w) = (λ u. e u || (not (eqb a x) || soiled-is w i k u)) ∙ sym (and-true _)
+    first-round-is e x i k (Transfer a b w) = transfer-is x i k a b w

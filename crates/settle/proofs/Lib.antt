@@ -2,8 +2,4 @@ pub mod Legs
 pub mod Rounds
 pub mod Struck
 pub mod Facts
-pub mod Order
-pub mod Marks
-pub mod Owed
-pub mod Road
 pub mod Again

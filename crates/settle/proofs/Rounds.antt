@@ -1,7 +1,7 @@
 -- A round over the words is the rules' round.
 use mathlib.Core.Path.{_≡_, refl, sym, ap, _∙_, subst}
-use Prim.Native.Nat.{ℕ, zero, suc, _-_, _<_, _≤_}
-use mathlib.Core.Bool.{Bool, true, false, not, _&&_, and-true, and-assoc}
+use Prim.Native.Nat.{ℕ, suc, _-_, _<_, _≤_}
+use mathlib.Core.Bool.{Bool, true, false, not, _&&_, and-true}
 use mathlib.Core.List.{List, [], _∷_}
 use native.Mathlib.Numerals.{add-one}
 use native.Mathlib.Omega.{arith}
@@ -10,8 +10,8 @@ use lib.IntN.{ℤ, pos}
 use lib.ListN.{getD, take, drop, length, length-take}
 use lib.Seq.{getD-take}
 use Rattle.laws.specs.Logic.{decided, T-ext, true→T, and-i, and-r}
-use Rattle.laws.specs.Lists.{here, there, mem, all}
-use Rattle.laws.specs.Below.{allBelow, below-same}
+use Rattle.laws.specs.Lists.{mem, all}
+use Rattle.laws.specs.Below.{below-same}
 use Rattle.laws.specs.Table.{tab, Filled}
 use Rattle.rules.specs.Day.{Day}
 use Rattle.rules.specs.declared.Van.{Van}
@@ -25,33 +25,32 @@ use Rattle.rules.specs.Along.{behind, lastAt, loadAt}
 use Rattle.rules.specs.declared.Job.{Job}
 use Rattle.rules.proofs.AlongLaws.{atLeg, behind-take, window-at, short-at, on-leg, leg-index}
 use Rattle.rules.proofs.Twice.{restays}
-use Rattle.rules.proofs.Left.{stays-e, round-less, round-leg, round-left}
+use Rattle.rules.proofs.Entries.{stays-e, partnerPlaced-in, neitherPlaced-in}
+use Rattle.rules.proofs.Left.{round-less, round-leg, round-left}
 use Rattle.along.specs.Spots.{node-low}
-use Rattle.settle.specs.Sets.{placesOf, setsOf, sets-ext}
-use Rattle.settle.specs.Round.{Kepts, stands, standsAt, pairOk, loadOk, jobsOk, placeOk}
-use Rattle.settle.proofs.Legs.{and-swap, pair-is, load-is}
+use Rattle.along.specs.Sets.{placesIn, setsOf, sets-ext}
+use Rattle.settle.specs.declared.strike.Pass.{Pass}
+use Rattle.settle.specs.Round.{Kepts, fitsIn, standsAt, jobLeaves, jobsLeave, placeLeft}
+use Rattle.along.specs.Told.{below-tab}
+use Rattle.settle.proofs.Legs.{and-swap, again-is, first-round-is}
 
 -- ---- tests of a list of jobs
 
-pub all-both : {A : Type 0} (f g : A → Bool) (l : List A) → all (λ j. f j && g j) l ≡ (all f l && all g l)
+all-both : {A : Type 0} (f g : A → Bool) (l : List A) → all (λ j. f j && g j) l ≡ (all f l && all g l)
 all-both f g [] = refl
 all-both f g (x ∷ l) = ap (λ (b : Bool). (f x && g x) && b) (all-both f g l) ∙ and-swap (f x) (g x) (all f l) (all g l)
 
-below-front : (n : ℕ) (f : ℕ → Bool) → allBelow (suc n) f ≡ (f 0 && allBelow n (λ k. f (suc k)))
-unfolding allBelow
-below-front zero f = sym (and-true (f 0))
-below-front (suc n) f = ap (λ (b : Bool). b && f (suc n)) (below-front n f) ∙ and-assoc (f 0) (allBelow n (λ k. f (suc k))) (f (suc n))
-
-pub below-tab : (f : Job → Bool) (n : ℕ) (g : ℕ → Job) → allBelow n (λ k. f (g k)) ≡ all f (tab n g)
-unfolding tab allBelow
-below-tab f zero g = refl
-below-tab f (suc n) g = below-front n (λ k. f (g k)) ∙ ap (λ (b : Bool). f (g 0) && b) (below-tab f n (λ k. g (suc k)))
-
 -- ---- what the arrays say of a place is what the rules say
 
-module _ (v : Van) (d : Day) (g : ℕ → Job) (jobs : ℕ) (told : d .jobs ≡ tab jobs g) (l : List ℕ) (n : ℕ) (long : length l ≡ 64) (two : 2 ≤ n) (most : n ≤ 64)
-    (small : d .n ≤ 64)
-    (nodes : Distinct (d .n) (take n l)) (h : List ℕ) (loads : Filled 64 (loadAt d (take n l)) 0 (n - 1) h) where
+module _ (pass : Pass) (d : Day) (g : ℕ → Job) (jobs : ℕ) (told : d .jobs ≡ tab jobs g) (l : List ℕ) (long : length l ≡ 64) (two : 2 ≤ pass .stops)
+    (most : pass .stops ≤ 64) (small : d .n ≤ 64) (nodes : Distinct (d .n) (take (pass .stops) l)) (h : List ℕ)
+    (loads : Filled 64 (loadAt d (take (pass .stops) l)) 0 (pass .stops - 1) h) where
+  abbrev v : Van
+  v = pass .van
+
+  abbrev n : ℕ
+  n = pass .stops
+
   abbrev m : List ℕ
   m = take n l
 
@@ -61,9 +60,9 @@ module _ (v : Van) (d : Day) (g : ℕ → Job) (jobs : ℕ) (told : d .jobs ≡ 
   near : (i : ℕ) → i < n → getD l i 0 < 64
   near i k = omega (arith, node-low nodes i (omega (arith, size)), getD-take n l i 0 k)
 
-  module _ (old : List ℕ) (off : (y q : ℕ) → T (placesOf old y q) → T (not (mem y m))) (leg : (y q : ℕ) → T (placesOf old y q) → T (mem q (legStops m))) where
+  module _ (old : List ℕ) (off : (y q : ℕ) → T (placesIn old y q) → T (not (mem y m))) (leg : (y q : ℕ) → T (placesIn old y q) → T (mem q (legStops m))) where
     abbrev o : Places
-    o = placesOf old
+    o = placesIn old
 
     -- ---- the tests of all jobs
 
@@ -80,17 +79,17 @@ module _ (v : Van) (d : Day) (g : ℕ → Job) (jobs : ℕ) (told : d .jobs ≡ 
       abbrev N : Job → Bool
       N = hasSupport v d m o x (behind m (suc i)) (drop (suc i) m)
 
-      jobs-is : (f : Job → ℕ → ℕ → Bool) (r : Job → Bool) → ((j : Job) → f j x i ≡ r j) → jobsOk f g jobs x i ≡ all r (d .jobs)
-      unfolding jobsOk
+      jobs-is : (f : Job → ℕ → ℕ → Bool) (r : Job → Bool) → ((j : Job) → f j x i ≡ r j) → jobsLeave f g jobs x i ≡ all r (d .jobs)
+      unfolding jobsLeave
       jobs-is f r e = below-same jobs _ (λ q. r (g q)) (λ q w. e (g q)) ∙ below-tab r jobs g ∙ ap (all r) (sym told)
 
-      pairs-is : jobsOk (pairOk old l h (n - 1) (v .capacity)) g jobs x i ≡ (atLeg (partnerPlaced v d m o x) m i && atLeg (neitherPlaced v d m o x) m i)
-      pairs-is = jobs-is _ (λ j. P j && N j) (pair-is v d l h n two (omega arith) near loads old off x i k) ∙ all-both P N (d .jobs)
+      pairs-is : pass .again ≡ true → jobsLeave (jobLeaves old l h pass) g jobs x i ≡ (atLeg (partnerPlaced v d m o x) m i && atLeg (neitherPlaced v d m o x) m i)
+      pairs-is e = jobs-is _ (λ j. P j && N j) (again-is pass d l h two (omega arith) near loads old off e x i k) ∙ all-both P N (d .jobs)
 
-      loads-is : jobsOk (loadOk old l h (n - 1) (v .capacity)) g jobs x i
+      loads-is : pass .again ≡ false → jobsLeave (jobLeaves old l h pass) g jobs x i
           ≡ ((atLeg (clean v d m o x) m i && atLeg (soiled v d m o x) m i) && (atLeg (partnerPlaced v d m o x) m i && atLeg (neitherPlaced v d m o x) m i))
-      loads-is =
-          jobs-is _ (λ j. (C j && S j) && (P j && N j)) (load-is v d l h n two (omega arith) near loads old off x i k)
+      loads-is e =
+          jobs-is _ (λ j. (C j && S j) && (P j && N j)) (first-round-is pass d l h two (omega arith) near loads old off e x i k)
           ∙ all-both (λ j. C j && S j) (λ j. P j && N j) (d .jobs) ∙ (λ u. all-both C S (d .jobs) u && all-both P N (d .jobs) u)
 
     -- ---- words that keep what passes f are the words of the rules' round, where f tells of each open place whether it stays
@@ -98,15 +97,15 @@ module _ (v : Van) (d : Day) (g : ℕ → Job) (jobs : ℕ) (told : d .jobs ≡ 
     abbrev Tells : (ℕ → ℕ → Bool) → Type 0
     Tells f = (x i : ℕ) → i < n - 1 → T (o x (getD m i 0)) → f x i ≡ atLeg (stays v d m o x) m i
 
-    left-places : (f : ℕ → ℕ → Bool) → Tells f → (new : List ℕ) → Kepts l (n - 1) f old new → (x q : ℕ) → placesOf new x q ≡ round v d m o x q
-    left-places f tells new kept x q = T-ext (placesOf new x q) (round v d m o x q) there′ back′
+    left-places : (f : ℕ → ℕ → Bool) → Tells f → (new : List ℕ) → Kepts l (n - 1) f old new → (x q : ℕ) → placesIn new x q ≡ round v d m o x q
+    left-places f tells new kept x q = T-ext (placesIn new x q) (round v d m o x q) there′ back′
       where
         is : (i : ℕ) → i < n - 1 → getD m i 0 ≡ q → T (o x q) → f x i ≡ onLeg (stays v d m o x) q m
         is i k e t =
             tells x i k (subst (λ (p : ℕ). T (o x p)) (sym e) t) ∙ sym (on-leg (stays v d m o x) m nodes i (omega (arith, size)))
             ∙ ap (λ (p : ℕ). onLeg (stays v d m o x) p m) e
 
-        there′ : T (placesOf new x q) → T (round v d m o x q)
+        there′ : T (placesIn new x q) → T (round v d m o x q)
         there′ t =
             let u = kept .at x .at q .0 t in
             let a = leg-index q m (leg x q (u .0)) in
@@ -114,7 +113,7 @@ module _ (v : Van) (d : Day) (g : ℕ → Job) (jobs : ℕ) (told : d .jobs ≡ 
             round-left v d m o x q (u .0)
             (subst (λ (b : Bool). T b) (is (a .0) k (a .2) (u .0)) (u .1 (a .0) (omega arith) k (sym (getD-take n l (a .0) 0 (omega arith)) ∙ a .2)))
 
-        back′ : T (round v d m o x q) → T (placesOf new x q)
+        back′ : T (round v d m o x q) → T (placesIn new x q)
         back′ t =
             let w = round-less v d m o x q t in
             kept .at x .at q .1 (w, λ i a b c. subst (λ (y : Bool). T y) (sym (is i b (getD-take n l i 0 (omega arith) ∙ c) w)) (round-leg v d m o x q t))
@@ -131,9 +130,9 @@ module _ (v : Van) (d : Day) (g : ℕ → Job) (jobs : ℕ) (told : d .jobs ≡ 
 
     -- ---- the first round: all tests
 
-    module _ (z : List ℤ) (lasts : Filled 64 (lastAt d m) (pos 0) n z) where
+    module _ (first : pass .again ≡ false) (z : List ℤ) (lasts : Filled 64 (lastAt d m) (pos 0) n z) where
       stands-is : (x i : ℕ) → i < n - 1 → standsAt d (v .limit) l z (driven d m) x i ≡ (atLeg (window v d m o x) m i && atLeg (short v d m o x) m i)
-      unfolding stands
+      unfolding fitsIn
       stands-is x i k =
           rw (add-one i, lasts .at (suc i) (omega arith), ← behind-take l n i (omega arith), ← getD-take n l i 0 (omega arith), ← getD-take n l (suc i) 0 (omega arith))
           (λ u. sym (window-at v d m o x m i (omega (arith, size))) u && sym (short-at v d m o x m i (omega (arith, size))) u)
@@ -145,24 +144,23 @@ module _ (v : Van) (d : Day) (g : ℕ → Job) (jobs : ℕ) (told : d .jobs ≡ 
       six true false c s p q = refl
       six false b c s p q = refl
 
-      place-is : Tells (placeOk d g jobs (v .capacity) (v .limit) old l z h (n - 1) (driven d m))
+      place-is : Tells (placeLeft d g jobs pass old l z h (driven d m))
       unfolding stays
       place-is x i k t =
-          (λ u. stands-is x i k u && loads-is x i k u)
+          (λ u. stands-is x i k u && loads-is x i k first u)
           ∙ six (atLeg (window v d m o x) m i) (atLeg (short v d m o x) m i) (atLeg (clean v d m o x) m i) (atLeg (soiled v d m o x) m i)
           (atLeg (partnerPlaced v d m o x) m i) (atLeg (neitherPlaced v d m o x) m i)
 
-      pub round-sets : (new : List ℕ) → Kepts l (n - 1) (placeOk d g jobs (v .capacity) (v .limit) old l z h (n - 1) (driven d m)) old new
-          → new ≡ setsOf (round v d m o)
+      pub round-sets : (new : List ℕ) → Kepts l (n - 1) (placeLeft d g jobs pass old l z h (driven d m)) old new → new ≡ setsOf (round v d m o)
       round-sets = left-sets _ place-is
 
     -- ---- a further round: every test but 'neither placed' reads the route only, so what passed it passes it again, and the transfers are enough
 
-    module _ (before : Places) (left : o ≡ round v d m before) where
-      pair-stays : Tells (jobsOk (pairOk old l h (n - 1) (v .capacity)) g jobs)
-      pair-stays x i k t = pairs-is x i k ∙ T-ext _ _ (λ w. restays v d m before o x (behind m (suc i)) (drop (suc i) m) was (and-r partner neither w))
+    module _ (again : pass .again ≡ true) (before : Places) (left : o ≡ round v d m before) where
+      pair-stays : Tells (jobsLeave (jobLeaves old l h pass) g jobs)
+      pair-stays x i k t = pairs-is x i k again ∙ T-ext _ _ (λ w. restays v d m before o x (behind m (suc i)) (drop (suc i) m) was (and-r partner neither w))
           (λ w. let e = stays-e v d m o x (behind m (suc i)) (drop (suc i) m) w in
-          and-i partner neither (e partnerPlaced (there (there (there (there here))))) (e neitherPlaced (there (there (there (there (there here)))))))
+          and-i partner neither (e partnerPlaced partnerPlaced-in) (e neitherPlaced neitherPlaced-in))
         where
           partner : Bool
           partner = atLeg (partnerPlaced v d m o x) m i
@@ -174,5 +172,5 @@ module _ (v : Van) (d : Day) (g : ℕ → Job) (jobs : ℕ) (told : d .jobs ≡ 
           was = subst (λ (b : Bool). T b) (on-leg (stays v d m before x) m nodes i (omega (arith, size)))
               (round-leg v d m before x (getD m i 0) (subst (λ (c : Places). T (c x (getD m i 0))) left t))
 
-      pub again-sets : (new : List ℕ) → Kepts l (n - 1) (jobsOk (pairOk old l h (n - 1) (v .capacity)) g jobs) old new → new ≡ setsOf (round v d m o)
+      pub again-sets : (new : List ℕ) → Kepts l (n - 1) (jobsLeave (jobLeaves old l h pass) g jobs) old new → new ≡ setsOf (round v d m o)
       again-sets = left-sets _ pair-stays

@@ -20,8 +20,8 @@ use Rattle.rules.specs.Asked.{OneEnd}
 use Rattle.rules.proofs.Left.{_⊆_, round-less}
 use Rattle.rules.proofs.Twice.{calm, at-most-two}
 use Rattle.rules.proofs.Fixpoint.{Seen, settle-twice}
-use Rattle.settle.specs.Sets.{placesOf, setsOf, sets-ext, length-sets, places-sets, Small}
-use Rattle.settle.specs.Ready.{Settles}
+use Rattle.along.specs.Sets.{placesIn, setsOf, sets-ext, length-sets, places-sets, Small}
+use Rattle.settle.specs.Settles.{Settles}
 
 -- the arrays are the same
 abbrev pub sameSets : List ℕ → List ℕ → Bool
@@ -50,9 +50,9 @@ module _ (v : Van) (d : Day) (one : OneEnd (d .jobs)) (rt : List ℕ) (nodes : D
       round-less v d rt (round v d rt o) x p
       (subst (λ (b : Bool). T b) (ap (λ (f : Places). f x p) (sym (settle-no (suc (d .n * d .n - 2)) o e)) ∙ ap (λ (k : ℕ). settleIn k v d rt o x p) fuel ∙ settle-twice v d one rt nodes o seen x p) t)
 
-  module _ (ws : List ℕ) (long : length ws ≡ 64) (seen : Seen d rt (placesOf ws)) (small : Small (placesOf ws)) where
+  module _ (ws : List ℕ) (long : length ws ≡ 64) (seen : Seen d rt (placesIn ws)) (small : Small (placesIn ws)) where
     abbrev o : Places
-    o = placesOf ws
+    o = placesIn ws
 
     pub round-small : Small (round v d rt o)
     round-small x p t = small x p (round-less v d rt o x p t)
@@ -66,7 +66,7 @@ module _ (v : Van) (d : Day) (one : OneEnd (d .jobs)) (rt : List ℕ) (nodes : D
         (λ x p k. decided (round v d rt o x p) (λ u. absurd (omega (arith, round-small x p (true→T _ u) .1))) (λ u. u))
 
     -- the words that a round leaves have the places that it leaves
-    pub round-open : placesOf (setsOf (round v d rt o)) ≡ round v d rt o
+    pub round-open : placesIn (setsOf (round v d rt o)) ≡ round v d rt o
     round-open = λ u x p. places-sets (round v d rt o) round-small x p u
 
     -- they are the words before exactly if the round strikes nothing
@@ -76,7 +76,7 @@ module _ (v : Van) (d : Day) (one : OneEnd (d .jobs)) (rt : List ℕ) (nodes : D
         quiet : sameSets ws (setsOf (round v d rt o)) ≡ true → strikes v d rt o ≡ false
         quiet s =
             N→false (strikes v d rt o)
-            (not-T (strikes v d rt o) (calm v d rt o (λ x p t. subst (λ (f : Places). T (f x p)) (ap placesOf (same-sets ws (setsOf (round v d rt o)) long (length-sets (round v d rt o)) s) ∙ round-open) t)))
+            (not-T (strikes v d rt o) (calm v d rt o (λ x p t. subst (λ (f : Places). T (f x p)) (ap placesIn (same-sets ws (setsOf (round v d rt o)) long (length-sets (round v d rt o)) s) ∙ round-open) t)))
 
         loud : sameSets ws (setsOf (round v d rt o)) ≡ false → strikes v d rt o ≡ true
         loud s = decided (strikes v d rt o) (λ t. t) (λ t. absurd (false-true (sym s ∙ sets-same ws (setsOf (round v d rt o)) (round-still (calm-less o seen t)))))
@@ -108,15 +108,15 @@ module _ (v : Van) (d : Day) (one : OneEnd (d .jobs)) (rt : List ℕ) (nodes : D
 
   -- ---- the ways out of the code
 
-  module _ (ws : List ℕ) (long : length ws ≡ 64) (seen : Seen d rt (placesOf ws)) (small : Small (placesOf ws)) where
+  module _ (ws : List ℕ) (long : length ws ≡ 64) (seen : Seen d rt (placesIn ws)) (small : Small (placesIn ws)) where
     abbrev o₀ : Places
-    o₀ = placesOf ws
+    o₀ = placesIn ws
 
     abbrev o₁ : Places
-    o₁ = round v d rt (placesOf ws)
+    o₁ = round v d rt (placesIn ws)
 
-    first-open : {first : List ℕ} → first ≡ setsOf o₁ → placesOf first ≡ o₁
-    first-open e = ap placesOf e ∙ round-open ws long seen small
+    first-open : {first : List ℕ} → first ≡ setsOf o₁ → placesIn first ≡ o₁
+    first-open e = ap placesIn e ∙ round-open ws long seen small
 
     settled-sets : setsOf (round v d rt o₁) ≡ setsOf (settle v d rt o₀)
     settled-sets = ap setsOf (λ u x p. sym (settle-twice v d one rt nodes o₀ seen x p) u)
@@ -124,7 +124,7 @@ module _ (v : Van) (d : Day) (one : OneEnd (d .jobs)) (rt : List ℕ) (nodes : D
     struck₁ : {first : List ℕ} → first ≡ setsOf o₁ → strikes v d rt o₀ ≡ not (sameSets ws first)
     struck₁ e = struck-is ws long seen small ∙ ap (λ (l : List ℕ). not (sameSets ws l)) (sym e)
 
-    struck₂ : {first second : List ℕ} → first ≡ setsOf o₁ → second ≡ setsOf (round v d rt (placesOf first)) → strikes v d rt o₁ ≡ not (sameSets first second)
+    struck₂ : {first second : List ℕ} → first ≡ setsOf o₁ → second ≡ setsOf (round v d rt (placesIn first)) → strikes v d rt o₁ ≡ not (sameSets first second)
     struck₂ {first} e f =
         ap (strikes v d rt) (sym (first-open e))
         ∙ struck-is first (ap length e ∙ length-sets o₁) (subst (Seen d rt) (sym (first-open e)) (round-seen ws long seen small)) (subst Small (sym (first-open e)) (round-small ws long seen small))
@@ -136,17 +136,17 @@ module _ (v : Van) (d : Day) (one : OneEnd (d .jobs)) (rt : List ℕ) (nodes : D
         let same = same-sets ws first long (ap length e ∙ length-sets o₁) s in
         record {
           rounds = none-strikes o₀ (struck₁ e ∙ ap not s);
-          sets = e ∙ ap (λ (f : Places). setsOf (round v d rt f)) (ap placesOf same ∙ first-open e) ∙ settled-sets;
+          sets = e ∙ ap (λ (f : Places). setsOf (round v d rt f)) (ap placesIn same ∙ first-open e) ∙ settled-sets;
           still = λ z. sym same;
         }
 
-    second-sets : {first second : List ℕ} → first ≡ setsOf o₁ → second ≡ setsOf (round v d rt (placesOf first)) → second ≡ setsOf (settle v d rt o₀)
+    second-sets : {first second : List ℕ} → first ≡ setsOf o₁ → second ≡ setsOf (round v d rt (placesIn first)) → second ≡ setsOf (settle v d rt o₀)
     second-sets e f = f ∙ ap (λ (g : Places). setsOf (round v d rt g)) (first-open e) ∙ settled-sets
 
-    pub settle-once : {first second : List ℕ} → first ≡ setsOf o₁ → second ≡ setsOf (round v d rt (placesOf first)) → sameSets ws first ≡ false
+    pub settle-once : {first second : List ℕ} → first ≡ setsOf o₁ → second ≡ setsOf (round v d rt (placesIn first)) → sameSets ws first ≡ false
         → sameSets first second ≡ true → Settles v d rt ws 1 second
     settle-once e f s t = record { rounds = one-strikes o₀ (struck₁ e ∙ ap not s) (struck₂ e f ∙ ap not t); sets = second-sets e f; still = λ z. absurd (suc-ne-zero 0 z) }
 
-    pub settle-again : {first second : List ℕ} → first ≡ setsOf o₁ → second ≡ setsOf (round v d rt (placesOf first)) → sameSets ws first ≡ false
+    pub settle-again : {first second : List ℕ} → first ≡ setsOf o₁ → second ≡ setsOf (round v d rt (placesIn first)) → sameSets ws first ≡ false
         → sameSets first second ≡ false → Settles v d rt ws 2 second
     settle-again e f s t = record { rounds = two-strike o₀ (struck₁ e ∙ ap not s) (struck₂ e f ∙ ap not t); sets = second-sets e f; still = λ z. absurd (suc-ne-zero 1 z) }

@@ -1,4 +1,2 @@
-pub mod Sets
 pub mod Round
-pub mod Ready
-pub mod Verdict
+pub mod Settles

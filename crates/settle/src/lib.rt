@@ -1,5 +1,4 @@
-// Settling and the verdict: which places stay, a round of settling, settling, who is owed, whether a state is alive.
+// Settling: which places stay, a round of settling, and rounds until one strikes nothing.
 pub mod places;
-pub mod round;
 pub mod settling;
-pub mod verdict;
+pub mod strike;

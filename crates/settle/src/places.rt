@@ -1,14 +1,13 @@
 // The tests of a place that read the route only: window and metres.
 ghost use mathlib.Core.Path.{_≡_};
 ghost use Prim.Native.Nat.{_+_, _<_};
-ghost use lib.ListN.{getD, take, length};
-ghost use Rattle.laws.specs.Table.{Filled};
+ghost use lib.ListN.{take, length};
 ghost use Rattle.rules.specs.Metres.{driven};
 ghost use Rattle.sheet.specs.Place.{Laid};
 ghost use Rattle.day.specs.Tell.{dayOf};
 ghost use Rattle.along.specs.Route.{Route};
 ghost use Rattle.along.specs.Walks.{struck};
-ghost use Rattle.settle.specs.Round.{windowFrom, fitsIn, fitsLeg, leftAt, mostAt, Sifted, PlaceAt, PlacesAt};
+ghost use Rattle.settle.specs.Round.{inWindow, fitsIn, fitsPlace, Tables, gapAt, GapIn, Sifted, PlacesAt};
 use along::times::in_time;
 use along::times::last_moment;
 use along::times::reach;
@@ -19,65 +18,84 @@ use day::look::service;
 use rules::Node;
 use sheet::Layout;
 
-// Window: x between p, which is left at `leave`, and k, which has to be started by `last`.
-fn window(s: &[u8], at: Layout, x: usize, p: usize, k: usize, leave: usize, last: i64) -> bool
-    requires { ⌜ Laid (now s) at × (x < at .nodes) × (p < at .nodes) × (k < at .nodes) × (leave < 2199023255552) ⌝ }
-    ensures { λ r. ⌜ r ≡ windowFrom (dayOf (now (s .entry))) x p k leave last ⌝ }
+// A gap of the route, into which a node is tried: its two stops, when the first is left, by when the second has to be started, how many metres
+// the route may have with the leg between them still counted, and how many it has.
+pub struct Gap {
+    pub from: usize,
+    pub to: usize,
+    pub leave: usize,
+    pub last: i64,
+    pub most: usize,
+    pub total: usize,
+}
+
+// A node that is tried at each of its places, on a route of so many metres.
+pub struct Trial {
+    pub node: usize,
+    pub places: u64,
+    pub total: usize,
+}
+
+// Window: x is started in time, and what follows it, too.
+fn window(s: &[u8], at: Layout, x: usize, gap: Gap) -> bool
+    requires { ⌜ Laid (now s) at × (x < at .nodes) × GapIn (at .nodes) gap ⌝ }
+    ensures { λ r. ⌜ r ≡ inWindow (dayOf (now (s .entry))) x gap ⌝ }
 {
-    let a = reach(s, at, leave, p, x);
+    let a = reach(s, at, gap.leave, gap.from, x);
     if !in_time(a, last_moment(s, at, x)) {
         return false;
     }
-    let b = a + service(s, at, x) + seconds(s, at, x, k);
-    in_time(b, last)
+    let b = a + service(s, at, x) + seconds(s, at, x, gap.to);
+    in_time(b, gap.last)
 }
 
-// Window, and metres: a route of `total` metres with x put in between p and k is to have at most `most`, in which the leg from p to k is counted.
-fn fits_in(
-    s: &[u8],
-    at: Layout,
-    x: usize,
-    p: usize,
-    k: usize,
-    leave: usize,
-    last: i64,
-    most: usize,
-    total: usize,
-) -> bool
-    requires { ⌜ Laid (now s) at × (x < at .nodes) × (p < at .nodes) × (k < at .nodes) × (leave < 2199023255552) × (total < 1099511627776) ⌝ }
-    ensures { λ r. ⌜ r ≡ fitsIn (dayOf (now (s .entry))) x p k leave last most total ⌝ }
+// Window, and metres: the route with x in the gap is not too long.
+fn fits_in(s: &[u8], at: Layout, x: usize, gap: Gap) -> bool
+    requires { ⌜ Laid (now s) at × (x < at .nodes) × GapIn (at .nodes) gap ⌝ }
+    ensures { λ r. ⌜ r ≡ fitsIn (dayOf (now (s .entry))) x gap ⌝ }
 {
-    if !window(s, at, x, p, k, leave, last) {
+    if !window(s, at, x, gap) {
         return false;
     }
-    total + metres(s, at, p, x) + metres(s, at, x, k) <= most
+    gap.total + metres(s, at, gap.from, x) + metres(s, at, x, gap.to) <= gap.most
 }
 
-// The word without the place p of x, in the leg i, where window or metres strike it.
-fn tried(
-    s: &[u8],
-    at: Layout,
-    word: u64,
-    x: usize,
+// The word without the place of x at the gap, where window or metres strike it.
+fn tried(s: &[u8], at: Layout, word: u64, x: usize, gap: Gap) -> u64
+    requires { ⌜ Laid (now s) at × (x < at .nodes) × GapIn (at .nodes) gap ⌝ }
+    ensures { λ r. ⌜ r ≡ struck word (gap .from) (fitsIn (dayOf (now (s .entry))) x gap) ⌝ }
+{
+    if fits_in(s, at, x, gap) {
+        word
+    } else {
+        bits::take(word, gap.from)
+    }
+}
+
+// The gap behind p, in the leg i.
+fn gap_at(
     p: usize,
     i: usize,
+    total: usize,
     route: &[usize; Node::MOST],
     leave: &[usize; Node::MOST],
     l: &[i64; Node::MOST],
     most: &[usize; Node::MOST],
-    total: usize,
-) -> u64
-    requires { ⌜ Laid (now s) at × (x < at .nodes) × PlaceAt (at .nodes) (now route) (now leave) p i × (total < 1099511627776) ⌝ }
-    ensures { λ r. ⌜ r ≡ struck word p (fitsLeg (dayOf (now (s .entry))) (now (route .entry)) (now (leave .entry)) (now (l .entry)) (now (most .entry)) total x p i) ⌝ }
+) -> Gap
+    requires { ⌜ i < 63 ⌝ }
+    ensures { λ r. ⌜ r ≡ gapAt (now (route .entry)) (now (leave .entry)) (now (l .entry)) (now (most .entry)) total p i ⌝ }
 {
-    let k = route[i + 1];
-    let t = leave[i];
+    let to = route[i + 1];
+    let left = leave[i];
     let last = l[i + 1];
     let m = most[i];
-    if fits_in(s, at, x, p, k, t, last, m, total) {
-        word
-    } else {
-        bits::take(word, p)
+    Gap {
+        from: p,
+        to: to,
+        leave: left,
+        last: last,
+        most: m,
+        total: total,
     }
 }
 
@@ -92,8 +110,10 @@ pub fn legs_of(
     leave: &mut [usize; Node::MOST],
     most: &mut [usize; Node::MOST],
 ) -> usize
-    requires { ⌜ Laid (now s) at × Route (at .nodes) (now route) (legs + 1) × (limit < 1099511627776) × (length (now leave) ≡ 64) × (length (now most) ≡ 64) ⌝ }
-    ensures { λ r. ⌜ Filled 64 (leftAt (dayOf (now (s .entry))) (now (route .entry))) 0 legs (now (leave .exit)) × Filled 64 (mostAt (dayOf (now (s .entry))) limit (now (route .entry))) 0 legs (now (most .exit)) × (r ≡ driven (dayOf (now (s .entry))) (take (legs + 1) (now (route .entry)))) × (r < 1099511627776) ⌝ }
+    requires { ⌜ Laid (now s) at × Route (at .nodes) (now route) (legs + 1) × (limit < 1099511627776) × (length (now leave) ≡ 64)
+        × (length (now most) ≡ 64) ⌝ }
+    ensures { λ r. ⌜ Tables (dayOf (now (s .entry))) limit (now (route .entry)) legs (now (leave .exit)) (now (most .exit))
+        × (r ≡ driven (dayOf (now (s .entry))) (take (legs + 1) (now (route .entry)))) × (r < 1099511627776) ⌝ }
 {
     let mut total = 0;
     let mut p = route[0];
@@ -113,28 +133,29 @@ pub fn legs_of(
     total
 }
 
-// The places of x that window and metres leave; `spots` has the leg of each.
+// The places of a node that window and metres leave; `spots` has the leg of each.
 pub fn stand(
     s: &[u8],
     at: Layout,
-    word: u64,
-    x: usize,
+    trial: Trial,
     route: &[usize; Node::MOST],
     spots: &[usize; Node::MOST],
     leave: &[usize; Node::MOST],
     l: &[i64; Node::MOST],
     most: &[usize; Node::MOST],
-    total: usize,
 ) -> u64
-    requires { ⌜ Laid (now s) at × (x < at .nodes) × PlacesAt (at .nodes) (now route) (now leave) (now spots) word × (total < 1099511627776) ⌝ }
-    ensures { λ r. ⌜ Sifted (λ p. fitsLeg (dayOf (now (s .entry))) (now (route .entry)) (now (leave .entry)) (now (l .entry)) (now (most .entry)) total x p (getD (now (spots .entry)) p 0)) word r ⌝ }
+    requires { ⌜ Laid (now s) at × (trial .node < at .nodes) × PlacesAt (at .nodes) (now route) (now leave) (now spots) (trial .places)
+        × (trial .total < 1099511627776) ⌝ }
+    ensures { λ r. ⌜ Sifted (fitsPlace (dayOf (now (s .entry))) (now (route .entry)) (now (spots .entry)) (now (leave .entry)) (now (l .entry))
+        (now (most .entry)) trial) (trial .places) r ⌝ }
 {
-    let mut w = word;
-    let mut left = word;
+    let mut w = trial.places;
+    let mut left = trial.places;
     while left != 0 {
         let p = bits::lowest(left);
         let i = spots[p];
-        w = tried(s, at, w, x, p, i, route, leave, l, most, total);
+        let gap = gap_at(p, i, trial.total, route, leave, l, most);
+        w = tried(s, at, w, trial.node, gap);
         left = bits::rest(left);
     }
     w

@@ -1,19 +1,18 @@
 // Settling: rounds until one strikes nothing. The rules have that two are enough, so the code makes two and counts those that struck.
 ghost use mathlib.Core.Path.{_≡_};
-ghost use Prim.Native.Nat.{ℕ, _-_, _<_, _≤_};
+ghost use mathlib.Core.Bool.{false};
+ghost use Prim.Native.Nat.{ℕ, _<_, _≤_};
 ghost use lib.ListN.{getD, length, take};
 ghost use lib.Dec.{eqb};
 ghost use Rattle.laws.specs.Below.{allBelow};
-ghost use Rattle.laws.specs.Table.{Filled};
-ghost use Rattle.rules.specs.Along.{loadAt};
-ghost use Rattle.rules.specs.Settle.{round};
 ghost use Rattle.day.specs.Tell.{dayOf};
 ghost use Rattle.along.specs.Spots.{Spots};
-ghost use Rattle.settle.specs.Sets.{placesOf, setsOf};
+ghost use Rattle.along.specs.Ready.{Ready};
 ghost use Rattle.settle.specs.Round.{Walked};
-ghost use Rattle.settle.specs.Ready.{Ready, Read, Settles};
-use crate::round::again;
-use crate::round::round;
+ghost use Rattle.settle.specs.Settles.{Read, Settles};
+use crate::strike::Pass;
+use crate::strike::round;
+use crate::strike::strike_jobs;
 use along::loads::loads;
 use along::spots::spots;
 use along::times::lasts;
@@ -51,67 +50,40 @@ fn none_open(sets: &[u64; Node::MOST]) -> bool
     all == 0
 }
 
-// Counts the round that has been made, which has left `new` of `old`, and makes the further one where it struck something.
-fn finish(
+// The rounds, with L, H and the spots at hand: the first, and the further one where it struck something. Counts those that struck.
+fn rounds(
     s: &[u8],
     at: Layout,
-    van: Van,
-    route: &[usize; Node::MOST],
-    stops: usize,
+    pass: Pass,
     old: &[u64; Node::MOST],
     new: &mut [u64; Node::MOST],
+    route: &[usize; Node::MOST],
+    spots: &[usize; Node::MOST],
+    l: &[i64; Node::MOST],
     heads: &[u64; Node::MOST],
     h: &[usize; Node::MOST],
-    highest: usize,
 ) -> usize
-    requires { ⌜ Ready (now s) at (now route) stops (now old) 0 × (now new ≡ setsOf (round van (dayOf (now s)) (take stops (now route)) (placesOf (now old)))) ⌝ }
-    requires { ⌜ Filled 64 (loadAt (dayOf (now s)) (take stops (now route))) 0 (stops - 1) (now h) × Walked (now route) (now heads) (now h) highest (stops - 1) 0 ⌝ }
-    ensures { λ r. ⌜ Settles van (dayOf (now (s .entry))) (take stops (now (route .entry))) (now (old .entry)) r (now (new .exit)) ⌝ }
+    requires { ⌜ Ready (now s) at (now route) (pass .stops) (now old) 0 × Read (dayOf (now s)) (now route) (pass .stops) (now l) (now h)
+        × (pass .van .limit < 1099511627776) ⌝ }
+    requires { ⌜ (now new ≡ now old) × Spots (now route) (pass .stops) (now spots) × Walked (now route) (now heads) (now h) pass 0
+        × (pass .again ≡ false) ⌝ }
+    ensures { λ r. ⌜ Settles (pass .van) (dayOf (now (s .entry))) (take (pass .stops) (now (route .entry))) (now (old .entry)) r (now (new .exit)) ⌝ }
 {
+    round(s, at, pass, old, new, route, spots, l, heads, h);
     let n = at.nodes;
     if same(old, new, n) {
         return 0;
     }
     let first = *new;
-    let legs = stops - 1;
-    again(
-        s,
-        at,
-        van.capacity,
-        &first,
-        new,
-        route,
-        heads,
-        h,
-        highest,
-        legs,
-    );
+    let van = pass.van;
+    let further = Pass {
+        van: van,
+        stops: pass.stops,
+        highest: pass.highest,
+        again: true,
+    };
+    strike_jobs(s, at, further, &first, new, route, heads, h);
     if same(&first, new, n) { 1 } else { 2 }
-}
-
-// The rounds, with L, H and the spots at hand.
-fn rounds(
-    s: &[u8],
-    at: Layout,
-    van: Van,
-    route: &[usize; Node::MOST],
-    stops: usize,
-    old: &[u64; Node::MOST],
-    new: &mut [u64; Node::MOST],
-    spots: &[usize; Node::MOST],
-    l: &[i64; Node::MOST],
-    h: &[usize; Node::MOST],
-) -> usize
-    requires { ⌜ Ready (now s) at (now route) stops (now old) 0 × Read (dayOf (now s)) (now route) stops (now l) (now h) × (van .limit < 1099511627776) ⌝ }
-    requires { ⌜ (now new ≡ now old) × Spots (now route) stops (now spots) ⌝ }
-    ensures { λ r. ⌜ Settles van (dayOf (now (s .entry))) (take stops (now (route .entry))) (now (old .entry)) r (now (new .exit)) ⌝ }
-{
-    let legs = stops - 1;
-    let mut head = [0u64; Node::MOST];
-    heads(route, legs, &mut head);
-    let most = highest(h, legs);
-    round(s, at, van, old, new, route, stops, spots, l, &head, h, most);
-    finish(s, at, van, route, stops, old, new, &head, h, most)
 }
 
 // Settles the sets of a state in form, of which `new` is a copy at first: the number of rounds that struck something. Where no node has a place,
@@ -137,5 +109,13 @@ pub fn settle(
     lasts(s, at, route, stops, &mut l);
     spots(route, stops, &mut spot);
     loads(s, at, route, stops, &spot, &mut h);
-    rounds(s, at, van, route, stops, old, new, &spot, &l, &h)
+    let mut head = [0u64; Node::MOST];
+    heads(route, stops - 1, &mut head);
+    let pass = Pass {
+        van: van,
+        stops: stops,
+        highest: highest(&h, stops - 1),
+        again: false,
+    };
+    rounds(s, at, pass, old, new, route, &spot, &l, &head, &h)
 }

@@ -32,30 +32,30 @@ element-copy-out-p c = search needs
 holds-requires : tie.Need-holds-requires Inv-loop μ-loop
 holds-requires c κs = let l = c .before .before .before .before in l .before .pre .nodes (l .loop .i - 1) (omega arith)
 
-sub-room : tie.Need-sub-room Inv-loop μ-loop
-sub-room c = search needs
+sub-has-room : tie.Need-sub-has-room Inv-loop μ-loop
+sub-has-room c = search needs
 
-mul-room : tie.Need-mul-room Inv-loop μ-loop
-mul-room c = search needs
+mul-has-room : tie.Need-mul-has-room Inv-loop μ-loop
+mul-has-room c = search needs
 
-element-copy-out-room : tie.Need-element-copy-out-room Inv-loop μ-loop
-element-copy-out-room c = search needs
+element-copy-out-has-room : tie.Need-element-copy-out-has-room Inv-loop μ-loop
+element-copy-out-has-room c = search needs
 
-add-room : tie.Need-add-room Inv-loop μ-loop
-add-room c =
-    let l = c .before .before .before .before .before .before .before in
+has-room-requires : tie.Need-has-room-requires Inv-loop μ-loop
+has-room-requires c κs =
+    let l = c .before .before .before .before .before .before in
     let g = l .before .pre in
-    omega (arith, g .low, g .loads (l .loop .i - 1) (omega arith))
+    (g .loads (l .loop .i - 1) (omega arith), g .low)
 
 returns : tie.Need-returns Inv-loop μ-loop
 returns c =
-    let m = c .before .before .before .before in
+    let m = c .before .before .before in
     let l = m .before .before .before .before .before in
     let a = l .before .args in
     record {
       high = omega arith;
       fails = l .loop .inv .1;
-      at = λ b. alights-is (a .route .now) (a .h .now) (a .ride) (l .loop .i) b (m .holds .ensures) (c .if1 .taken);
+      at = λ b. alights-is (a .route .now) (a .h .now) (a .ride) (l .loop .i) b (m .holds .ensures) (c .before .has-room .ensures) (c .if1 .taken);
     }
 
 sub-i : tie.Need-sub-i Inv-loop μ-loop
@@ -66,10 +66,10 @@ loop-less c = search needs
 
 loop-again : tie.Need-loop-again Inv-loop μ-loop
 loop-again c =
-    let m = c .before .before .before .before in
+    let m = c .before .before .before in
     let l = m .before .before .before .before .before in
     let a = l .before .args in
-    let e = alights-is (a .route .now) (a .h .now) (a .ride) (l .loop .i) (omega arith) (m .holds .ensures) (c .if1 .left) in
+    let e = alights-is (a .route .now) (a .h .now) (a .ride) (l .loop .i) (omega arith) (m .holds .ensures) (c .before .has-room .ensures) (c .if1 .left) in
     (omega arith, fails-down (l .loop .inv .1) e)
 
 returns-2 : tie.Need-returns-2 Inv-loop μ-loop
@@ -88,10 +88,10 @@ alights-spec =
     mul-p
     element-copy-out-p
     holds-requires
-    sub-room
-    mul-room
-    element-copy-out-room
-    add-room
+    sub-has-room
+    mul-has-room
+    element-copy-out-has-room
+    has-room-requires
     returns
     sub-i
     loop-less

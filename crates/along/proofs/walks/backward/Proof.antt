@@ -3,13 +3,13 @@ use native.Mathlib.Omega.{arith}
 use mathlib.Core.Path.{_≡_, _∙_, ap}
 use mathlib.Core.Logic.{⊎-elim}
 use Rattle.bits.specs.Places.{minus}
-use Rattle.along.specs.Walks.{downFlag}
-use Rattle.along.specs.Stretches.{Back, room, ahead, legs-under, legs-part, back-begin, back-through, back-turn, back-less}
+use Rattle.along.specs.Walks.{fitsAt, metAhead, downFlag}
+use Rattle.along.specs.Stretches.{Back, legs-under, legs-part, back-begin, back-through, back-turn, back-less}
 use Rattle.along.proofs.walks.backward.Statement.{statement}
 use Rattle.along.proofs.walks.backward.Tie as tie
 
 abbrev Inv-loop : tie.InvT-loop
-Inv-loop word route heads h highest legs ride w₀ i₀ w i = Back route (room h ride) (ahead route ride) (ride .through) legs word i w
+Inv-loop word route heads h highest legs ride w₀ i₀ w i = Back route (fitsAt h ride) (metAhead route ride) (ride .through) legs word i w
 
 abbrev μ-loop : tie.MeasureT-loop
 μ-loop word route heads h highest legs ride w₀ i₀ w i = i
@@ -55,8 +55,8 @@ loop-less : tie.Need-loop-less Inv-loop μ-loop
 loop-less c =
     let t = c .before .before .before .before .before .before in
     let a = t .before .before .before .before .args in
-    let f = room (a .h .now) (a .ride) in
-    let m = ahead (a .route .now) (a .ride) in
+    let f = fitsAt (a .h .now) (a .ride) in
+    let m = metAhead (a .route .now) (a .ride) in
     omega (arith, back-less f m (t .before .loop-test .taken) (t .alights .ensures) (c .fits-since2 .ensures))
 
 loop-again : tie.Need-loop-again Inv-loop μ-loop

@@ -23,28 +23,28 @@ element-copy-out-p c = search needs
 holds-requires : tie.Need-holds-requires Inv-loop μ-loop
 holds-requires c κs = let l = c .before .before .before in l .before .pre .0 .nodes (l .loop .i) (omega arith)
 
-mul-fits : tie.Need-mul-fits Inv-loop μ-loop
-mul-fits c = search needs
+mul-has-room : tie.Need-mul-has-room Inv-loop μ-loop
+mul-has-room c = search needs
 
-element-copy-out-fits : tie.Need-element-copy-out-fits Inv-loop μ-loop
-element-copy-out-fits c = search needs
+element-copy-out-has-room : tie.Need-element-copy-out-has-room Inv-loop μ-loop
+element-copy-out-has-room c = search needs
 
-add-fits : tie.Need-add-fits Inv-loop μ-loop
-add-fits c =
-    let l = c .before .before .before .before .before .before in
+has-room-requires : tie.Need-has-room-requires Inv-loop μ-loop
+has-room-requires c κs =
+    let l = c .before .before .before .before .before in
     let g = l .before .pre .0 in
-    omega (arith, g .low, g .loads (l .loop .i) (omega arith))
+    (g .loads (l .loop .i) (omega arith), g .low)
 
 returns : tie.Need-returns Inv-loop μ-loop
 returns c =
-    let m = c .before .before .before .before in
+    let m = c .before .before .before in
     let l = m .before .before .before .before in
     let a = l .before .args in
     record {
       low = omega arith;
       high = omega arith;
       fails = l .loop .inv .2;
-      at = λ b. boards-is (a .route .now) (a .h .now) (a .ride) (l .loop .i) (m .holds .ensures) (c .if1 .taken);
+      at = λ b. boards-is (a .route .now) (a .h .now) (a .ride) (l .loop .i) (m .holds .ensures) (c .before .has-room .ensures) (c .if1 .taken);
     }
 
 add-i : tie.Need-add-i Inv-loop μ-loop
@@ -55,10 +55,10 @@ loop-less c = search needs
 
 loop-again : tie.Need-loop-again Inv-loop μ-loop
 loop-again c =
-    let m = c .before .before .before .before in
+    let m = c .before .before .before in
     let l = m .before .before .before .before in
     let a = l .before .args in
-    let e = boards-is (a .route .now) (a .h .now) (a .ride) (l .loop .i) (m .holds .ensures) (c .if1 .left) in
+    let e = boards-is (a .route .now) (a .h .now) (a .ride) (l .loop .i) (m .holds .ensures) (c .before .has-room .ensures) (c .if1 .left) in
     (omega arith, omega arith, fails-up (l .loop .inv .2) e)
 
 returns-2 : tie.Need-returns-2 Inv-loop μ-loop
@@ -74,9 +74,9 @@ boards-spec =
     mul-p
     element-copy-out-p
     holds-requires
-    mul-fits
-    element-copy-out-fits
-    add-fits
+    mul-has-room
+    element-copy-out-has-room
+    has-room-requires
     returns
     add-i
     loop-less

@@ -4,13 +4,13 @@ use native.Mathlib.Omega.{arith}
 use mathlib.Core.Path.{_≡_, _∙_, ap}
 use mathlib.Core.Logic.{⊎-elim}
 use Rattle.bits.specs.Places.{minus}
-use Rattle.along.specs.Walks.{upFlag}
-use Rattle.along.specs.Stretches.{Forth, room, behind, legs-under, forth-begin, forth-through, forth-turn, forth-less}
+use Rattle.along.specs.Walks.{fitsAt, metBehind, upFlag}
+use Rattle.along.specs.Stretches.{Forth, legs-under, forth-begin, forth-through, forth-turn, forth-less}
 use Rattle.along.proofs.walks.forward.Statement.{statement}
 use Rattle.along.proofs.walks.forward.Tie as tie
 
 abbrev Inv-loop : tie.InvT-loop
-Inv-loop word route heads h highest legs ride w₀ i₀ w i = Forth route (room h ride) (behind route ride) (ride .through) legs word i w
+Inv-loop word route heads h highest legs ride w₀ i₀ w i = Forth route (fitsAt h ride) (metBehind route ride) (ride .through) legs word i w
 
 abbrev μ-loop : tie.MeasureT-loop
 μ-loop word route heads h highest legs ride w₀ i₀ w i = legs - i
@@ -54,8 +54,8 @@ loop-less : tie.Need-loop-less Inv-loop μ-loop
 loop-less c =
     let t = c .before .before .before .before .before .before in
     let a = t .before .before .before .before .args in
-    let f = room (a .h .now) (a .ride) in
-    let m = behind (a .route .now) (a .ride) in
+    let f = fitsAt (a .h .now) (a .ride) in
+    let m = metBehind (a .route .now) (a .ride) in
     omega (arith, forth-less f m (t .before .loop-test .taken) (t .boards .ensures) (c .fits-until2 .ensures))
 
 loop-again : tie.Need-loop-again Inv-loop μ-loop

@@ -1,6 +1,5 @@
 use Prim.Native.Nat.{_+_}
 use lib.Dec.{leb}
-use mir.Facts.{toZ-ofZ}
 use Rattle.settle.specs.Round.{fitsIn, first-fails, second-tells}
 use borrow.Author.Needs.{needs}
 use Rattle.settle.proofs.places.fits_in.Statement.{statement}
@@ -12,7 +11,7 @@ window-requires c κs = search needs
 returns : tie.Need-returns
 unfolding fitsIn
 returns c =
-    first-fails _ (rw (toZ-ofZ (c .before .before .before .fits .last)) at (c .before .window .ensures)) (c .if1 .taken)
+    first-fails _ (c .before .window .ensures) (c .if1 .taken)
 
 metres-requires : tie.Need-metres-requires
 metres-requires c κs = search needs
@@ -29,10 +28,10 @@ add-result-2 c = search needs
 returns-2 : tie.Need-returns-2
 unfolding fitsIn
 returns-2 c =
-    let b = c .before .before in
+    let b = c .before .before .before .before in
     let a = b .before .before .before .args in
-    second-tells (rw (toZ-ofZ (b .before .before .before .fits .last)) at (b .before .window .ensures)) (b .if1 .left)
-    (λ i. leb (a .total + c .before .metres .ensures .is i + c .metres2 .ensures .is i) (a .most))
+    second-tells (b .before .window .ensures) (b .if1 .left)
+    (λ i. leb (a .gap .total + c .before .before .before .metres .ensures .is i + c .before .metres2 .ensures .is i) (a .gap .most))
 
 pub fits-in-spec : {M : Type 1} → statement M
 fits-in-spec =

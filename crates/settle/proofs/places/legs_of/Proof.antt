@@ -125,7 +125,7 @@ returns c =
     let b = c .before .before .before .before .before in
     let e : c .before .loop .i ≡ b .args .legs = omega arith in
     let t = rw e at (v .3) in
-    (rw e at (v .4), rw e at (v .5), t, omega (arith, t, length-low (dayOf (b .args .s .now)) (low (b .args .s .now)) (b .args .route .now) (b .args .legs + 1) (b .pre .1 .most)))
+    (record { lefts = rw e at (v .4); mosts = rw e at (v .5) }, t, omega (arith, t, length-low (dayOf (b .args .s .now)) (low (b .args .s .now)) (b .args .route .now) (b .args .legs + 1) (b .pre .1 .most)))
 
 pub legs-of-spec : {M : Type 1} → statement M
 legs-of-spec =

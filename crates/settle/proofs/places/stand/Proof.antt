@@ -1,24 +1,24 @@
 use mathlib.Core.Path.{sym, ap, _∙_}
 use Prim.Native.Nat.{_^_, _<_}
 use native.Mathlib.Omega.{arith}
-use lib.ListN.{getD}
 use Rattle.bits.specs.Places.{without}
 use Rattle.bits.specs.Members.{without-fits}
 use Rattle.day.specs.Tell.{dayOf}
-use Rattle.settle.specs.Round.{fitsLeg, Sifting, sift-all, sift-next, sift-done, rest-less, least-place}
-use Rattle.settle.specs.Ready.{nodes-most}
+use Rattle.along.specs.Sets.{rest-less}
+use Rattle.along.specs.Ready.{nodes-most}
+use Rattle.settle.specs.Round.{fitsPlace, Sifting, sift-all, sift-next, sift-done, least-place}
 use Rattle.settle.proofs.places.stand.Statement.{statement}
 use Rattle.settle.proofs.places.stand.Tie as tie
 
 abbrev Inv-loop : tie.InvT-loop
-Inv-loop s at word x route spots leave l most total w₀ left₀ w left =
-    (left < 2 ^ 64) × Sifting (λ p. fitsLeg (dayOf s) route leave l most total x p (getD spots p 0)) word left w
+Inv-loop s at trial route spots leave l most w₀ left₀ w left =
+    (left < 2 ^ 64) × Sifting (fitsPlace (dayOf s) route spots leave l most trial) (trial .places) left w
 
 abbrev μ-loop : tie.MeasureT-loop
-μ-loop s at word x route spots leave l most total w₀ left₀ w left = left
+μ-loop s at trial route spots leave l most w₀ left₀ w left = left
 
 loop-holds : tie.Need-loop-holds Inv-loop μ-loop
-loop-holds c = (c .before .fits .word .fits, sift-all _ _)
+loop-holds c = (omega (arith, c .before .good .1 .1 .0), sift-all _ _)
 
 lowest-requires : tie.Need-lowest-requires Inv-loop μ-loop
 lowest-requires c κs = tt
@@ -33,28 +33,35 @@ element-copy-out-i c =
     let q = least-place (r .2) (v .1) (c .before .loop-test .taken) (v .0) (c .lowest .ensures .0) in
     omega (arith, q .node, nodes-most (r .0))
 
-tried-requires : tie.Need-tried-requires Inv-loop μ-loop
-tried-requires c κs =
+gap-at-requires : tie.Need-gap-at-requires Inv-loop μ-loop
+gap-at-requires c κs =
     let v = c .before .before .before .loop .inv in
     let r = c .before .before .before .before .before .pre in
-    let q = least-place (r .2) (v .1) (c .before .before .loop-test .taken) (v .0) (c .before .lowest .ensures .0) in
-    (r .0, r .1, q, r .3)
+    least-place (r .2) (v .1) (c .before .before .loop-test .taken) (v .0) (c .before .lowest .ensures .0) .few
+
+tried-requires : tie.Need-tried-requires Inv-loop μ-loop
+tried-requires c κs =
+    let v = c .before .before .before .before .loop .inv in
+    let r = c .before .before .before .before .before .before .pre in
+    let q = least-place (r .2) (v .1) (c .before .before .before .loop-test .taken) (v .0) (c .before .before .lowest .ensures .0) in
+    rw (c .gap-at .ensures) (r .0, r .1, record { from = q .node; to = q .next; leave = q .time; total = r .3 })
 
 rest-requires : tie.Need-rest-requires Inv-loop μ-loop
-rest-requires c κs = let z = c .before .before .before .loop-test .taken in omega arith
+rest-requires c κs = let z = c .before .before .before .before .loop-test .taken in omega arith
 
 loop-less : tie.Need-loop-less Inv-loop μ-loop
 loop-less c =
-    let l = c .before .before .before .before in
+    let l = c .before .before .before .before .before in
     let z = l .loop-test .taken in
     rw (c .rest .ensures) (rest-less (l .before .loop .left) (omega arith) (l .before .loop .inv .0))
 
 loop-again : tie.Need-loop-again Inv-loop μ-loop
 loop-again c =
-    let l = c .before .before .before in
+    let l = c .before .before .before .before in
     let v = l .before .before .loop .inv in
     let e = c .rest .ensures in
-    (rw e (without-fits _ _ (v .0)), sift-next _ (e ∙ ap (without _) (sym (l .lowest .ensures .0))) (c .before .tried .ensures) (v .1))
+    let f = rw (c .before .before .gap-at .ensures) at (c .before .tried .ensures) in
+    (rw e (without-fits _ _ (v .0)), sift-next _ (e ∙ ap (without _) (sym (l .lowest .ensures .0))) f (v .1))
 
 returns : tie.Need-returns Inv-loop μ-loop
 returns c = sift-done (omega (arith, c .loop-test .left)) (c .before .loop .inv .1)
@@ -69,6 +76,7 @@ stand-spec =
     lowest-requires
     mul-i
     element-copy-out-i
+    gap-at-requires
     tried-requires
     rest-requires
     loop-less

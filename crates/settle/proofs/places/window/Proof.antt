@@ -1,11 +1,13 @@
-use mathlib.Core.Path.{_∙_}
+use mathlib.Core.Path.{_≡_, ap, _∙_}
 use Prim.Native.Nat.{_+_}
 use lib.IntN.{pos}
 use lib.Signed.{leZ}
-use mir.Facts.{toZ-ofZ}
+use mir.Syntax.{w64}
+use mir.Val.{toZ, ofZ}
+use Rattle.rules.specs.Time.{inTime}
 use Rattle.day.specs.Tell.{dayOf}
 use Rattle.along.specs.Route.{low}
-use Rattle.along.proofs.Signed.{moment-kept}
+use Rattle.along.proofs.Signed.{in-time-told}
 use Rattle.settle.specs.Round.{first-fails, second-tells}
 use borrow.Author.Needs.{needs}
 use Rattle.settle.proofs.places.window.Statement.{statement}
@@ -23,8 +25,9 @@ in-time-requires c κs = search needs
 returns : tie.Need-returns
 returns c =
     let a = c .before .before .before .before .before .args in
-    let m = moment-kept (dayOf (a .s .now)) (low (a .s .now)) (a .x) (c .before .before .last-moment .ensures) in
-    first-fails _ (c .before .in-time .ensures ∙ (λ i. leZ (pos (c .before .before .before .reach .ensures .0 i)) (m i))) (c .if1 .taken)
+    let d = dayOf (a .s .now) in
+    let e = in-time-told d (low (a .s .now)) (a .x) _ (c .before .before .last-moment .ensures) (c .before .in-time .ensures) in
+    first-fails _ (e ∙ ap (inTime d (a .x)) (c .before .before .before .reach .ensures .0)) (c .if1 .taken)
 
 service-requires : tie.Need-service-requires
 service-requires c κs = search needs
@@ -43,13 +46,14 @@ in-time-requires-2 c κs = search needs
 
 returns-2 : tie.Need-returns-2
 returns-2 c =
-    let b = c .before .before .before in
+    let b = c .before .before .before .before in
     let a = b .before .before .before .before .before .args in
     let r = b .before .before .before .reach .ensures .0 in
-    let m = moment-kept (dayOf (a .s .now)) (low (a .s .now)) (a .x) (b .before .before .last-moment .ensures) in
-    let z = toZ-ofZ (b .before .before .before .before .before .fits .last) in
-    second-tells (b .before .in-time .ensures ∙ (λ i. leZ (pos (r i)) (m i))) (b .if1 .left)
-    (c .in-time2 .ensures ∙ (λ i. leZ (pos (r i + c .before .before .service .ensures .is i + c .before .seconds .ensures .is i)) (z i)))
+    let d = dayOf (a .s .now) in
+    let e = in-time-told d (low (a .s .now)) (a .x) _ (b .before .before .last-moment .ensures) (b .before .in-time .ensures) in
+    let z : toZ w64 (ofZ w64 (a .gap .last)) ≡ a .gap .last = search needs in
+    second-tells (e ∙ ap (inTime d (a .x)) r) (b .if1 .left)
+    (c .in-time2 .ensures ∙ (λ i. leZ (pos (r i + c .before .before .before .service .ensures .is i + c .before .before .seconds .ensures .is i)) (z i)))
 
 pub window-spec : {M : Type 1} → statement M
 window-spec =

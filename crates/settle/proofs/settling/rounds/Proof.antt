@@ -1,35 +1,63 @@
-use mathlib.Core.Path.{refl}
-use native.Mathlib.Omega.{arith}
-use Rattle.settle.proofs.Facts.{two-stops, near-nodes, legs}
+use mathlib.Core.Path.{sym, _∙_}
+use Rattle.along.specs.Ready.{nodes-most}
+use Rattle.along.proofs.Facts.{past-same}
+use Rattle.settle.specs.Round.{walked-further}
+use Rattle.settle.proofs.Again.{ready-first, ready-second, none-left, one-left, two-left}
 use Rattle.settle.proofs.settling.rounds.Statement.{statement}
 use Rattle.settle.proofs.settling.rounds.Tie as tie
 
-sub-legs : tie.Need-sub-legs
-sub-legs c = omega (arith, two-stops (c .before .pre .0 .0))
-
-heads-requires : tie.Need-heads-requires
-heads-requires c κs =
-    let r = c .before .before .pre .0 .0 in (r .long, refl, omega (arith, two-stops r, r .most), λ i h. near-nodes r i (omega arith))
-
-highest-requires : tie.Need-highest-requires
-highest-requires c κs = let p = c .before .before .before .pre .0 in (p .1 .loads .long, omega (arith, p .0 .most))
-
 round-requires : tie.Need-round-requires
-round-requires c κs =
-    let p = c .before .before .before .before .before .before .pre in
-    let w = c .before .before in
-    (p .0, (p .1 .0, p .1 .1, (legs (p .0 .0) (p .0 .1), w .before .heads .ensures, w .highest .ensures)))
+round-requires c κs = c .before .before .pre
 
-finish-requires : tie.Need-finish-requires
-finish-requires c κs =
-    let p = c .before .before .before .before .before .before .before .before .before .pre .0 in
-    let w = c .before .before .before .before .before in
-    ((p .0, c .before .before .round .ensures), (p .1 .loads, (legs (p .0) (p .1), w .before .heads .ensures, w .highest .ensures)))
+same-requires : tie.Need-same-requires
+same-requires c κs =
+    let b = c .before .before .before .before in
+    let r = b .pre .0 .0 in
+    let f = ready-first (b .args .pass .van) r (c .before .round .ensures) in
+    (r .sized, f .sized, nodes-most (r .laid), past-same r f)
 
 returns : tie.Need-returns
-returns c = c .finish .ensures
+returns c =
+    let o = c .before .before .before in
+    let b = o .before .before .before in
+    none-left (b .args .pass .van) (b .pre .0 .0) (o .round .ensures) (sym (c .before .same .ensures) ∙ c .if1 .taken)
+
+strike-jobs-requires : tie.Need-strike-jobs-requires
+strike-jobs-requires c κs =
+    let o = c .before .before .before .before .before .before .before in
+    let b = o .before .before .before in
+    let f = ready-first (b .args .pass .van) (b .pre .0 .0) (o .round .ensures) in
+    (f .laid, f .sized, f .sized, walked-further (b .pre .1 .2))
+
+same-requires-2 : tie.Need-same-requires-2
+same-requires-2 c κs =
+    let k = c .before .before in
+    let o = k .before .before .before .before .before .before .before .before in
+    let b = o .before .before .before in
+    let p = b .args .pass in
+    let f = ready-first (p .van) (b .pre .0 .0) (o .round .ensures) in
+    let g = ready-second p (b .pre .0 .0) (o .round .ensures) (b .pre .0 .1 .loads) (k .strike-jobs .ensures) in
+    (f .sized, g .sized, nodes-most (f .laid), past-same f g)
+
+returns-2 : tie.Need-returns-2
+returns-2 c =
+    let k = c .before .before .before .before in
+    let e = k .before .before .before .before .before in
+    let o = e .before .before .before in
+    let b = o .before .before .before in
+    one-left (b .args .pass) (b .pre .0 .0) (o .round .ensures) (b .pre .0 .1 .loads) (k .strike-jobs .ensures) (sym (e .before .same .ensures) ∙ e .if1 .left)
+    (sym (c .before .same2 .ensures) ∙ c .if2 .taken)
+
+returns-3 : tie.Need-returns-3
+returns-3 c =
+    let k = c .before .before .before .before in
+    let e = k .before .before .before .before .before in
+    let o = e .before .before .before in
+    let b = o .before .before .before in
+    two-left (b .args .pass) (b .pre .0 .0) (o .round .ensures) (b .pre .0 .1 .loads) (k .strike-jobs .ensures) (sym (e .before .same .ensures) ∙ e .if1 .left)
+    (sym (c .before .same2 .ensures) ∙ c .if2 .left)
 
 pub rounds-spec : {M : Type 1} → statement M
 rounds-spec =
     tie.close
-    (tie.spec sub-legs heads-requires highest-requires round-requires finish-requires returns)
+    (tie.spec round-requires same-requires returns strike-jobs-requires same-requires-2 returns-2 returns-3)
