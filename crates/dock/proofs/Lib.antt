@@ -1,2 +1,3 @@
--- Reach: what holds of a state that steps have led to from the fresh one.
+-- Reach: what holds of a state that steps have led to. Lines: the lines of a listing, step by step.
 pub mod Reach
+pub mod Lines

@@ -1,2 +1,3 @@
--- Line: what the program writes of a step.
+-- Line: the line of a step. Listing: the whole listing of a sheet.
 pub mod Line
+pub mod Listing

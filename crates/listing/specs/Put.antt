@@ -6,7 +6,7 @@ use native.Mathlib.Omega.{arith}
 use native.Mathlib.Nat.{add-zero}
 use native.Mathlib.Numerals.{add-one}
 use lib.ListN.{length, getD, set, take, length-append, length-take}
-use lib.Seq.{sets, length-sets, take-all, take-suc}
+use lib.Seq.{sets, sets-eq, length-sets, take-all, take-at, take-suc}
 
 -- the buffer after `text` was put at `at`, and the place after it
 pub record Put (before : List ℕ) (at : ℕ) (text : List ℕ) (next : ℕ) (after : List ℕ) : Type 0 where
@@ -46,3 +46,7 @@ put-whole b c text at i next h p = rw take-all at p
 
 pub put-length : {b c : List ℕ} {at i : ℕ} {t : List ℕ} → Put b at t i c → length c ≡ length b
 put-length {b} {c} {at} {i} {t} p = ap length (p .bytes) ∙ length-sets b at t
+
+-- a text put at the beginning is what the buffer then begins with
+pub put-first : {b c : List ℕ} {next : ℕ} {t : List ℕ} → Put b 0 t next c → next ≤ length b → take next c ≡ t
+put-first {b} {c} {next} {t} p h = rw (p .next-is, p .bytes ∙ sets-eq t b 0 (omega (arith, p .next-is))) (take-at t _ (0 + length t) (omega arith))

@@ -69,7 +69,8 @@ fn put_three(
     after: u8,
 ) -> usize
     requires { ⌜ at + length (now a) + length (now b) + length (now c) + 66 ≤ length (now out) ⌝ }
-    ensures { λ r. ⌜ Put (now (out .entry)) at (threeFields (now (a .entry)) (three .first) (now (b .entry)) (three .second) (now (c .entry)) (three .third) after) r (now (out .exit)) ⌝ }
+    ensures { λ r. ⌜ Put (now (out .entry)) at
+        (threeFields (now (a .entry)) (three .first) (now (b .entry)) (three .second) (now (c .entry)) (three .third) after) r (now (out .exit)) ⌝ }
 {
     let i = put_field(out, at, a, three.first, b' ');
     let j = put_field(out, i, b, three.second, b' ');
@@ -79,7 +80,8 @@ fn put_three(
 // The line of a step: its number from 1, refusal or 0, open places in all; records, striking rounds, 1 for alive.
 pub fn put_step(out: &mut [u8], at: usize, head: Three, tail: Three) -> usize
     requires { ⌜ at + 200 ≤ length (now out) ⌝ }
-    ensures { λ r. ⌜ Put (now (out .entry)) at (stepLine (head .first) (head .second) (head .third) (tail .first) (tail .second) (tail .third)) r (now (out .exit)) ⌝ }
+    ensures { λ r. ⌜ Put (now (out .entry)) at
+        (stepLine (head .first) (head .second) (head .third) (tail .first) (tail .second) (tail .third)) r (now (out .exit)) ⌝ }
 {
     let i = put_three(out, at, head, b"step", b"answer", b"open", b' ');
     put_three(out, i, tail, b"records", b"rounds", b"alive", b'\n')

@@ -2,98 +2,40 @@
 ghost use mathlib.Core.Path.{_≡_};
 ghost use Prim.Native.Nat.{_≤_, _<_};
 ghost use lib.ListN.{length};
-ghost use Rattle.sheet.specs.Section.{nOf};
-ghost use Rattle.sheet.specs.Place.{Laid};
-ghost use Rattle.board.specs.Fresh.{freshState};
-ghost use Rattle.day.specs.Refuse.{callRefusal};
-use board::Figures;
 use board::State;
 use board::places::count;
-use dock::put_lines;
+use dock::TEXT;
+use dock::TRAIL;
 use libc::STDIN_FILENO;
 use libc::STDOUT_FILENO;
 use listing::put_number;
-use listing::put_refused;
-use listing::put_route;
 use rules::Node;
-use sheet::Layout;
+use rules::Step;
 use std::num::wrapping_add_u64;
 
 fn wide(b: u8) -> u64 {
     b as u64
 }
 
-// The number of a text's bytes and their sum.
-fn weigh(text: &[u8]) -> u64 {
-    let mut sum = text.len() as u64;
+// The number of a text's bytes and their sum; the text is the first bytes of the buffer.
+fn weigh(out: &[u8], used: usize) -> u64
+    requires { ⌜ used ≤ length (now out) ⌝ }
+{
+    let mut sum = used as u64;
     let mut i = 0;
-    while i < text.len() {
-        sum = wrapping_add_u64(sum, wide(text[i]));
+    while i < used {
+        sum = wrapping_add_u64(sum, wide(out[i]));
         i += 1;
     }
     sum
 }
 
-// A line's text must find room: a text that long does not come.
-fn room(used: usize) -> usize
-    ensures { λ r. ⌜ r ≤ 230000 ⌝ }
-{
-    if used <= 230000 { used } else { 0 }
-}
-
-// The lines of the steps and the route, into memory.
-fn run(sheet: &[u8], at: Layout, fresh: State, trail: &mut [u64], out: &mut [u8]) -> usize
-    requires { ⌜ (callRefusal (now sheet) ≡ 0) × Laid (now sheet) at × (length (now out) ≡ 240000) × (fresh ≡ freshState (nOf (now sheet))) ⌝ }
-{
-    let mut route = fresh.route;
-    let mut sets = fresh.sets;
-    let mut levels = fresh.levels;
-    let f = Figures {
-        stops: fresh.stops,
-        marks: fresh.marks,
-        depth: fresh.depth,
-        records: fresh.records,
-    };
-    let p = put_lines(
-        sheet,
-        at,
-        0,
-        &mut route,
-        &mut sets,
-        &mut levels,
-        f,
-        trail,
-        out,
-        0,
-    );
-    let after = p.after;
-    put_route(out, room(p.used), &route, after.stops)
-}
-
-fn list(sheet: &[u8], trail: &mut [u64], out: &mut [u8]) -> usize
-    requires { ⌜ length (now out) ≡ 240000 ⌝ }
-{
-    let opened = planner::open(sheet);
-    if opened.answer != 0 {
-        return put_refused(out, 0, opened.answer as u64);
-    }
-    let at = sheet::layout_of(sheet);
-    run(sheet, at, opened.state, trail, out)
-}
-
-fn weigh_first(out: &[u8], used: usize) -> u64 {
-    if out.len() < used {
-        return 0;
-    }
-    weigh(&out[..used])
-}
-
 // Operation 7: the listing, weighed.
 fn listing_of(sheet: &[u8], trail: &mut [u64], out: &mut [u8]) -> u64
-    requires { ⌜ length (now out) ≡ 240000 ⌝ }
+    requires { ⌜ length (now out) ≡ 401350 ⌝ }
 {
-    let used = list(sheet, trail, out);
-    weigh_first(out, used)
+    let used = dock::list(sheet, trail, out);
+    weigh(out, used)
 }
 
 // One step: the sum of what it gives.
@@ -126,7 +68,7 @@ fn ask(operation: usize, sheet: &[u8], state: State, trail: &mut [u64], half: us
             let opened = o.state;
             wrapping_add_u64(o.answer as u64, opened.stops as u64)
         },
-        2 => one_step(sheet, state, trail, 1, half - 2, half - 1),
+        2 => one_step(sheet, state, trail, Step::PLACE, half - 2, half - 1),
         6 => {
             let v = planner::verdict(sheet, state);
             wrapping_add_u64(v.answer as u64, one_if(v.alive))
@@ -135,7 +77,7 @@ fn ask(operation: usize, sheet: &[u8], state: State, trail: &mut [u64], half: us
             let p = planner::open_places(sheet, state);
             wrapping_add_u64(p.answer as u64, p.places as u64)
         },
-        _ => one_step(sheet, state, trail, 5, 0, 0),
+        _ => one_step(sheet, state, trail, Step::SETTLE, 0, 0),
     }
 }
 
@@ -144,7 +86,7 @@ fn build(sheet: &[u8], fresh: State, trail: &mut [u64], stops: usize) -> State {
     let mut state = fresh;
     let mut x = 1;
     while x < stops {
-        let s = planner::step(sheet, state, trail, 1, x - 1, x);
+        let s = planner::step(sheet, state, trail, Step::PLACE, x - 1, x);
         state = s.state;
         x += 1;
     }
@@ -157,27 +99,27 @@ fn set_byte(sheet: &mut [u8], at: usize, b: u8) {
     }
 }
 
-// A number below 1,000 into the low half of the word at a place of the sheet.
+// A number below 1,000 into the low half of the word at a place of the sheet; nothing at place 0.
 fn mark(sheet: &mut [u8], spot: usize, v: usize)
     requires { ⌜ (spot ≤ 300000) × (v < 1000) ⌝ }
 {
+    if spot == 0 {
+        return;
+    }
     set_byte(sheet, spot, (v % 256) as u8);
     set_byte(sheet, spot + 1, (v / 256) as u8);
 }
 
-// Where seconds(0, 0) stands: the word after the count of section 4.
+// Where seconds(0, 0) stands, or 0 for a sheet that is refused.
 fn diagonal(sheet: &[u8]) -> usize
     ensures { λ r. ⌜ r ≤ 300000 ⌝ }
 {
-    let a = planner::section(sheet, 2);
-    let b = planner::section(sheet, 3);
-    if 100000 < a.len() {
+    let found = day::checked(sheet);
+    if found.answer != 0 {
         return 0;
     }
-    if 100000 < b.len() {
-        return 0;
-    }
-    24 + a.len() + b.len()
+    let at = found.layout;
+    4 * at.seconds
 }
 
 // The sum over all times, of one of the operations 1 to 6 and 8.
@@ -204,7 +146,7 @@ fn repeat(
 
 // The same of operation 7.
 fn repeat_listing(count: usize, sheet: &mut [u8], trail: &mut [u64], out: &mut [u8]) -> u64
-    requires { ⌜ length (now out) ≡ 240000 ⌝ }
+    requires { ⌜ length (now out) ≡ 401350 ⌝ }
 {
     let spot = diagonal(sheet);
     let mut sum: u64 = 0;
@@ -276,10 +218,10 @@ fn cannot(operation: usize, refusal: usize) -> bool {
 
 // One operation on a sheet; the listing alone for operation 0.
 fn measure(operation: usize, count: usize, sheet: &mut [u8]) {
-    let mut trail = [0u64; 7936];
-    let mut out = [0u8; 240000];
+    let mut trail = [0u64; TRAIL];
+    let mut out = [0u8; TEXT];
     if operation == 0 {
-        let used = list(sheet, &mut trail, &mut out);
+        let used = dock::list(sheet, &mut trail, &mut out);
         write(&out, used);
         return;
     }
@@ -292,7 +234,9 @@ fn measure(operation: usize, count: usize, sheet: &mut [u8]) {
         tell(repeat_listing(count, sheet, &mut trail, &mut out));
         return;
     }
-    let n = planner::section(sheet, 2).len() / 12;
+    let found = day::checked(sheet);
+    let at = found.layout;
+    let n = at.nodes;
     let state = start(operation, sheet, opened.state, &mut trail, n);
     tell(repeat(operation, count, sheet, state, half_of(n), &mut trail));
 }

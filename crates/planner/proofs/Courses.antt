@@ -9,19 +9,20 @@ use Rattle.sheet.specs.Section.{nOf}
 use Rattle.day.specs.Refuse.{callRefusal, call-fine}
 use Rattle.board.specs.Board.{Board, boardOf}
 use Rattle.board.specs.FormLaws as board
-use Rattle.board.specs.Fresh.{freshState}
 use Rattle.board.specs.Held.{Held, Words}
 use Rattle.board.specs.declared.State.{State}
 use Rattle.trail.specs.Trail.{roomOf}
 use Rattle.trail.specs.Steps as trail
 use Rattle.trail.specs.Run as run
+use Rattle.rules.specs.Refusal as Refusal
 use Rattle.trail.specs.Since.{Since, accepted, move-since}
 use Rattle.trail.specs.StepBack.{here-since, step-back, step-back-below}
 use Rattle.trail.specs.Bound.{reached, records-bound}
-use Rattle.planner.specs.Face.{Ran, stepped, actOf, stepRefusal}
+use Rattle.rules.specs.Step.{LEVEL, BACK}
+use Rattle.planner.specs.Face.{freshOf, actOf, stepRefusal}
 use Rattle.planner.specs.Promises.{Took, Steps, none, then, StepsBack, RecordsBounded}
 use Rattle.planner.proofs.Answers.{Called, acting, call-yes, call-made}
-use Rattle.planner.proofs.Moves.{moved, unlift}
+use Rattle.planner.proofs.Moves.{moved}
 use Rattle.planner.proofs.Kept.{form-made}
 
 -- steps since a level, as the trail has them
@@ -50,21 +51,21 @@ module _ (sheet : List ℕ) (s : State) (t : List ℕ) (held : Held s) (c : Call
   pub here : Since (nOf sheet) (boardOf s) (s .records) (s .depth) (s .levels) t s t
   here = here-since (nOf sheet) s t small held form room
 
-opened : (s s₁ : State) (t t₁ : List ℕ) → trail.levelStep s t ≡ trail.answered 0 s₁ t₁ → s₁ .depth ≡ s .depth + 1
+opened : {k : ℕ} (s s₁ : State) (t t₁ : List ℕ) → trail.levelStep s t ≡ trail.acted 0 k s₁ t₁ → s₁ .depth ≡ s .depth + 1
 unfolding trail.levelStep
-opened s s₁ t t₁ e = sym (ap (λ (r : trail.Ran). r .0 .state .depth) (accepted (unless (ltb (s .depth) 64) 18) s t _ s₁ t₁ e .1))
+opened s s₁ t t₁ e = sym (ap (λ (r : trail.Ran). r .0 .state .depth) (accepted (unless (ltb (s .depth) 64) Refusal.LEVEL) s t _ s₁ t₁ e .1))
 
-acted-level : (sheet : List ℕ) (s s₁ : State) (t t₁ : List ℕ) (a b k : ℕ) → Took sheet s t 6 a b k s₁ t₁ → trail.levelStep s t ≡ trail.answered 0 s₁ t₁
+acted-level : (sheet : List ℕ) (s s₁ : State) (t t₁ : List ℕ) (a b k : ℕ) → Took sheet s t LEVEL a b k s₁ t₁ → trail.levelStep s t ≡ trail.acted 0 k s₁ t₁
 unfolding actOf
-acted-level sheet s s₁ t t₁ a b k e = unlift 0 (trail.levelStep s t) (acting sheet s t 6 a b e .1)
+acted-level sheet s s₁ t t₁ a b k e = acting sheet s t LEVEL a b e .1
 
-took-back : (sheet : List ℕ) (s s′ : State) (t : List ℕ) (a b : ℕ) → stepRefusal sheet s t ≡ 0 → trail.backStep (nOf sheet) s t ≡ trail.answered 0 s′ t → Took sheet s t 7 a b 0 s′ t
+took-back : (sheet : List ℕ) (s s′ : State) (t : List ℕ) (a b : ℕ) → stepRefusal sheet s t ≡ 0 → trail.backStep (nOf sheet) s t ≡ trail.answered 0 s′ t → Took sheet s t BACK a b 0 s′ t
 unfolding actOf
-took-back sheet s s′ t a b z e = call-yes sheet s t 7 a b z ∙ ap (stepped 0) e
+took-back sheet s s′ t a b z e = call-yes sheet s t BACK a b z ∙ e
 
 pub steps-back : StepsBack
 steps-back sheet s s₁ s₂ t t₁ t₂ a b k c d held e steps last =
-    let u = acting sheet s t 6 a b e .0 in
+    let u = acting sheet s t LEVEL a b e .0 in
     let n = nOf sheet in
     let open-level = acted-level sheet s s₁ t t₁ a b k e in
     let up = opened s s₁ t t₁ open-level in
@@ -80,7 +81,7 @@ steps-back sheet s s₁ s₂ t t₁ t₂ a b k c d held e steps last =
 
 -- ---- from a fresh state
 
-pub steps-runs : (sheet : List ℕ) {m : ℕ} {s : State} {t t′ : List ℕ} → callRefusal sheet ≡ 0 → Steps sheet m (freshState (nOf sheet)) t s t′ → run.Runs (nOf sheet) (freshState (nOf sheet)) t s t′
+pub steps-runs : (sheet : List ℕ) {m : ℕ} {s : State} {t t′ : List ℕ} → callRefusal sheet ≡ 0 → Steps sheet m (freshOf sheet) t s t′ → run.Runs (nOf sheet) (freshOf sheet) t s t′
 steps-runs sheet z none = run.none
 steps-runs sheet {t = t} z (then {s′ = q} {t′ = v} kind a c j p e deep) =
     let i = steps-runs sheet z p in

@@ -1,4 +1,4 @@
--- A sheet that 1 to 4 do not refuse and a state in form are what the steps, settling and the verdict ask.
+-- A sheet that no call refuses and a state in form are what the steps, settling and the verdict ask.
 use Prim.Native.Nat.{ℕ}
 use mathlib.Core.Path.{_≡_, sym, ap, subst, _∙_}
 use mathlib.Core.Bool.{true}
@@ -20,12 +20,13 @@ use Rattle.board.specs.Form.{inForm, formWith}
 use Rattle.board.specs.FormLaws.{Formed, Sound, in-form}
 use Rattle.board.specs.Held.{Held}
 use Rattle.board.specs.declared.State.{State}
-use Rattle.settle.specs.Sets.{placesOf, length-sets}
-use Rattle.settle.specs.Ready.{Ready, Settles, nodes-most}
+use Rattle.along.specs.Sets.{placesIn, length-sets}
+use Rattle.along.specs.Ready.{Ready, nodes-most}
+use Rattle.settle.specs.Settles.{Settles}
 use Rattle.settle.proofs.Facts.{settled-open}
 use Rattle.planner.proofs.Plans.{state-formed}
 
--- a sheet that 1 to 4 do not refuse and a state in form; the plan of its arrays is the plan that its board stands for
+-- a sheet that no call refuses and a state in form; the plan of its arrays is the plan that its board stands for
 pub ready : {sheet : List ℕ} {at : Layout} (s : State) → callRefusal sheet ≡ 0 → Laid sheet at → Held s → inForm (nOf sheet) s ≡ true
     → Ready sheet at (s .route) (s .stops) (s .sets) (s .marks)
 unfolding routeOf openAt setOf
@@ -49,7 +50,7 @@ ready-settled v r p = record {
   long = r .long;
   sized = ap length (p .sets) ∙ length-sets _;
   most = r .most;
-  form = fewer-formed (λ x q t. settle-less v _ _ _ x q (subst (λ (o : Places). T (o x q)) (ap placesOf (p .sets) ∙ settled-open v r) t)) (r .form);
+  form = fewer-formed (λ x q t. settle-less v _ _ _ x q (subst (λ (o : Places). T (o x q)) (ap placesIn (p .sets) ∙ settled-open v r) t)) (r .form);
 }
 
 -- what the steps ask of the board

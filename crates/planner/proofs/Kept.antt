@@ -34,6 +34,7 @@ use Rattle.board.specs.Held.{Held}
 use Rattle.board.specs.declared.State.{State}
 use Rattle.trail.specs.Trail.{roomOf}
 use Rattle.trail.specs.StepBack.{move-keeps}
+use Rattle.rules.specs.Step.{PLACE, SETTLE}
 use Rattle.planner.specs.Face.{planIn, actOf, stepOf, countOf, judgeOf}
 use Rattle.planner.specs.Promises.{FormKept, PlacingKeeps, ClosingKeeps, ExcludingKeeps, RequiringKeeps, SettlingStrikes, SettlingLosesNone, NoGapAlive, DeadNone}
 use Rattle.planner.specs.declared.Counted.{Counted}
@@ -57,9 +58,9 @@ form-kept sheet s s′ t t′ kind a b k held wordy e =
     let m = move-keeps (nOf sheet) s t s′ t′ small held f (board.form-with (nOf sheet) s (roomOf t) (c .room) .1) wordy (moved sheet s t kind a b held e) in
     (form-made (nOf sheet) s′ (roomOf t′) (board.in-form-of (nOf sheet) s′ small (m .held .wide) (m .form)) (m .room), m .held, m .long)
 
--- a step on a sheet that 1 to 4 do not refuse and a state in form acts
+-- a step on a sheet that no call refuses and a state in form acts
 pub step-acts : (sheet : List ℕ) (s : State) (t : List ℕ) (kind a b : ℕ) → callRefusal sheet ≡ 0 → formWith (nOf sheet) s (roomOf t) ≡ true
-    → stepOf sheet s t kind a b ≡ actOf sheet s t kind a b
+    → stepOf sheet s t kind a b ≡ actOf (vanOf sheet) (dayOf sheet) s t kind a b
 step-acts sheet s t kind a b z e = call-yes sheet s t kind a b (call-made sheet s t z e)
 
 -- ---- demand 2: the rounds that each step keeps
@@ -68,7 +69,7 @@ pub placing-keeps : PlacingKeeps
 placing-keeps sheet s s′ t t′ p x k held e R =
     let u = placed-plan sheet s t held p x e in
     subst (λ (a : Plan). Belongs (dayOf sheet) a R ↔ (Belongs (dayOf sheet) (planIn s) R × T (step.uses p x (planIn s .route) R))) (sym (u .0))
-    (placed-rounds (dayOf sheet) (planIn s) R p x (plan-formed held (acting sheet s t 1 p x e .0)) (u .1))
+    (placed-rounds (dayOf sheet) (planIn s) R p x (plan-formed held (acting sheet s t PLACE p x e .0)) (u .1))
 
 pub closing-keeps : ClosingKeeps
 closing-keeps sheet s s′ t t′ p x k held e R =
@@ -86,7 +87,7 @@ requiring-keeps sheet s s′ t t′ x b k held e R =
 
 pub settling-strikes : SettlingStrikes
 settling-strikes sheet s s′ t t′ a b k held e =
-    let c = acting sheet s t 5 a b e .0 in
+    let c = acting sheet s t SETTLE a b e .0 in
     let u = settled-plan sheet s t held a b e in
     (u .0, u .1, rw (u .1) (at-most-two (vanOf sheet) (dayOf sheet) (one-end sheet (c .read)) (planIn s .route) (plan-formed held c .nodes) (planIn s .places)))
 

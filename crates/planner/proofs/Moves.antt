@@ -18,55 +18,55 @@ use Rattle.rules.proofs.Fixpoint.{settle-less}
 use Rattle.board.specs.Board.{setOf, openAt}
 use Rattle.board.specs.Held.{Held}
 use Rattle.board.specs.declared.State.{State}
-use Rattle.trail.specs.Steps as trail
+use Rattle.trail.specs.Steps.{Ran, acted}
+use Rattle.rules.specs.Refusal.{KIND}
 use Rattle.trail.specs.Run as run
-use Rattle.settle.specs.Sets.{wordOf, setsOf, length-sets, places-sets}
-use Rattle.planner.specs.Face.{Ran, planIn, acted, stepped, actOf, owedOf, settledSets, settlingRounds}
+use Rattle.along.specs.Sets.{wordFrom, setsOf, length-sets, places-sets}
+use Rattle.rules.specs.Step.{PLACE, CLOSE, EXCLUDE, REQUIRE, SETTLE, LEVEL, BACK}
+use Rattle.planner.specs.Face.{planIn, actOf, owedOf, settledSets, settlingRounds}
 use Rattle.planner.specs.Promises.{Took}
 use Rattle.planner.proofs.Answers.{Called, acting, either}
 use Rattle.planner.proofs.Plans.{places-small}
 
 -- ---- the sets that settling leaves are smaller, and words
 
-word-fits : (k : ℕ) (f : ℕ → Bool) → wordOf k f < 2 ^ 64
-unfolding wordOf
+word-fits : (k : ℕ) (f : ℕ → Bool) → wordFrom k f < 2 ^ 64
+unfolding wordFrom
 word-fits zero f = omega arith
 word-fits (suc k) f = go (f k) (word-fits k f)
   where
-    go : (b : Bool) → wordOf k f < 2 ^ 64 → cond b (with (wordOf k f) k) (wordOf k f) < 2 ^ 64
-    go true h = with-fits (wordOf k f) k h
+    go : (b : Bool) → wordFrom k f < 2 ^ 64 → cond b (with (wordFrom k f) k) (wordFrom k f) < 2 ^ 64
+    go true h = with-fits (wordFrom k f) k h
     go false h = h
 
 module _ (sheet : List ℕ) (s : State) (t : List ℕ) (held : Held s) (c : Called sheet s t) where
-  left : (y p : ℕ) → has (getD (settledSets sheet s) y 0) p ≡ settle (vanOf sheet) (dayOf sheet) (planIn s .route) (planIn s .places) y p
+  left : (y p : ℕ) → has (getD (settledSets (vanOf sheet) (dayOf sheet) s) y 0) p ≡ settle (vanOf sheet) (dayOf sheet) (planIn s .route) (planIn s .places) y p
   left = places-sets (settle (vanOf sheet) (dayOf sheet) (planIn s .route) (planIn s .places)) (places-small sheet s t held c)
 
-  pub settled-smaller : run.Smaller (s .sets) (settledSets sheet s)
+  pub settled-smaller : run.Smaller (s .sets) (settledSets (vanOf sheet) (dayOf sheet) s)
   unfolding setsOf openAt setOf
   settled-smaller = record {
     long = length-sets (settle (vanOf sheet) (dayOf sheet) (planIn s .route) (planIn s .places));
-    part = λ y l. within-make (getD (settledSets sheet s) y 0) (getD (s .sets) y 0) (λ p m h. T→true _ (settle-less (vanOf sheet) (dayOf sheet) (planIn s .route) (planIn s .places) y p (true→T _ (sym (left y p) ∙ h))));
-    word = λ y l. rw (getD-tab 64 (λ x. wordOf 64 (settle (vanOf sheet) (dayOf sheet) (planIn s .route) (planIn s .places) x)) 0 y l) (word-fits 64 _);
+    part = λ y l. within-make (getD (settledSets (vanOf sheet) (dayOf sheet) s) y 0) (getD (s .sets) y 0) (λ p m h. T→true _ (settle-less (vanOf sheet) (dayOf sheet) (planIn s .route) (planIn s .places) y p (true→T _ (sym (left y p) ∙ h))));
+    word = λ y l. rw (getD-tab 64 (λ x. wordFrom 64 (settle (vanOf sheet) (dayOf sheet) (planIn s .route) (planIn s .places) x)) 0 y l) (word-fits 64 _);
   }
 
 -- ---- an accepted step is a move
 
-pub unlift : (j : ℕ) (ran : trail.Ran) {k : ℕ} {s′ : State} {t′ : List ℕ} → stepped j ran ≡ acted 0 k s′ t′ → ran ≡ trail.answered 0 s′ t′
-unlift j ran e = λ i. (record { answer = e i .0 .answer; state = e i .0 .state }, e i .1)
+abbrev Moves : ℕ → State → List ℕ → Ran → Type 0
+Moves n s t r = (k : ℕ) (s′ : State) (t′ : List ℕ) → r ≡ acted 0 k s′ t′ → run.Move n s t s′ t′
 
-abbrev Moves : List ℕ → State → List ℕ → Ran → Type 0
-Moves sheet s t r = (k : ℕ) (s′ : State) (t′ : List ℕ) → r ≡ acted 0 k s′ t′ → run.Move (nOf sheet) s t s′ t′
-
-act-moves : (sheet : List ℕ) (s : State) (t : List ℕ) (kind a b : ℕ) → Held s → Called sheet s t → Moves sheet s t (actOf sheet s t kind a b)
+act-moves : (sheet : List ℕ) (s : State) (t : List ℕ) (kind a b : ℕ) → Held s → Called sheet s t → Moves (nOf sheet) s t (actOf (vanOf sheet) (dayOf sheet) s t kind a b)
 unfolding actOf
 act-moves sheet s t kind a b held c =
-    either (Moves sheet s t) (eqb kind 1) (λ k s′ t′ e. run.place a b (unlift 0 _ e))
-    (either (Moves sheet s t) (eqb kind 2) (λ k s′ t′ e. run.close a b (unlift 0 _ e))
-    (either (Moves sheet s t) (eqb kind 3) (λ k s′ t′ e. run.exclude (owedOf sheet s a) a (unlift 0 _ e))
-    (either (Moves sheet s t) (eqb kind 4) (λ k s′ t′ e. run.require a (unlift 0 _ e))
-    (either (Moves sheet s t) (eqb kind 5) (λ k s′ t′ e. run.settle (settledSets sheet s) (settled-smaller sheet s t held c) (unlift (settlingRounds sheet s) _ e))
-    (either (Moves sheet s t) (eqb kind 6) (λ k s′ t′ e. run.level (unlift 0 _ e))
-    (either (Moves sheet s t) (eqb kind 7) (λ k s′ t′ e. run.back (unlift 0 _ e)) (λ k s′ t′ e. absurd (eqb-false 11 0 refl (ap (λ (r : Ran). r .0 .answer) e)))))))))
+    let n = nOf sheet in
+    either (Moves n s t) (eqb kind PLACE) (λ k s′ t′. run.place a b)
+    (either (Moves n s t) (eqb kind CLOSE) (λ k s′ t′. run.close a b)
+    (either (Moves n s t) (eqb kind EXCLUDE) (λ k s′ t′. run.exclude (owedOf (dayOf sheet) s a) a)
+    (either (Moves n s t) (eqb kind REQUIRE) (λ k s′ t′. run.require a)
+    (either (Moves n s t) (eqb kind SETTLE) (λ k s′ t′. run.settle (settlingRounds (vanOf sheet) (dayOf sheet) s) (settledSets (vanOf sheet) (dayOf sheet) s) (settled-smaller sheet s t held c))
+    (either (Moves n s t) (eqb kind LEVEL) (λ k s′ t′. run.level)
+    (either (Moves n s t) (eqb kind BACK) (λ k s′ t′. run.back) (λ k s′ t′ e. absurd (eqb-false KIND 0 refl (ap (λ (r : Ran). r .0 .answer) e)))))))))
 
 pub moved : (sheet : List ℕ) (s : State) (t : List ℕ) (kind a b : ℕ) {k : ℕ} {s′ : State} {t′ : List ℕ} → Held s → Took sheet s t kind a b k s′ t′ → run.Move (nOf sheet) s t s′ t′
 moved sheet s t kind a b held e = let u = acting sheet s t kind a b e in act-moves sheet s t kind a b held (u .0) _ _ _ (u .1)

@@ -1,5 +1,5 @@
--- From a fresh state with room for n(n − 2) records, 17, 19 and 20 are never met.
-use Prim.Native.Nat.{ℕ, suc, _+_, _-_, _*_, _≤_, _<_}
+-- From a fresh state with room for n(n − 2) records no step is refused for its room, its form or a misfit.
+use Prim.Native.Nat.{ℕ, _+_, _-_, _*_, _≤_, _<_}
 use mathlib.Core.Path.{_≡_, refl, sym, ap, _∙_}
 use mathlib.Core.Bool.{Bool, true, false, not, _&&_, _||_}
 use mathlib.Core.List.{List}
@@ -7,22 +7,26 @@ use native.Mathlib.Omega.{arith}
 use lib.Dec.{eqb, leb, ltb}
 use borrow.Author.Tests.{eqb-true, eqb-false, ltb-true}
 use Rattle.laws.specs.Logic.{decided}
-use Rattle.laws.specs.Choice.{orElse, unless}
+use Rattle.laws.specs.Choice.{orElse, unless, or-else-first}
+use Rattle.rules.specs.Day.{isInner}
 use Rattle.sheet.specs.Section.{nOf}
 use Rattle.day.specs.Refuse.{callRefusal, call-fine}
+use Rattle.day.specs.Tell.{dayOf, vanOf}
 use Rattle.bits.specs.Places.{has}
-use Rattle.board.specs.Board.{Board, boardOf, setOf, openAt, onRoute, inner, legNode}
-use Rattle.board.specs.Fresh.{freshState}
+use Rattle.board.specs.Board.{Board, boardOf, setOf, openAt, onRoute, legNode}
 use Rattle.board.specs.FormLaws as board
 use Rattle.board.specs.declared.State.{State}
 use Rattle.trail.specs.Trail.{roomOf, shrunk}
 use Rattle.trail.specs.Refusals.{placeRefusal, excludeRefusal, requireRefusal}
+use Rattle.trail.specs.Steps.{Ran}
 use Rattle.trail.specs.Steps as trail
 use Rattle.trail.specs.StepLaws.{step-yes, step-no}
 use Rattle.trail.specs.Run as run
 use Rattle.trail.specs.Bound.{reached}
-use Rattle.trail.specs.Never.{records-room, place-17, exclude-17, require-17, settle-17, back-20}
-use Rattle.planner.specs.Face.{Ran, stepped, stepOf, actOf, stepRefusal, owedOf, settledSets, settlingRounds}
+use Rattle.trail.specs.Never.{records-room, place-roomy, exclude-roomy, require-roomy, settle-roomy, back-fitting}
+use Rattle.rules.specs.Step as step
+use Rattle.rules.specs.Refusal.{KIND, NODE, PLACED, UNPLACED, SHUT, OWED, ROOM, LEVEL, FORM, MISFIT}
+use Rattle.planner.specs.Face.{freshOf, stepOf, actOf, stepRefusal, owedOf, settledSets}
 use Rattle.planner.specs.Promises.{Steps, NeverShort}
 use Rattle.planner.proofs.Answers.{called, call-made, call-yes, either, zero-both}
 use Rattle.planner.proofs.Moves.{settled-smaller}
@@ -33,68 +37,68 @@ abbrev Avoids : ℕ → Ran → Type 0
 Avoids m r = r .0 .answer ≡ m → ⊥
 
 -- the answer of a step is its refusal
-lifted : (m k c : ℕ) (s : State) (t : List ℕ) (ran : trail.Ran) → ran .0 .answer ≡ 0 → (c ≡ m → ⊥) → Avoids m (stepped k (trail.stepOf c s t ran))
-lifted m k c s t ran took avoid e =
+stepping : (m c : ℕ) (s : State) (t : List ℕ) (ran : Ran) → ran .0 .answer ≡ 0 → (c ≡ m → ⊥) → Avoids m (trail.stepOf c s t ran)
+stepping m c s t ran took avoid e =
     avoid (decided (eqb c 0)
-    (λ q. let z = eqb-true c 0 q in z ∙ sym took ∙ sym (ap (λ (r : trail.Ran). r .0 .answer) (step-yes c s t ran z)) ∙ e)
-    (λ q. sym (ap (λ (r : trail.Ran). r .0 .answer) (step-no c s t ran (eqb-false c 0 q))) ∙ e))
+    (λ q. let z = eqb-true c 0 q in z ∙ sym took ∙ sym (ap (λ (r : Ran). r .0 .answer) (step-yes c s t ran z)) ∙ e)
+    (λ q. sym (ap (λ (r : Ran). r .0 .answer) (step-no c s t ran (eqb-false c 0 q))) ∙ e))
 
 -- ---- a chain of refusals, none of which is m
 
-next : (b : Bool) (k rest m : ℕ) → (suc k ≡ m → ⊥) → orElse (unless b (suc k)) rest ≡ m → rest ≡ m
+next : (b : Bool) (k rest m : ℕ) → eqb k 0 ≡ false → (k ≡ m → ⊥) → orElse (unless b k) rest ≡ m → rest ≡ m
 unfolding orElse
-next true k rest m n e = e
-next false k rest m n e = absurd (n e)
+next true k rest m z n e = e
+next false k rest m z n e = absurd (n (or-else-first k rest (eqb-false k 0 z) ∙ e))
 
-end : (b : Bool) (k m : ℕ) → (0 ≡ m → ⊥) → (suc k ≡ m → ⊥) → unless b (suc k) ≡ m → ⊥
+end : (b : Bool) (k m : ℕ) → (0 ≡ m → ⊥) → (k ≡ m → ⊥) → unless b k ≡ m → ⊥
 end true k m z n e = z e
 end false k m z n e = n e
 
-module _ (m : ℕ) (high : 18 < m) where
+module _ (m : ℕ) (high : LEVEL < m) where
   place-high : (n : ℕ) (b : Board) (records room p x : ℕ) → placeRefusal n b records room p x ≡ m → ⊥
   unfolding placeRefusal
   place-high n b records room p x e =
-      end (ltb records room) 16 m (λ z. omega arith) (λ z. omega arith)
-      (next (openAt b x p) 14 _ m (λ z. omega arith) (next (onRoute b p) 13 _ m (λ z. omega arith) (next (not (onRoute b x)) 12 _ m (λ z. omega arith)
-      (next (inner n x && legNode n p) 11 _ m (λ z. omega arith) e))))
+      end (ltb records room) ROOM m (λ z. omega arith) (λ z. omega arith)
+      (next (openAt b x p) SHUT _ m refl (λ z. omega arith) (next (onRoute b p) UNPLACED _ m refl (λ z. omega arith)
+      (next (not (onRoute b x)) PLACED _ m refl (λ z. omega arith) (next (isInner n x && legNode n p) NODE _ m refl (λ z. omega arith) e))))
 
   exclude-high : (n : ℕ) (b : Board) (records room : ℕ) (owed : Bool) (x : ℕ) → excludeRefusal n b records room owed x ≡ m → ⊥
   unfolding excludeRefusal
   exclude-high n b records room owed x e =
-      end (eqb (setOf b x) 0 || ltb records room) 16 m (λ z. omega arith) (λ z. omega arith)
-      (next (not owed) 15 _ m (λ z. omega arith) (next (not (onRoute b x)) 12 _ m (λ z. omega arith) (next (inner n x) 11 _ m (λ z. omega arith) e)))
+      end (eqb (setOf b x) 0 || ltb records room) ROOM m (λ z. omega arith) (λ z. omega arith)
+      (next (not owed) OWED _ m refl (λ z. omega arith) (next (not (onRoute b x)) PLACED _ m refl (λ z. omega arith) (next (isInner n x) NODE _ m refl (λ z. omega arith) e)))
 
   require-high : (n : ℕ) (b : Board) (records room x : ℕ) → requireRefusal n b records room x ≡ m → ⊥
   unfolding requireRefusal
   require-high n b records room x e =
-      end (has (b .marks) x || ltb records room) 16 m (λ z. omega arith) (λ z. omega arith)
-      (next (not (onRoute b x)) 12 _ m (λ z. omega arith) (next (inner n x) 11 _ m (λ z. omega arith) e))
+      end (has (b .marks) x || ltb records room) ROOM m (λ z. omega arith) (λ z. omega arith)
+      (next (not (onRoute b x)) PLACED _ m refl (λ z. omega arith) (next (isInner n x) NODE _ m refl (λ z. omega arith) e))
 
 -- what each kind of step must avoid
 pub record Avoided (sheet : List ℕ) (s : State) (t : List ℕ) (m : ℕ) : Type 0 where
   pub place : (p x : ℕ) → placeRefusal (nOf sheet) (boardOf s) (s .records) (roomOf t) p x ≡ m → ⊥
-  pub exclude : (x : ℕ) → excludeRefusal (nOf sheet) (boardOf s) (s .records) (roomOf t) (owedOf sheet s x) x ≡ m → ⊥
+  pub exclude : (x : ℕ) → excludeRefusal (nOf sheet) (boardOf s) (s .records) (roomOf t) (owedOf (dayOf sheet) s x) x ≡ m → ⊥
   pub require : (x : ℕ) → requireRefusal (nOf sheet) (boardOf s) (s .records) (roomOf t) x ≡ m → ⊥
-  pub settle : unless (leb (s .records + shrunk (s .sets) (settledSets sheet s) 64) (roomOf t)) 17 ≡ m → ⊥
-  pub level : unless (ltb (s .depth) 64) 18 ≡ m → ⊥
-  pub back : orElse (unless (ltb 0 (s .depth)) 18) (unless (trail.undoLevel (nOf sheet) s t .0) 20) ≡ m → ⊥
-  pub kind : 11 ≡ m → ⊥
+  pub settle : unless (leb (s .records + shrunk (s .sets) (settledSets (vanOf sheet) (dayOf sheet) s) 64) (roomOf t)) ROOM ≡ m → ⊥
+  pub level : unless (ltb (s .depth) 64) LEVEL ≡ m → ⊥
+  pub back : orElse (unless (ltb 0 (s .depth)) LEVEL) (unless (trail.undoLevel (nOf sheet) s t .0) MISFIT) ≡ m → ⊥
+  pub kind : KIND ≡ m → ⊥
 
-act-avoids : (sheet : List ℕ) (s : State) (t : List ℕ) (kind a b m : ℕ) → Avoided sheet s t m → Avoids m (actOf sheet s t kind a b)
+act-avoids : (sheet : List ℕ) (s : State) (t : List ℕ) (kind a b m : ℕ) → Avoided sheet s t m → Avoids m (actOf (vanOf sheet) (dayOf sheet) s t kind a b)
 unfolding actOf trail.placeStep trail.closeStep trail.excludeStep trail.requireStep trail.settleStep trail.levelStep trail.backStep trail.recorded
 act-avoids sheet s t kind a b m h =
-    either (Avoids m) (eqb kind 1) (lifted m 0 _ s t _ refl (h .place a b))
-    (either (Avoids m) (eqb kind 2) (lifted m 0 _ s t _ refl (h .place a b))
-    (either (Avoids m) (eqb kind 3) (lifted m 0 _ s t _ (zero-both (eqb (setOf (boardOf s) a) 0) _ _ refl refl) (h .exclude a))
-    (either (Avoids m) (eqb kind 4) (lifted m 0 _ s t _ (zero-both (has (s .marks) a) _ _ refl refl) (h .require a))
-    (either (Avoids m) (eqb kind 5) (lifted m (settlingRounds sheet s) _ s t _ refl (h .settle))
-    (either (Avoids m) (eqb kind 6) (lifted m 0 _ s t _ refl (h .level))
-    (either (Avoids m) (eqb kind 7) (lifted m 0 _ s t _ refl (h .back)) (h .kind)))))))
+    either (Avoids m) (eqb kind step.PLACE) (stepping m _ s t _ refl (h .place a b))
+    (either (Avoids m) (eqb kind step.CLOSE) (stepping m _ s t _ refl (h .place a b))
+    (either (Avoids m) (eqb kind step.EXCLUDE) (stepping m _ s t _ (zero-both (eqb (setOf (boardOf s) a) 0) _ _ refl refl) (h .exclude a))
+    (either (Avoids m) (eqb kind step.REQUIRE) (stepping m _ s t _ (zero-both (has (s .marks) a) _ _ refl refl) (h .require a))
+    (either (Avoids m) (eqb kind step.SETTLE) (stepping m _ s t _ refl (h .settle))
+    (either (Avoids m) (eqb kind step.LEVEL) (stepping m _ s t _ refl (h .level))
+    (either (Avoids m) (eqb kind step.BACK) (stepping m _ s t _ refl (h .back)) (h .kind)))))))
 
 -- ---- the three numbers
 
-module _ (sheet : List ℕ) (s : State) (t t′ : List ℕ) (z : callRefusal sheet ≡ 0) (space : nOf sheet * (nOf sheet - 2) ≤ roomOf t) (steps : Steps sheet 0 (freshState (nOf sheet)) t s t′) where
-  runs : run.Runs (nOf sheet) (freshState (nOf sheet)) t s t′
+module _ (sheet : List ℕ) (s : State) (t t′ : List ℕ) (z : callRefusal sheet ≡ 0) (space : nOf sheet * (nOf sheet - 2) ≤ roomOf t) (steps : Steps sheet 0 (freshOf sheet) t s t′) where
+  runs : run.Runs (nOf sheet) (freshOf sheet) t s t′
   runs = steps-runs sheet z steps
 
   two : 2 ≤ nOf sheet
@@ -108,45 +112,45 @@ module _ (sheet : List ℕ) (s : State) (t t′ : List ℕ) (z : callRefusal she
       let h = reached (nOf sheet) two small t s t′ runs in
       call-made sheet s t′ z (form-made (nOf sheet) s (roomOf t′) (board.in-form-of (nOf sheet) s small (h .held .wide) (h .form)) (records-room (nOf sheet) two small t s t′ runs space))
 
-  avoided-17 : Avoided sheet s t′ 17
-  avoided-17 = record {
-    place = place-17 (nOf sheet) two small t s t′ runs space;
-    exclude = λ x. exclude-17 (nOf sheet) two small t s t′ runs space (owedOf sheet s x) x;
-    require = require-17 (nOf sheet) two small t s t′ runs space;
-    settle = settle-17 (nOf sheet) two small t s t′ runs space (settledSets sheet s) (settled-smaller sheet s t′ (reached (nOf sheet) two small t s t′ runs .held) (called sheet s t′ call));
-    level = end (ltb (s .depth) 64) 17 17 (λ e. omega arith) (λ e. omega arith);
-    back = λ e. end (trail.undoLevel (nOf sheet) s t′ .0) 19 17 (λ e. omega arith) (λ e. omega arith) (next (ltb 0 (s .depth)) 17 _ 17 (λ e. omega arith) e);
+  avoided-room : Avoided sheet s t′ ROOM
+  avoided-room = record {
+    place = place-roomy (nOf sheet) two small t s t′ runs space;
+    exclude = λ x. exclude-roomy (nOf sheet) two small t s t′ runs space (owedOf (dayOf sheet) s x) x;
+    require = require-roomy (nOf sheet) two small t s t′ runs space;
+    settle = settle-roomy (nOf sheet) two small t s t′ runs space (settledSets (vanOf sheet) (dayOf sheet) s) (settled-smaller sheet s t′ (reached (nOf sheet) two small t s t′ runs .held) (called sheet s t′ call));
+    level = end (ltb (s .depth) 64) LEVEL ROOM (λ e. omega arith) (λ e. omega arith);
+    back = λ e. end (trail.undoLevel (nOf sheet) s t′ .0) MISFIT ROOM (λ e. omega arith) (λ e. omega arith) (next (ltb 0 (s .depth)) LEVEL _ ROOM refl (λ e. omega arith) e);
     kind = λ e. omega arith;
   }
 
-  avoided-high : (m : ℕ) → 18 < m → (orElse (unless (ltb 0 (s .depth)) 18) (unless (trail.undoLevel (nOf sheet) s t′ .0) 20) ≡ m → ⊥) → Avoided sheet s t′ m
+  avoided-high : (m : ℕ) → LEVEL < m → (orElse (unless (ltb 0 (s .depth)) LEVEL) (unless (trail.undoLevel (nOf sheet) s t′ .0) MISFIT) ≡ m → ⊥) → Avoided sheet s t′ m
   avoided-high m high back = record {
     place = place-high m high (nOf sheet) (boardOf s) (s .records) (roomOf t′);
-    exclude = λ x. exclude-high m high (nOf sheet) (boardOf s) (s .records) (roomOf t′) (owedOf sheet s x) x;
+    exclude = λ x. exclude-high m high (nOf sheet) (boardOf s) (s .records) (roomOf t′) (owedOf (dayOf sheet) s x) x;
     require = require-high m high (nOf sheet) (boardOf s) (s .records) (roomOf t′);
-    settle = end (leb (s .records + shrunk (s .sets) (settledSets sheet s) 64) (roomOf t′)) 16 m (λ e. omega arith) (λ e. omega arith);
-    level = end (ltb (s .depth) 64) 17 m (λ e. omega arith) (λ e. omega arith);
+    settle = end (leb (s .records + shrunk (s .sets) (settledSets (vanOf sheet) (dayOf sheet) s) 64) (roomOf t′)) ROOM m (λ e. omega arith) (λ e. omega arith);
+    level = end (ltb (s .depth) 64) LEVEL m (λ e. omega arith) (λ e. omega arith);
     back = back;
     kind = λ e. omega arith;
   }
 
-  back-19 : orElse (unless (ltb 0 (s .depth)) 18) (unless (trail.undoLevel (nOf sheet) s t′ .0) 20) ≡ 19 → ⊥
-  back-19 e = end (trail.undoLevel (nOf sheet) s t′ .0) 19 19 (λ e. omega arith) (λ e. omega arith) (next (ltb 0 (s .depth)) 17 _ 19 (λ e. omega arith) e)
+  back-formed : orElse (unless (ltb 0 (s .depth)) LEVEL) (unless (trail.undoLevel (nOf sheet) s t′ .0) MISFIT) ≡ FORM → ⊥
+  back-formed e = end (trail.undoLevel (nOf sheet) s t′ .0) MISFIT FORM (λ e. omega arith) (λ e. omega arith) (next (ltb 0 (s .depth)) LEVEL _ FORM refl (λ e. omega arith) e)
 
-  back-fits : orElse (unless (ltb 0 (s .depth)) 18) (unless (trail.undoLevel (nOf sheet) s t′ .0) 20) ≡ 20 → ⊥
+  back-fits : orElse (unless (ltb 0 (s .depth)) LEVEL) (unless (trail.undoLevel (nOf sheet) s t′ .0) MISFIT) ≡ MISFIT → ⊥
   unfolding orElse
   back-fits e =
       decided (ltb 0 (s .depth))
-      (λ q. let b = back-20 (nOf sheet) two small t s t′ runs space (ltb-true 0 (s .depth) q) in
-      let f : unless (trail.undoLevel (nOf sheet) s t′ .0) 20 ≡ 20 = rw q at e in omega (arith, sym b ∙ f))
-      (λ q. let f : _≡_ {A = ℕ} 18 20 = rw q at e in omega arith)
+      (λ q. let b = back-fitting (nOf sheet) two small t s t′ runs space (ltb-true 0 (s .depth) q) in
+      let f : unless (trail.undoLevel (nOf sheet) s t′ .0) MISFIT ≡ MISFIT = rw q at e in omega (arith, sym b ∙ f))
+      (λ q. let f : _≡_ {A = ℕ} LEVEL MISFIT = rw q at e in omega arith)
 
   avoids : (kind a b m : ℕ) → Avoided sheet s t′ m → stepOf sheet s t′ kind a b .0 .answer ≡ m → ⊥
   avoids kind a b m h e = act-avoids sheet s t′ kind a b m h (sym (ap (λ (r : Ran). r .0 .answer) (call-yes sheet s t′ kind a b call)) ∙ e)
 
 pub never-short : NeverShort
 never-short sheet s t t′ kind a b z space steps = (
-  avoids sheet s t t′ z space steps kind a b 17 (avoided-17 sheet s t t′ z space steps),
-  avoids sheet s t t′ z space steps kind a b 19 (avoided-high sheet s t t′ z space steps 19 (omega arith) (back-19 sheet s t t′ z space steps)),
-  avoids sheet s t t′ z space steps kind a b 20 (avoided-high sheet s t t′ z space steps 20 (omega arith) (back-fits sheet s t t′ z space steps)),
+  avoids sheet s t t′ z space steps kind a b ROOM (avoided-room sheet s t t′ z space steps),
+  avoids sheet s t t′ z space steps kind a b FORM (avoided-high sheet s t t′ z space steps FORM (omega arith) (back-formed sheet s t t′ z space steps)),
+  avoids sheet s t t′ z space steps kind a b MISFIT (avoided-high sheet s t t′ z space steps MISFIT (omega arith) (back-fits sheet s t t′ z space steps)),
 )

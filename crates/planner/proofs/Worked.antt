@@ -22,11 +22,12 @@ use Rattle.board.specs.FormLaws as board
 use Rattle.board.specs.Held.{Held}
 use Rattle.board.specs.declared.State.{State}
 use Rattle.trail.specs.Steps as trail
-use Rattle.trail.specs.Since.{Since, move-since}
-use Rattle.planner.specs.Face.{planIn, actOf, askRefusal, judgeOf, settlingRounds}
+use Rattle.trail.specs.Since.{Since, accepted, move-since}
+use Rattle.rules.specs.Step.{PLACE, EXCLUDE, REQUIRE, SETTLE}
+use Rattle.planner.specs.Face.{planIn, actOf, askRefusal, judgeOf}
 use Rattle.planner.specs.Promises.{Took, Run, begin, place, exclude, require, settling, WorkedOut, RunsAlike}
 use Rattle.planner.proofs.Answers.{Called, acting}
-use Rattle.planner.proofs.Plans.{gave, state-formed, placed-plan, excluded-plan, required-plan, settled-plan}
+use Rattle.planner.proofs.Plans.{state-formed, placed-plan, excluded-plan, required-plan, settled-plan}
 use Rattle.planner.proofs.Moves.{moved}
 use Rattle.planner.proofs.Courses.{here, sound}
 
@@ -37,31 +38,31 @@ either-depth true x y d p q = p
 either-depth false x y d p q = q
 
 module _ (sheet : List ℕ) (s : State) (t : List ℕ) {s′ : State} {t′ : List ℕ} {k : ℕ} where
-  placed-depth : (p x : ℕ) → Took sheet s t 1 p x k s′ t′ → s′ .depth ≡ s .depth
+  placed-depth : (p x : ℕ) → Took sheet s t PLACE p x k s′ t′ → s′ .depth ≡ s .depth
   unfolding actOf trail.placeStep trail.recorded
-  placed-depth p x e = ap (λ (r : State). r .depth) (gave 0 _ s t _ (acting sheet s t 1 p x e .1) .1)
+  placed-depth p x e = ap (λ (r : trail.Ran). r .0 .state .depth) (sym (accepted _ s t _ _ _ (acting sheet s t PLACE p x e .1) .1))
 
-  excluded-depth : (x b : ℕ) → Took sheet s t 3 x b k s′ t′ → s′ .depth ≡ s .depth
+  excluded-depth : (x b : ℕ) → Took sheet s t EXCLUDE x b k s′ t′ → s′ .depth ≡ s .depth
   unfolding actOf trail.excludeStep trail.recorded
-  excluded-depth x b e = ap (λ (r : State). r .depth) (gave 0 _ s t _ (acting sheet s t 3 x b e .1) .1) ∙ either-depth (eqb (setOf (boardOf s) x) 0) _ _ (s .depth) refl refl
+  excluded-depth x b e = ap (λ (r : trail.Ran). r .0 .state .depth) (sym (accepted _ s t _ _ _ (acting sheet s t EXCLUDE x b e .1) .1)) ∙ either-depth (eqb (setOf (boardOf s) x) 0) _ _ (s .depth) refl refl
 
-  required-depth : (x b : ℕ) → Took sheet s t 4 x b k s′ t′ → s′ .depth ≡ s .depth
+  required-depth : (x b : ℕ) → Took sheet s t REQUIRE x b k s′ t′ → s′ .depth ≡ s .depth
   unfolding actOf trail.requireStep trail.recorded
-  required-depth x b e = ap (λ (r : State). r .depth) (gave 0 _ s t _ (acting sheet s t 4 x b e .1) .1) ∙ either-depth (has (s .marks) x) _ _ (s .depth) refl refl
+  required-depth x b e = ap (λ (r : trail.Ran). r .0 .state .depth) (sym (accepted _ s t _ _ _ (acting sheet s t REQUIRE x b e .1) .1)) ∙ either-depth (has (s .marks) x) _ _ (s .depth) refl refl
 
-  settled-depth : (a b : ℕ) → Took sheet s t 5 a b k s′ t′ → s′ .depth ≡ s .depth
+  settled-depth : (a b : ℕ) → Took sheet s t SETTLE a b k s′ t′ → s′ .depth ≡ s .depth
   unfolding actOf trail.settleStep
-  settled-depth a b e = ap (λ (r : State). r .depth) (gave (settlingRounds sheet s) _ s t _ (acting sheet s t 5 a b e .1) .1)
+  settled-depth a b e = ap (λ (r : trail.Ran). r .0 .state .depth) (sym (accepted _ s t _ _ _ (acting sheet s t SETTLE a b e .1) .1))
 
 -- ---- a run of the real steps is a run of the rules
 
 -- the run began with a call that was not refused
 called-start : {sheet : List ℕ} {s s₁ : State} {t t₁ X : List ℕ} → Run sheet s t s₁ t₁ X → Called sheet s₁ t₁ → Called sheet s t
 called-start begin c = c
-called-start {sheet} (place {s′ = q} {t′ = v} p x r e) c = called-start r (acting sheet q v 1 p x e .0)
-called-start {sheet} (exclude {s′ = q} {t′ = v} x b r e) c = called-start r (acting sheet q v 3 x b e .0)
-called-start {sheet} (require {s′ = q} {t′ = v} x b r e) c = called-start r (acting sheet q v 4 x b e .0)
-called-start {sheet} (settling {s′ = q} {t′ = v} a b k r e) c = called-start r (acting sheet q v 5 a b e .0)
+called-start {sheet} (place {s′ = q} {t′ = v} p x r e) c = called-start r (acting sheet q v PLACE p x e .0)
+called-start {sheet} (exclude {s′ = q} {t′ = v} x b r e) c = called-start r (acting sheet q v EXCLUDE x b e .0)
+called-start {sheet} (require {s′ = q} {t′ = v} x b r e) c = called-start r (acting sheet q v REQUIRE x b e .0)
+called-start {sheet} (settling {s′ = q} {t′ = v} a b k r e) c = called-start r (acting sheet q v SETTLE a b e .0)
 
 module _ (sheet : List ℕ) (s : State) (t : List ℕ) (held : Held s) (c : Called sheet s t) where
   abbrev After : State → List ℕ → Type 0
@@ -83,16 +84,16 @@ module _ (sheet : List ℕ) (s : State) (t : List ℕ) (held : Held s) (c : Call
   course (place {s′ = q} {s″ = r} {t′ = v} {t″ = u} p x run e) =
       let i = course run in
       let plan = placed-plan sheet q v (i .1 .held) p x e in
-      step-to (plan .0) (rules.place p x (i .0) (plan .2) (plan .1)) (onward q v r u 1 p x 0 (i .1) e (placed-depth sheet q v p x e))
+      step-to (plan .0) (rules.place p x (i .0) (plan .2) (plan .1)) (onward q v r u PLACE p x 0 (i .1) e (placed-depth sheet q v p x e))
   course (exclude {s′ = q} {s″ = r} {t′ = v} {t″ = u} x b run e) =
       let i = course run in
-      step-to (excluded-plan sheet q v (i .1 .held) x b e .0) (rules.exclude x (i .0)) (onward q v r u 3 x b 0 (i .1) e (excluded-depth sheet q v x b e))
+      step-to (excluded-plan sheet q v (i .1 .held) x b e .0) (rules.exclude x (i .0)) (onward q v r u EXCLUDE x b 0 (i .1) e (excluded-depth sheet q v x b e))
   course (require {s′ = q} {s″ = r} {t′ = v} {t″ = u} x b run e) =
       let i = course run in
-      step-to (required-plan sheet q v (i .1 .held) x b e .0) (rules.require x (i .0)) (onward q v r u 4 x b 0 (i .1) e (required-depth sheet q v x b e))
+      step-to (required-plan sheet q v (i .1 .held) x b e .0) (rules.require x (i .0)) (onward q v r u REQUIRE x b 0 (i .1) e (required-depth sheet q v x b e))
   course (settling {s′ = q} {s″ = r} {t′ = v} {t″ = u} a b k run e) =
       let i = course run in
-      step-to (settled-plan sheet q v (i .1 .held) a b e .0) (rules.settling (i .0)) (onward q v r u 5 a b k (i .1) e (settled-depth sheet q v a b e))
+      step-to (settled-plan sheet q v (i .1 .held) a b e .0) (rules.settling (i .0)) (onward q v r u SETTLE a b k (i .1) e (settled-depth sheet q v a b e))
 
 -- the verdict asked of a state that is not refused
 judged : (sheet : List ℕ) (s : State) → callRefusal sheet ≡ 0 → inForm (nOf sheet) s ≡ true → judgeOf sheet s .alive ≡ alive (vanOf sheet) (dayOf sheet) (planIn s)
@@ -100,9 +101,9 @@ unfolding judgeOf askRefusal orElse
 judged sheet s z e = rw (z, e)
 
 -- a run and the settling after it: the run of the rules, the plan at the end, and its verdict as it is asked
-module _ (sheet : List ℕ) (s s₁ s₂ : State) (t t₁ t₂ X : List ℕ) (a b k : ℕ) (z : callRefusal sheet ≡ 0) (held : Held s) (run : Run sheet s t s₁ t₁ X) (e : Took sheet s₁ t₁ 5 a b k s₂ t₂) where
+module _ (sheet : List ℕ) (s s₁ s₂ : State) (t t₁ t₂ X : List ℕ) (a b k : ℕ) (z : callRefusal sheet ≡ 0) (held : Held s) (run : Run sheet s t s₁ t₁ X) (e : Took sheet s₁ t₁ SETTLE a b k s₂ t₂) where
   start : Called sheet s t
-  start = called-start run (acting sheet s₁ t₁ 5 a b e .0)
+  start = called-start run (acting sheet s₁ t₁ SETTLE a b e .0)
 
   pub ruled : rules.Run (vanOf sheet) (dayOf sheet) (planIn s) (planIn s₁) X
   ruled = course sheet s t held start run .0
@@ -115,7 +116,7 @@ module _ (sheet : List ℕ) (s s₁ s₂ : State) (t t₁ t₂ X : List ℕ) (a 
 
   pub end-verdict : judgeOf sheet s₂ .alive ≡ alive (vanOf sheet) (dayOf sheet) (settled (vanOf sheet) (dayOf sheet) (planIn s₁))
   end-verdict =
-      let h = onward sheet s t held start s₁ t₁ s₂ t₂ 5 a b k after e (settled-depth sheet s₁ t₁ a b e) in
+      let h = onward sheet s t held start s₁ t₁ s₂ t₂ SETTLE a b k after e (settled-depth sheet s₁ t₁ a b e) in
       judged sheet s₂ z (board.in-form-of (nOf sheet) s₂ (h .small) (h .held .wide) (h .form)) ∙ ap (alive (vanOf sheet) (dayOf sheet)) end-plan
 
 pub worked-out : WorkedOut

@@ -11,7 +11,7 @@ use Rattle.laws.specs.Choice.{orElse}
 use Rattle.laws.specs.Sum.{sumBelow}
 use Rattle.laws.specs.Table.{tab}
 use Rattle.sheet.specs.Word.{wordAt}
-use Rattle.sheet.specs.Section.{headRefusal, limitsRefusal, nodesRefusal, jobsRefusal, tableRefusal, stepsRefusal, tablesRefusal, laterRefusal, readRefusal}
+use Rattle.sheet.specs.Section.{headRefusal, limitsRefusal, nodesRefusal, jobsRefusal, tableRefusal, stepsRefusal, laterRefusal, readRefusal}
 use Rattle.day.specs.Jobs.{jobAt}
 use Rattle.day.specs.Twice.{clash, apart}
 use Rattle.day.specs.Tables.{cell}
@@ -19,9 +19,10 @@ use Rattle.day.specs.Refuse.{callRefusal}
 use Rattle.day.specs.Tell.{dayOf, vanOf}
 use Rattle.day.specs.Example.{sheetWith}
 use Rattle.bits.specs.Places.{digit, has, with, within}
+use Rattle.rules.specs.Step.{PLACE, SETTLE}
 use Rattle.rules.specs.Along.{startAt, lastAt}
 use Rattle.rules.specs.Rounds.{keeps}
-use Rattle.rules.specs.Day.{Day}
+use Rattle.rules.specs.Day.{Day, isInner}
 use Rattle.rules.specs.declared.Van.{Van}
 use Rattle.rules.specs.Plan.{Plan}
 use Rattle.rules.specs.Every.{everyRound, belongs, count}
@@ -32,14 +33,13 @@ use Rattle.rules.specs.Settle.{round, strikes, settleIn, roundsIn}
 use Rattle.board.specs.Route.{wordOf, indexOf, insertIn}
 use Rattle.board.specs.Change.{heir, placed}
 use Rattle.board.specs.declared.State.{State}
-use Rattle.board.specs.Board.{boardOf, routeOf, onRoute, legsOf, setOf, openAt, inner, legNode, placesOf}
+use Rattle.board.specs.Board.{boardOf, routeOf, onRoute, legsOf, setOf, openAt, legNode, placesOf}
 use Rattle.board.specs.Fresh.{freshState, freshSets, freshSet}
 use Rattle.board.specs.Form.{stopOk, setOk, markOk, nodeOk, boardOk, levelOk, levelsOk, inForm, formWith}
 use Rattle.trail.specs.Trail.{roomOf, shrunk, noteBelow, noteOne, pushed}
 use Rattle.trail.specs.Refusals.{placeRefusal}
 use Rattle.trail.specs.Steps as trail
-use Rattle.settle.specs.Sets.{setsOf}
-use Rattle.settle.specs.Sets as words
+use Rattle.along.specs.Sets.{wordFrom, setsOf}
 use Rattle.planner.specs.Face.{planIn, stepOf, actOf, stepRefusal, askRefusal, countOf, judgeOf}
 
 -- a trail of four records, as good as any here
@@ -51,14 +51,14 @@ abbrev fresh : State
 fresh = freshState 4
 
 abbrev two : List ℕ → State
-two sheet = stepOf sheet fresh none 1 0 2 .0 .state
+two sheet = stepOf sheet fresh none PLACE 0 2 .0 .state
 
 -- what settling gives, and the state after it
 abbrev after : List ℕ → State → State
-after sheet s = stepOf sheet s none 5 0 0 .0 .state
+after sheet s = stepOf sheet s none SETTLE 0 0 .0 .state
 
 abbrev rounds : List ℕ → State → ℕ
-rounds sheet s = stepOf sheet s none 5 0 0 .0 .rounds
+rounds sheet s = stepOf sheet s none SETTLE 0 0 .0 .rounds
 
 -- the open places in all, and the verdict
 abbrev places : List ℕ → State → ℕ
@@ -107,5 +107,5 @@ pub record Paper : Type 0 where
   pub p12-kept : kept (dayOf paper) (vanOf paper) (planIn fresh) ≡ (0 ∷ 3 ∷ []) ∷ (0 ∷ 1 ∷ 2 ∷ 3 ∷ []) ∷ []
 
 paper-cases : Paper
-unfolding allBelow orElse sumBelow tab wordAt headRefusal limitsRefusal nodesRefusal jobsRefusal tableRefusal stepsRefusal tablesRefusal laterRefusal readRefusal jobAt clash apart cell callRefusal digit has with within stays round strikes settleIn roundsIn keeps owed rules.alive everyRound wordOf indexOf insertIn routeOf onRoute legsOf setOf openAt inner legNode placesOf ones onesIn heir placed freshState freshSets freshSet stopOk setOk markOk nodeOk boardOk levelOk levelsOk inForm formWith roomOf shrunk noteBelow noteOne pushed placeRefusal trail.placeStep trail.recorded trail.settleStep trail.stepOf setsOf words.wordOf stepOf actOf stepRefusal askRefusal countOf judgeOf
+unfolding allBelow orElse sumBelow tab wordAt headRefusal limitsRefusal nodesRefusal jobsRefusal tableRefusal stepsRefusal laterRefusal readRefusal jobAt clash apart cell callRefusal digit has with within stays round strikes settleIn roundsIn keeps owed rules.alive everyRound wordOf indexOf insertIn routeOf onRoute legsOf setOf openAt isInner legNode placesOf ones onesIn heir placed freshState freshSets freshSet stopOk setOk markOk nodeOk boardOk levelOk levelsOk inForm formWith roomOf shrunk noteBelow noteOne pushed placeRefusal trail.placeStep trail.recorded trail.settleStep trail.stepOf setsOf wordFrom stepOf actOf stepRefusal askRefusal countOf judgeOf
 paper-cases = record { p1 = refl; p2 = refl; p3 = refl; p4 = refl; p5 = refl; p6 = refl; p7 = refl; p8 = refl; p8-dead = refl; p9 = refl; p9-rounds = refl; p9-alive = refl; p10 = refl; p10-none = refl; p10-alive = refl; p11 = refl; p11-dead = refl; p12 = refl; p12-kept = refl }

@@ -17,17 +17,19 @@ use Rattle.rules.specs.Steps.{uses}
 use Rattle.rules.specs.Settle.{settled, rounds}
 use Rattle.rules.specs.Verdict.{alive}
 use Rattle.rules.specs.Worked.{worked}
-use Rattle.board.specs.Fresh.{freshState}
 use Rattle.board.specs.Form.{inForm, formWith}
 use Rattle.board.specs.Held.{Held}
 use Rattle.board.specs.declared.State.{State}
 use Rattle.trail.specs.Trail.{roomOf}
 use Rattle.trail.specs.StepBack.{Wordy}
-use Rattle.planner.specs.Face.{planIn, refused, stepOf, countOf, judgeOf}
+use Rattle.rules.specs.Refusal.{ROOM, FORM, MISFIT}
+use Rattle.rules.specs.Step.{PLACE, CLOSE, EXCLUDE, REQUIRE, SETTLE, LEVEL, BACK}
+use Rattle.trail.specs.Steps.{acted, answered}
+use Rattle.planner.specs.Face.{planIn, freshOf, stepOf, countOf, judgeOf}
 
 -- a step, accepted: it took the state s and the trail t to s′ and t′, and k rounds of settling struck something
 abbrev pub Took : List ℕ → State → List ℕ → ℕ → ℕ → ℕ → ℕ → State → List ℕ → Type 0
-Took sheet s t kind a b k s′ t′ = stepOf sheet s t kind a b ≡ (record { answer = 0; rounds = k; state = s′ }, t′)
+Took sheet s t kind a b k s′ t′ = stepOf sheet s t kind a b ≡ acted 0 k s′ t′
 
 -- accepted steps one after another; every state between and at the end has at least m levels
 pub data Steps (sheet : List ℕ) (m : ℕ) (s : State) (t : List ℕ) : State → List ℕ → Type 0 where
@@ -37,17 +39,17 @@ pub data Steps (sheet : List ℕ) (m : ℕ) (s : State) (t : List ℕ) : State �
 -- a run of placing, excluding, requiring and settling, none refused; X are the wards excluded on the way
 pub data Run (sheet : List ℕ) (s : State) (t : List ℕ) : State → List ℕ → List ℕ → Type 0 where
   begin : Run sheet s t s t []
-  place : {s′ s″ : State} {t′ t″ X : List ℕ} (p x : ℕ) → Run sheet s t s′ t′ X → Took sheet s′ t′ 1 p x 0 s″ t″ → Run sheet s t s″ t″ X
-  exclude : {s′ s″ : State} {t′ t″ X : List ℕ} (x b : ℕ) → Run sheet s t s′ t′ X → Took sheet s′ t′ 3 x b 0 s″ t″ → Run sheet s t s″ t″ (x ∷ X)
-  require : {s′ s″ : State} {t′ t″ X : List ℕ} (x b : ℕ) → Run sheet s t s′ t′ X → Took sheet s′ t′ 4 x b 0 s″ t″ → Run sheet s t s″ t″ X
-  settling : {s′ s″ : State} {t′ t″ X : List ℕ} (a b k : ℕ) → Run sheet s t s′ t′ X → Took sheet s′ t′ 5 a b k s″ t″ → Run sheet s t s″ t″ X
+  place : {s′ s″ : State} {t′ t″ X : List ℕ} (p x : ℕ) → Run sheet s t s′ t′ X → Took sheet s′ t′ PLACE p x 0 s″ t″ → Run sheet s t s″ t″ X
+  exclude : {s′ s″ : State} {t′ t″ X : List ℕ} (x b : ℕ) → Run sheet s t s′ t′ X → Took sheet s′ t′ EXCLUDE x b 0 s″ t″ → Run sheet s t s″ t″ (x ∷ X)
+  require : {s′ s″ : State} {t′ t″ X : List ℕ} (x b : ℕ) → Run sheet s t s′ t′ X → Took sheet s′ t′ REQUIRE x b 0 s″ t″ → Run sheet s t s″ t″ X
+  settling : {s′ s″ : State} {t′ t″ X : List ℕ} (a b k : ℕ) → Run sheet s t s′ t′ X → Took sheet s′ t′ SETTLE a b k s″ t″ → Run sheet s t s″ t″ X
 
 -- ---- demand 1
 
 -- refused: state and trail as before, rounds 0
 abbrev pub Unchanged : Type 0
 Unchanged = (sheet : List ℕ) (s : State) (t : List ℕ) (kind a b : ℕ) → (stepOf sheet s t kind a b .0 .answer ≡ 0 → ⊥)
-    → stepOf sheet s t kind a b ≡ refused (stepOf sheet s t kind a b .0 .answer) s t
+    → stepOf sheet s t kind a b ≡ answered (stepOf sheet s t kind a b .0 .answer) s t
 
 -- every accepted step keeps the form, and the trail's length
 abbrev pub FormKept : Type 0
@@ -57,29 +59,29 @@ FormKept = (sheet : List ℕ) (s s′ : State) (t t′ : List ℕ) (kind a b k :
 -- ---- demand 2: the rounds that each step keeps
 
 abbrev pub PlacingKeeps : Type 0
-PlacingKeeps = (sheet : List ℕ) (s s′ : State) (t t′ : List ℕ) (p x k : ℕ) → Held s → Took sheet s t 1 p x k s′ t′ → (R : List ℕ)
+PlacingKeeps = (sheet : List ℕ) (s s′ : State) (t t′ : List ℕ) (p x k : ℕ) → Held s → Took sheet s t PLACE p x k s′ t′ → (R : List ℕ)
     → Belongs (dayOf sheet) (planIn s′) R ↔ (Belongs (dayOf sheet) (planIn s) R × T (uses p x (planIn s .route) R))
 
 abbrev pub ClosingKeeps : Type 0
-ClosingKeeps = (sheet : List ℕ) (s s′ : State) (t t′ : List ℕ) (p x k : ℕ) → Held s → Took sheet s t 2 p x k s′ t′ → (R : List ℕ)
+ClosingKeeps = (sheet : List ℕ) (s s′ : State) (t t′ : List ℕ) (p x k : ℕ) → Held s → Took sheet s t CLOSE p x k s′ t′ → (R : List ℕ)
     → Belongs (dayOf sheet) (planIn s′) R ↔ (Belongs (dayOf sheet) (planIn s) R × T (not (uses p x (planIn s .route) R)))
 
 abbrev pub ExcludingKeeps : Type 0
-ExcludingKeeps = (sheet : List ℕ) (s s′ : State) (t t′ : List ℕ) (x b k : ℕ) → Held s → Took sheet s t 3 x b k s′ t′ → (R : List ℕ)
+ExcludingKeeps = (sheet : List ℕ) (s s′ : State) (t t′ : List ℕ) (x b k : ℕ) → Held s → Took sheet s t EXCLUDE x b k s′ t′ → (R : List ℕ)
     → Belongs (dayOf sheet) (planIn s′) R ↔ (Belongs (dayOf sheet) (planIn s) R × T (not (mem x R)))
 
 abbrev pub RequiringKeeps : Type 0
-RequiringKeeps = (sheet : List ℕ) (s s′ : State) (t t′ : List ℕ) (x b k : ℕ) → Held s → Took sheet s t 4 x b k s′ t′ → (R : List ℕ)
+RequiringKeeps = (sheet : List ℕ) (s s′ : State) (t t′ : List ℕ) (x b k : ℕ) → Held s → Took sheet s t REQUIRE x b k s′ t′ → (R : List ℕ)
     → Belongs (dayOf sheet) (planIn s′) R ↔ (Belongs (dayOf sheet) (planIn s) R × T (mem x R))
 
 -- settling strikes what 01's tests strike, to the last gap, and nothing else; it tells the rounds that struck, and they are at most 2
 abbrev pub SettlingStrikes : Type 0
-SettlingStrikes = (sheet : List ℕ) (s s′ : State) (t t′ : List ℕ) (a b k : ℕ) → Held s → Took sheet s t 5 a b k s′ t′
+SettlingStrikes = (sheet : List ℕ) (s s′ : State) (t t′ : List ℕ) (a b k : ℕ) → Held s → Took sheet s t SETTLE a b k s′ t′
     → (planIn s′ ≡ settled (vanOf sheet) (dayOf sheet) (planIn s)) × (k ≡ rounds (vanOf sheet) (dayOf sheet) (planIn s .route) (planIn s .places)) × (k ≤ 2)
 
 -- on an opened sheet no rule-keeping round of the set is lost by settling
 abbrev pub SettlingLosesNone : Type 0
-SettlingLosesNone = (sheet : List ℕ) (s s′ : State) (t t′ : List ℕ) (a b k : ℕ) → openRefusal sheet ≡ 0 → Held s → Took sheet s t 5 a b k s′ t′
+SettlingLosesNone = (sheet : List ℕ) (s s′ : State) (t t′ : List ℕ) (a b k : ℕ) → openRefusal sheet ≡ 0 → Held s → Took sheet s t SETTLE a b k s′ t′
     → (R : List ℕ) → T (keeps (vanOf sheet) (dayOf sheet) R) → Belongs (dayOf sheet) (planIn s) R → Belongs (dayOf sheet) (planIn s′) R
 
 -- no gap left and alive: the route itself keeps the rules, and belongs
@@ -94,32 +96,32 @@ DeadNone = (sheet : List ℕ) (s : State) → openRefusal sheet ≡ 0 → judgeO
 
 -- stepping back restores the state from before the matching level, and the records below it stand as they stood
 abbrev pub StepsBack : Type 0
-StepsBack = (sheet : List ℕ) (s s₁ s₂ : State) (t t₁ t₂ : List ℕ) (a b k c d : ℕ) → Held s → Took sheet s t 6 a b k s₁ t₁
+StepsBack = (sheet : List ℕ) (s s₁ s₂ : State) (t t₁ t₂ : List ℕ) (a b k c d : ℕ) → Held s → Took sheet s t LEVEL a b k s₁ t₁
     → Steps sheet (s₁ .depth) s₁ t₁ s₂ t₂ → s₂ .depth ≡ s₁ .depth
-    → Took sheet s₂ t₂ 7 c d 0 s t₂ × (take (2 * s .records) t₂ ≡ take (2 * s .records) t)
+    → Took sheet s₂ t₂ BACK c d 0 s t₂ × (take (2 * s .records) t₂ ≡ take (2 * s .records) t)
 
 -- from a fresh state any accepted steps keep the records at or below n(n − 2); with that room 17, 19 and 20 are never met
 abbrev pub RecordsBounded : Type 0
-RecordsBounded = (sheet : List ℕ) (s : State) (t t′ : List ℕ) → callRefusal sheet ≡ 0 → Steps sheet 0 (freshState (nOf sheet)) t s t′
+RecordsBounded = (sheet : List ℕ) (s : State) (t t′ : List ℕ) → callRefusal sheet ≡ 0 → Steps sheet 0 (freshOf sheet) t s t′
     → s .records ≤ nOf sheet * (nOf sheet - 2)
 
 abbrev pub NeverShort : Type 0
-NeverShort = (sheet : List ℕ) (s : State) (t t′ : List ℕ) (kind a b : ℕ) → callRefusal sheet ≡ 0 → nOf sheet * (nOf sheet - 2) ≤ roomOf t → Steps sheet 0 (freshState (nOf sheet)) t s t′
-    → (stepOf sheet s t′ kind a b .0 .answer ≡ 17 → ⊥) × (stepOf sheet s t′ kind a b .0 .answer ≡ 19 → ⊥) × (stepOf sheet s t′ kind a b .0 .answer ≡ 20 → ⊥)
+NeverShort = (sheet : List ℕ) (s : State) (t t′ : List ℕ) (kind a b : ℕ) → callRefusal sheet ≡ 0 → nOf sheet * (nOf sheet - 2) ≤ roomOf t → Steps sheet 0 (freshOf sheet) t s t′
+    → (stepOf sheet s t′ kind a b .0 .answer ≡ ROOM → ⊥) × (stepOf sheet s t′ kind a b .0 .answer ≡ FORM → ⊥) × (stepOf sheet s t′ kind a b .0 .answer ≡ MISFIT → ⊥)
 
 -- ---- demand 3: a run's end, settled once more, has the gaps and the verdict that 01 works out from the start
 
 abbrev pub WorkedOut : Type 0
 WorkedOut = (sheet : List ℕ) (s s₁ s₂ : State) (t t₁ t₂ X : List ℕ) (a b k : ℕ) → openRefusal sheet ≡ 0 → Held s → inForm (nOf sheet) s ≡ true
-    → Run sheet s t s₁ t₁ X → Took sheet s₁ t₁ 5 a b k s₂ t₂
+    → Run sheet s t s₁ t₁ X → Took sheet s₁ t₁ SETTLE a b k s₂ t₂
     → ((x p : ℕ) → planIn s₂ .places x p ≡ settled (vanOf sheet) (dayOf sheet) (worked (planIn s) (planIn s₁ .route) X (planIn s₁ .marks)) .places x p)
     × (judgeOf sheet s₂ .alive ≡ alive (vanOf sheet) (dayOf sheet) (settled (vanOf sheet) (dayOf sheet) (worked (planIn s) (planIn s₁ .route) X (planIn s₁ .marks))))
 
 -- two such runs that end with the same route, excluded wards and unplaced required wards
 abbrev pub RunsAlike : Type 0
 RunsAlike = (sheet : List ℕ) (s s₁ s₂ s₃ s₄ : State) (t t′ t₁ t₂ t₃ t₄ X Y : List ℕ) (a b k a′ b′ k′ : ℕ) → openRefusal sheet ≡ 0 → Held s → inForm (nOf sheet) s ≡ true
-    → Run sheet s t s₁ t₁ X → Took sheet s₁ t₁ 5 a b k s₂ t₂
-    → Run sheet s t′ s₃ t₃ Y → Took sheet s₃ t₃ 5 a′ b′ k′ s₄ t₄
+    → Run sheet s t s₁ t₁ X → Took sheet s₁ t₁ SETTLE a b k s₂ t₂
+    → Run sheet s t′ s₃ t₃ Y → Took sheet s₃ t₃ SETTLE a′ b′ k′ s₄ t₄
     → planIn s₁ .route ≡ planIn s₃ .route → ((y : ℕ) → mem y X ≡ mem y Y) → ((y : ℕ) → T (not (mem y (planIn s₁ .route))) → planIn s₁ .marks y ≡ planIn s₃ .marks y)
     → ((x p : ℕ) → planIn s₂ .places x p ≡ planIn s₄ .places x p) × (judgeOf sheet s₂ .alive ≡ judgeOf sheet s₄ .alive)
 

@@ -1,19 +1,17 @@
-// What the planner does on a sheet that 1 to 4 do not refuse and a state in form, neither asked again.
+// What the planner does on a sheet that no call refuses and a state in form, neither asked again.
 ghost use mathlib.Core.Path.{_≡_};
-ghost use mathlib.Core.Bool.{true};
 ghost use mathlib.Core.List.{List};
-ghost use Prim.Native.Nat.{ℕ, _<_, _≤_};
-ghost use Rattle.sheet.specs.Section.{nOf};
-ghost use Rattle.sheet.specs.Place.{Fine, Laid};
-ghost use Rattle.day.specs.Refuse.{callRefusal};
-ghost use Rattle.day.specs.Tell.{dayOf, vanOf};
+ghost use Prim.Native.Nat.{ℕ, _≤_};
+ghost use Rattle.day.specs.Tell.{dayOf};
+ghost use Rattle.rules.specs.Step.{SETTLE};
 ghost use Rattle.rules.specs.Verdict.{alive};
+ghost use Rattle.rules.specs.declared.Van.{Van};
 ghost use Rattle.board.specs.Board.{stateWith};
-ghost use Rattle.board.specs.Form.{formWith};
-ghost use Rattle.board.specs.Held.{Held};
 ghost use Rattle.trail.specs.Trail.{roomOf};
-ghost use Rattle.settle.specs.Ready.{Ready};
-ghost use Rattle.planner.specs.Face.{planIn, acted, actOf};
+ghost use Rattle.trail.specs.Steps.{ran, settleStep};
+ghost use Rattle.along.specs.Ready.{Ready};
+ghost use Rattle.planner.specs.Face.{planIn, settledSets, settlingRounds, actOf};
+ghost use Rattle.planner.specs.Known.{Known};
 use board::Figures;
 use board::State;
 use rules::Node;
@@ -28,28 +26,9 @@ use trail::steps::exclude;
 use trail::steps::level;
 use trail::steps::place;
 use trail::steps::require;
+use trail::steps::same;
 
-// The answer of a step, the rounds of settling that struck something, and the numbers of the state after it.
-pub struct Acted {
-    pub answer: usize,
-    pub rounds: usize,
-    pub after: Figures,
-}
-
-// The van of a sheet.
-fn van_of(sheet: &[u8]) -> Van
-    requires { ⌜ Fine (now sheet) ⌝ }
-    ensures { λ r. ⌜ (r ≡ vanOf (now (sheet .entry))) × (r .limit < 1099511627776) ⌝ }
-{
-    let capacity = day::look::capacity(sheet);
-    let limit = day::look::limit(sheet);
-    Van {
-        capacity: capacity,
-        limit: limit,
-    }
-}
-
-// The steps other than settling, whose rounds are 0.
+// The steps other than settling: they ask for no van.
 fn change(
     sheet: &[u8],
     at: Layout,
@@ -58,28 +37,29 @@ fn change(
     levels: &mut [usize; State::LEVELS],
     f: Figures,
     trail: &mut [u64],
-    kind: usize,
-    first: usize,
-    second: usize,
+    step: Step,
 ) -> Outcome
-    requires { ⌜ (callRefusal (now sheet) ≡ 0) × Laid (now sheet) at × (formWith (nOf (now sheet)) (stateWith (now route) (now sets) (now levels) f) (roomOf (now trail)) ≡ true) × Held (stateWith (now route) (now sets) (now levels) f) × (kind ≡ 5 → ⊥) ⌝ }
-    ensures { λ r. ⌜ actOf (now (sheet .entry)) (stateWith (now (route .entry)) (now (sets .entry)) (now (levels .entry)) f) (now (trail .entry)) kind first second ≡ acted (r .answer) 0 (stateWith (now (route .exit)) (now (sets .exit)) (now (levels .exit)) (r .after)) (now (trail .exit)) ⌝ }
+    requires { ⌜ Known (now sheet) at (stateWith (now route) (now sets) (now levels) f) (now trail) × (step .kind ≡ SETTLE → ⊥) ⌝ }
+    ensures { λ r. ⌜ ((v : Van) →
+        actOf v (dayOf (now (sheet .entry))) (stateWith (now (route .entry)) (now (sets .entry)) (now (levels .entry)) f)
+        (now (trail .entry)) (step .kind) (step .first) (step .second)
+        ≡ ran r (now (route .exit)) (now (sets .exit)) (now (levels .exit)) (now (trail .exit))) ⌝ }
 {
     let n = at.nodes;
+    let kind = step.kind;
+    let first = step.first;
+    let second = step.second;
     match kind {
         Step::PLACE => place(route, sets, f, n, first, second, trail),
         Step::CLOSE => close(route, sets, f, n, first, second, trail),
         Step::EXCLUDE => {
-            let owed = settle::verdict::owed(sheet, at, route, f.stops, f.marks, first);
+            let owed = verdict::owed(sheet, at, route, f.stops, f.marks, first);
             exclude(route, sets, f, n, owed, first, trail)
         },
         Step::REQUIRE => require(route, f, n, first, trail),
         Step::LEVEL => level(levels, f),
         Step::BACK => back(route, sets, levels, f, n, trail),
-        _ => Outcome {
-            answer: Refusal::KIND,
-            after: f,
-        },
+        _ => same(Refusal::KIND, f),
     }
 }
 
@@ -87,84 +67,59 @@ fn change(
 fn settling(
     sheet: &[u8],
     at: Layout,
+    van: Van,
     route: &[usize; Node::MOST],
     sets: &mut [u64; Node::MOST],
     f: Figures,
     trail: &mut [u64],
-) -> Acted
-    requires { ⌜ Ready (now sheet) at (now route) (f .stops) (now sets) (f .marks) × (f .records ≤ roomOf (now trail)) ⌝ }
-    ensures { λ r. ⌜ ((levels : List ℕ) → actOf (now (sheet .entry)) (stateWith (now (route .entry)) (now (sets .entry)) levels f) (now (trail .entry)) 5 0 0 ≡ acted (r .answer) (r .rounds) (stateWith (now (route .entry)) (now (sets .exit)) levels (r .after)) (now (trail .exit))) ⌝ }
+) -> Outcome
+    requires { ⌜ Ready (now sheet) at (now route) (f .stops) (now sets) (f .marks) × (f .records ≤ roomOf (now trail)) × (van .limit ≤ 1000000) ⌝ }
+    ensures { λ r. ⌜ ((levels : List ℕ) →
+        settleStep (stateWith (now (route .entry)) (now (sets .entry)) levels f) (now (trail .entry))
+        (settlingRounds van (dayOf (now (sheet .entry))) (stateWith (now (route .entry)) (now (sets .entry)) levels f))
+        (settledSets van (dayOf (now (sheet .entry))) (stateWith (now (route .entry)) (now (sets .entry)) levels f))
+        ≡ ran r (now (route .entry)) (now (sets .exit)) levels (now (trail .exit))) ⌝ }
 {
-    let van = van_of(sheet);
     let mut new = *sets;
-    let struck = settle::settling::settle(sheet, at, van, route, f.stops, sets, &mut new);
-    if struck == 0 {
-        return Acted {
-            answer: 0,
-            rounds: 0,
-            after: f,
-        };
-    }
-    let o = trail::steps::settle(sets, f, &new, at.nodes, trail);
-    let rounds = if o.answer == 0 { struck } else { 0 };
-    let after = o.after;
-    Acted {
-        answer: o.answer,
-        rounds: rounds,
-        after: after,
-    }
+    let rounds = settle::settling::settle(sheet, at, van, route, f.stops, sets, &mut new);
+    trail::steps::settle(sets, f, rounds, &new, at.nodes, trail)
 }
 
-// One step: the arrays and the trail are changed in place.
+// One step of a van: the arrays and the trail are changed in place.
 pub fn act(
     sheet: &[u8],
     at: Layout,
+    van: Van,
     route: &mut [usize; Node::MOST],
     sets: &mut [u64; Node::MOST],
     levels: &mut [usize; State::LEVELS],
     f: Figures,
     trail: &mut [u64],
-    kind: usize,
-    first: usize,
-    second: usize,
-) -> Acted
-    requires { ⌜ (callRefusal (now sheet) ≡ 0) × Laid (now sheet) at × (formWith (nOf (now sheet)) (stateWith (now route) (now sets) (now levels) f) (roomOf (now trail)) ≡ true) × Held (stateWith (now route) (now sets) (now levels) f) ⌝ }
-    ensures { λ r. ⌜ actOf (now (sheet .entry)) (stateWith (now (route .entry)) (now (sets .entry)) (now (levels .entry)) f) (now (trail .entry)) kind first second ≡ acted (r .answer) (r .rounds) (stateWith (now (route .exit)) (now (sets .exit)) (now (levels .exit)) (r .after)) (now (trail .exit)) ⌝ }
+    step: Step,
+) -> Outcome
+    requires { ⌜ Known (now sheet) at (stateWith (now route) (now sets) (now levels) f) (now trail) × (van .limit ≤ 1000000) ⌝ }
+    ensures { λ r. ⌜ actOf van (dayOf (now (sheet .entry))) (stateWith (now (route .entry)) (now (sets .entry)) (now (levels .entry)) f)
+        (now (trail .entry)) (step .kind) (step .first) (step .second)
+        ≡ ran r (now (route .exit)) (now (sets .exit)) (now (levels .exit)) (now (trail .exit)) ⌝ }
 {
-    if kind == Step::SETTLE {
-        return settling(sheet, at, route, sets, f, trail);
+    if step.kind == Step::SETTLE {
+        return settling(sheet, at, van, route, sets, f, trail);
     }
-    let o = change(
-        sheet,
-        at,
-        route,
-        sets,
-        levels,
-        f,
-        trail,
-        kind,
-        first,
-        second,
-    );
-    let after = o.after;
-    Acted {
-        answer: o.answer,
-        rounds: 0,
-        after: after,
-    }
+    change(sheet, at, route, sets, levels, f, trail, step)
 }
 
-// The verdict.
+// The verdict of a van.
 pub fn alive<'a>(
     sheet: &[u8],
     at: Layout,
+    van: Van,
     route: &'a [usize; Node::MOST],
     sets: &'a [u64; Node::MOST],
     f: Figures,
 ) -> bool
     requires { ⌜ Ready (now sheet) at (now route) (f .stops) (now sets) (f .marks) ⌝ }
-    ensures { λ r. ⌜ ((levels : List ℕ) → r ≡ alive (vanOf (now (sheet .entry))) (dayOf (now (sheet .entry))) (planIn (stateWith (now (route .entry)) (now (sets .entry)) levels f))) ⌝ }
+    ensures { λ r. ⌜ ((levels : List ℕ) →
+        r ≡ alive van (dayOf (now (sheet .entry))) (planIn (stateWith (now (route .entry)) (now (sets .entry)) levels f))) ⌝ }
 {
-    let van = van_of(sheet);
-    settle::verdict::alive(sheet, at, van, route, f.stops, sets, f.marks)
+    verdict::alive(sheet, at, van, route, f.stops, sets, f.marks)
 }

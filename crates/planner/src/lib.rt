@@ -5,30 +5,26 @@ ghost use mathlib.Core.Path.{_≡_};
 ghost use lib.ListN.{length};
 ghost use Rattle.board.specs.Board.{stateWith};
 ghost use Rattle.board.specs.Held.{Held};
+ghost use Rattle.sheet.specs.Place.{found};
 ghost use Rattle.day.specs.Section.{sectionOf};
-ghost use Rattle.planner.specs.Face.{openOf, askRefusal, stepRefusal, countOf, judgeOf, acted, stepOf};
+ghost use Rattle.trail.specs.Steps.{ran};
+ghost use Rattle.planner.specs.Face.{openOf, askRefusal, stepRefusal, countOf, judgeOf, stepOf};
 use board::Figures;
 use board::State;
 use board::form::in_form;
 use board::places::count;
-use day::refusal_1_to_4;
-use day::refusal_1_to_5;
-use known::Acted;
 use known::act;
 use rules::Node;
 use rules::Refusal;
-use sheet::layout_of;
+use rules::Step;
+use sheet::Found;
+use trail::Outcome;
+use trail::Stepped;
+use trail::steps::same;
 
 // What opening gives: 0 and the fresh state, or the number of a refusal and the state with every number 0.
 pub struct Opened {
     pub answer: usize,
-    pub state: State,
-}
-
-// What a step gives: 0 or the number of a refusal, how many rounds of settling struck something, and the state.
-pub struct Stepped {
-    pub answer: usize,
-    pub rounds: usize,
     pub state: State,
 }
 
@@ -48,15 +44,15 @@ pub struct Judged {
 pub fn open(sheet: &[u8]) -> Opened
     ensures { λ r. ⌜ r ≡ openOf (now (sheet .entry)) ⌝ }
 {
-    let refusal = refusal_1_to_5(sheet);
-    let state = if refusal == 0 {
-        let at = layout_of(sheet);
+    let found = day::opening(sheet);
+    let at = found.layout;
+    let state = if found.answer == 0 {
         State::fresh(at.nodes)
     } else {
         State::none()
     };
     Opened {
-        answer: refusal,
+        answer: found.answer,
         state: state,
     }
 }
@@ -80,56 +76,44 @@ fn figures(stops: usize, marks: u64, depth: usize, records: usize) -> Figures
     }
 }
 
-// Why a call on a sheet and a state is refused, the trail's room apart, or 0.
-fn ask_refusal<'a>(
+// Why a call on a sheet and a state is refused, the trail's room apart, or 0 and the sheet's layout.
+fn asked<'a>(
     sheet: &[u8],
     route: &'a [usize; Node::MOST],
     sets: &'a [u64; Node::MOST],
     levels: &'a [usize; State::LEVELS],
     f: Figures,
-) -> usize
+) -> Found
     requires { ⌜ length (now route) ≡ 64 ⌝ }
-    ensures { λ r. ⌜ r ≡ askRefusal (now (sheet .entry)) (stateWith (now (route .entry)) (now (sets .entry)) (now (levels .entry)) f) ⌝ }
+    ensures { λ r. ⌜ r ≡ found (λ s. askRefusal s (stateWith (now (route .entry)) (now (sets .entry)) (now (levels .entry)) f)) (now (sheet .entry)) ⌝ }
 {
-    let answer = refusal_1_to_4(sheet);
-    if answer != 0 {
-        return answer;
+    let found = day::checked(sheet);
+    if found.answer != 0 {
+        return found;
     }
-    let at = layout_of(sheet);
-    let form = in_form(
-        route,
-        f.stops,
-        sets,
-        f.marks,
-        levels,
-        f.depth,
-        f.records,
-        at.nodes,
-    );
-    if form { 0 } else { Refusal::FORM }
+    let at = found.layout;
+    let form = in_form(route, sets, levels, f, at.nodes);
+    found.judged(form, Refusal::FORM)
 }
 
-// Why a step on a sheet, a state and a trail is refused whatever its kind, or 0.
-fn step_refusal<'a>(
+// The same of a step, whatever its kind: it lends a trail.
+fn called<'a>(
     sheet: &[u8],
     route: &'a [usize; Node::MOST],
     sets: &'a [u64; Node::MOST],
     levels: &'a [usize; State::LEVELS],
     f: Figures,
     trail: &[u64],
-) -> usize
+) -> Found
     requires { ⌜ length (now route) ≡ 64 ⌝ }
-    ensures { λ r. ⌜ r ≡ stepRefusal (now (sheet .entry)) (stateWith (now (route .entry)) (now (sets .entry)) (now (levels .entry)) f) (now (trail .entry)) ⌝ }
+    ensures { λ r. ⌜ r ≡ found (λ s. stepRefusal s (stateWith (now (route .entry)) (now (sets .entry)) (now (levels .entry)) f) (now (trail .entry)))
+        (now (sheet .entry)) ⌝ }
 {
-    let answer = ask_refusal(sheet, route, sets, levels, f);
-    if answer != 0 {
-        return answer;
+    let found = asked(sheet, route, sets, levels, f);
+    if found.answer != 0 {
+        return found;
     }
-    if trail.len() / 2 < f.records {
-        Refusal::FORM
-    } else {
-        0
-    }
+    found.judged(f.records <= trail.len() / 2, Refusal::FORM)
 }
 
 // One step on a state in arrays: refused whatever its kind, or done in place.
@@ -140,34 +124,20 @@ fn step_in(
     levels: &mut [usize; State::LEVELS],
     f: Figures,
     trail: &mut [u64],
-    kind: usize,
-    first: usize,
-    second: usize,
-) -> Acted
+    step: Step,
+) -> Outcome
     requires { ⌜ Held (stateWith (now route) (now sets) (now levels) f) ⌝ }
-    ensures { λ r. ⌜ stepOf (now (sheet .entry)) (stateWith (now (route .entry)) (now (sets .entry)) (now (levels .entry)) f) (now (trail .entry)) kind first second ≡ acted (r .answer) (r .rounds) (stateWith (now (route .exit)) (now (sets .exit)) (now (levels .exit)) (r .after)) (now (trail .exit)) ⌝ }
+    ensures { λ r. ⌜ stepOf (now (sheet .entry)) (stateWith (now (route .entry)) (now (sets .entry)) (now (levels .entry)) f)
+        (now (trail .entry)) (step .kind) (step .first) (step .second)
+        ≡ ran r (now (route .exit)) (now (sets .exit)) (now (levels .exit)) (now (trail .exit)) ⌝ }
 {
-    let answer = step_refusal(sheet, route, sets, levels, f, trail);
-    if answer != 0 {
-        return Acted {
-            answer: answer,
-            rounds: 0,
-            after: f,
-        };
+    let found = called(sheet, route, sets, levels, f, trail);
+    if found.answer != 0 {
+        return same(found.answer, f);
     }
-    let at = layout_of(sheet);
-    act(
-        sheet,
-        at,
-        route,
-        sets,
-        levels,
-        f,
-        trail,
-        kind,
-        first,
-        second,
-    )
+    let at = found.layout;
+    let van = day::look::van(sheet, at);
+    act(sheet, at, van, route, sets, levels, f, trail, step)
 }
 
 // One step: the outcome, and the trail.
@@ -182,20 +152,15 @@ pub fn step(
     ensures { λ r. ⌜ stepOf (now (sheet .entry)) state (now (trail .entry)) kind first second ≡ (r, now (trail .exit)) ⌝ }
 {
     let f = figures(state.stops, state.marks, state.depth, state.records);
+    let asked = Step {
+        kind: kind,
+        first: first,
+        second: second,
+    };
     let mut route = state.route;
     let mut sets = state.sets;
     let mut levels = state.levels;
-    let o = step_in(
-        sheet,
-        &mut route,
-        &mut sets,
-        &mut levels,
-        f,
-        trail,
-        kind,
-        first,
-        second,
-    );
+    let o = step_in(sheet, &mut route, &mut sets, &mut levels, f, trail, asked);
     let after = o.after;
     Stepped {
         answer: o.answer,
@@ -217,14 +182,14 @@ pub fn open_places(sheet: &[u8], state: State) -> Counted
     ensures { λ r. ⌜ r ≡ countOf (now (sheet .entry)) state ⌝ }
 {
     let f = figures(state.stops, state.marks, state.depth, state.records);
-    let answer = ask_refusal(sheet, &state.route, &state.sets, &state.levels, f);
-    if answer != 0 {
+    let found = asked(sheet, &state.route, &state.sets, &state.levels, f);
+    if found.answer != 0 {
         return Counted {
-            answer: answer,
+            answer: found.answer,
             places: 0,
         };
     }
-    let at = layout_of(sheet);
+    let at = found.layout;
     Counted {
         answer: 0,
         places: count(&state.sets, at.nodes),
@@ -236,16 +201,17 @@ pub fn verdict(sheet: &[u8], state: State) -> Judged
     ensures { λ r. ⌜ r ≡ judgeOf (now (sheet .entry)) state ⌝ }
 {
     let f = figures(state.stops, state.marks, state.depth, state.records);
-    let answer = ask_refusal(sheet, &state.route, &state.sets, &state.levels, f);
-    if answer != 0 {
+    let found = asked(sheet, &state.route, &state.sets, &state.levels, f);
+    if found.answer != 0 {
         return Judged {
-            answer: answer,
+            answer: found.answer,
             alive: false,
         };
     }
-    let at = layout_of(sheet);
+    let at = found.layout;
+    let van = day::look::van(sheet, at);
     Judged {
         answer: 0,
-        alive: known::alive(sheet, at, &state.route, &state.sets, f),
+        alive: known::alive(sheet, at, van, &state.route, &state.sets, f),
     }
 }

@@ -1,15 +1,14 @@
 use borrow.Author.Needs.{needs}
 use native.Mathlib.Omega.{arith}
 use Prim.Native.Nat.{_-_, _≤_}
-use lib.ListN.{length}
 use Rattle.measure.proofs.weigh.Statement.{statement}
 use Rattle.measure.proofs.weigh.Tie as tie
 
 abbrev Inv-loop : tie.InvT-loop
-Inv-loop text sum₀ i₀ sum i = i ≤ length text
+Inv-loop out used sum₀ i₀ sum i = i ≤ used
 
 abbrev μ-loop : tie.MeasureT-loop
-μ-loop text sum₀ i₀ sum i = length text - i
+μ-loop out used sum₀ i₀ sum i = used - i
 
 loop-holds : tie.Need-loop-holds Inv-loop μ-loop
 loop-holds c = search needs

@@ -19,4 +19,10 @@ returns : tie.Need-returns
 returns c = let s = c .before .before .before in rw (s .before .before .before .before .before .before .before .before .figures .ensures) at (s .step-in .ensures)
 
 pub step-spec : {M : Type 1} → statement M
-step-spec = tie.close (tie.spec figures-requires step-in-requires same-length returns)
+step-spec =
+    tie.close
+    (tie.spec
+    figures-requires
+    step-in-requires
+    same-length
+    returns)

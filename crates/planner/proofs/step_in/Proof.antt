@@ -1,4 +1,5 @@
 use mathlib.Core.Path.{_≡_, sym, _∙_}
+use Rattle.sheet.specs.Place.{Laid, found-answer, found-laid}
 use Rattle.day.specs.Refuse.{read-zero}
 use Rattle.board.specs.Board.{stateWith}
 use Rattle.planner.specs.Face.{stepRefusal}
@@ -8,42 +9,53 @@ use borrow.Author.Needs.{needs}
 use Rattle.planner.proofs.step_in.Statement.{statement}
 use Rattle.planner.proofs.step_in.Tie as tie
 
-zero : (c : tie.Else1) → let a = c .before .before .before .before .before .before .before .before .args in
+zero : (c : tie.Else1) → let a = c .before .before .before .before .before .before .before .before .before .args in
     stepRefusal (a .sheet .now) (stateWith (a .route .now) (a .sets .now) (a .levels .now) (a .f)) (a .trail .now) ≡ 0
-zero c = sym (c .before .step-refusal .ensures) ∙ c .if1 .left
+zero c = sym (found-answer _ _ (c .before .before .called .ensures)) ∙ c .if1 .left
 
-step-refusal-requires : tie.Need-step-refusal-requires
-step-refusal-requires c κs = search needs
+laid : (c : tie.Else1) → Laid (c .before .before .before .before .before .before .before .before .before .args .sheet .now) (c .before .before .called .result .layout)
+laid c = found-laid _ _ (λ z. read-zero _ (called _ _ _ z .read)) (c .before .before .called .ensures) (c .if1 .left)
+
+called-requires : tie.Need-called-requires
+called-requires c κs = search needs
+
+same-requires : tie.Need-same-requires
+same-requires c κs = search needs
 
 same-length : tie.Need-same-length
 same-length c = search needs
 
 returns : tie.Need-returns
-returns c = step-refused _ _ _ _ _ _ (c .before .step-refusal .ensures) (c .if1 .taken)
+returns c = let t = c .before in rw (c .same .ensures) (step-refused _ _ _ _ _ _ (found-answer _ _ (t .before .before .called .ensures)) (t .if1 .taken))
 
-layout-of-requires : tie.Need-layout-of-requires
-layout-of-requires c κs = read-zero _ (called _ _ _ (zero c) .read)
+van-requires : tie.Need-van-requires
+van-requires c κs = laid (c .before)
 
 act-requires : tie.Need-act-requires
 act-requires c κs =
-    let l = c .before .before .before .before in
-    let u = called _ _ _ (zero (l .before)) in
-    (u .read, l .layout-of .ensures, u .room, l .before .before .before .before .before .before .before .before .before .pre)
+    let v = c .before .before .before .before in
+    let e = v .before .before in
+    let u = called _ _ _ (zero e) in
+    (record { clear = u .read; laid = laid e; form = u .room; held = e .before .before .before .before .before .before .before .before .before .pre }, v .van .ensures .2)
 
 same-length-2 : tie.Need-same-length-2
 same-length-2 c = search needs
 
 returns-2 : tie.Need-returns-2
-returns-2 c = let a = c .before .before in call-yes _ _ _ _ _ _ (zero (a .before .before .before .before .before .before)) ∙ a .act .ensures
+returns-2 c =
+    let a = c .before .before in
+    let v = a .before .before .before .before .before in
+    call-yes _ _ _ _ _ _ (zero (v .before .before)) ∙ (rw (v .van .ensures .0) at (a .act .ensures))
 
 pub step-in-spec : {M : Type 1} → statement M
 step-in-spec =
     tie.close
     (tie.spec
-    step-refusal-requires
+    called-requires
+    same-requires
     same-length
     returns
-    layout-of-requires
+    van-requires
     act-requires
     same-length-2
     returns-2)

@@ -6,8 +6,8 @@ use Rattle.round.proofs.write.Tie as tie
 
 slice-aggregate-write-all : tie.Need-slice-aggregate-write-all
 slice-aggregate-write-all c =
-    let a = c .before .before .args in
-    omega (arith, length-take (a .used) (a .out .now))
+    let d = c .before .before .before in
+    omega (arith, length-take (d .args .used) (d .args .out .now), d .pre .1)
 
 write-all-requires : tie.Need-write-all-requires
 write-all-requires c κs = search needs
