@@ -9,8 +9,10 @@ use rules::Node;
 ghost use mathlib.Core.Path.{_≡_};
 ghost use mathlib.Core.Bool.{false, _&&_};
 ghost use mathlib.Core.List.{List};
-ghost use Prim.Native.Nat.{ℕ, _-_, _≤_};
+ghost use Prim.Native.Nat.{ℕ, _-_, _≤_, _<_};
+ghost use lib.ListN.{getD};
 ghost use Rattle.bits.specs.Places.{has, without, within};
+ghost use Rattle.board.specs.Route.{wordOf};
 ghost use Rattle.board.specs.Board.{board};
 ghost use Rattle.board.specs.FormLaws.{Sound};
 ghost use Rattle.trail.specs.Trail.{roomOf};
@@ -40,23 +42,23 @@ fn grows(v: u64, w: u64, legs: u64) -> bool
     (bits::within(v, w) & !bits::within(w, v)) & bits::within(w, legs)
 }
 
-// A set made smaller: x gets its larger set w back.
+// A set made smaller: x gets its larger set w back. `legs` has the legs of the route as a set.
 fn undo_shrunk(
     route: &[usize; Node::MOST],
     sets: &mut [u64; Node::MOST],
     stops: usize,
     marks: u64,
+    legs: u64,
     n: usize,
     x: usize,
     w: u64,
 ) -> Undone
-    requires { ⌜ Sound n (board (now route) stops (now sets) marks) ⌝ }
+    requires { ⌜ Sound n (board (now route) stops (now sets) marks) × (legs ≡ wordOf (stops - 1) (now route)) ⌝ }
     ensures { λ r. ⌜ undoShrunk n (board (now (route .entry)) stops (now (sets .entry)) marks) x w ≡ undid r (now (route .entry)) (now (sets .exit)) ⌝ }
 {
     if !inner(n, x) {
         return misfit(stops, marks);
     }
-    let legs = word(route, stops - 1);
     let v = sets[x];
     let fits = !bits::has(legs, x) & grows(v, w, legs);
     if !fits {
@@ -82,12 +84,14 @@ fn undo_placed(
     sets: &mut [u64; Node::MOST],
     stops: usize,
     marks: u64,
+    legs: u64,
     n: usize,
     x: usize,
     old: u64,
 ) -> Undone
-    requires { ⌜ Sound n (board (now route) stops (now sets) marks) ⌝ }
+    requires { ⌜ Sound n (board (now route) stops (now sets) marks) × (legs ≡ wordOf (stops - 1) (now route)) ⌝ }
     ensures { λ r. ⌜ undoPlaced n (board (now (route .entry)) stops (now (sets .entry)) marks) x old ≡ undid r (now (route .exit)) (now (sets .exit)) ⌝ }
+    ensures { λ r. ⌜ (r .stops ≡ stops → now (route .exit) ≡ now (route .entry)) ⌝ }
 {
     if !inner(n, x) {
         return misfit(stops, marks);
@@ -96,7 +100,6 @@ fn undo_placed(
     if stops <= i {
         return misfit(stops, marks);
     }
-    let legs = word(route, stops - 1);
     let before = route[i - 1];
     if !left_legs(old, legs, x, before) {
         return misfit(stops, marks);
@@ -140,21 +143,34 @@ fn undo_one(
     sets: &mut [u64; Node::MOST],
     stops: usize,
     marks: u64,
+    legs: u64,
     n: usize,
     first: u64,
     w: u64,
 ) -> Undone
-    requires { ⌜ Sound n (board (now route) stops (now sets) marks) ⌝ }
+    requires { ⌜ Sound n (board (now route) stops (now sets) marks) × (legs ≡ wordOf (stops - 1) (now route)) ⌝ }
     ensures { λ r. ⌜ undoOne n (board (now (route .entry)) stops (now (sets .entry)) marks) first w ≡ undid r (now (route .exit)) (now (sets .exit)) ⌝ }
+    ensures { λ r. ⌜ (r .stops ≡ stops → now (route .exit) ≡ now (route .entry)) ⌝ }
 {
     let kind = first / Record::KIND;
     let x = (first % Record::KIND) as usize;
     match kind {
-        Record::SHRUNK => undo_shrunk(route, sets, stops, marks, n, x, w),
-        Record::PLACED => undo_placed(route, sets, stops, marks, n, x, w),
+        Record::SHRUNK => undo_shrunk(route, sets, stops, marks, legs, n, x, w),
+        Record::PLACED => undo_placed(route, sets, stops, marks, legs, n, x, w),
         Record::MARKED => undo_marked(route, sets, stops, marks, n, x, w),
         _ => misfit(stops, marks),
     }
+}
+
+// The legs of a route of so many stops as a set: those of before, unless a stop was taken off.
+fn legs_after(route: &[usize; Node::MOST], before: usize, stops: usize, legs: u64) -> u64
+    requires { ⌜ (1 ≤ stops) × (stops ≤ 64) × ((i : ℕ) → i < stops → getD (now route) i 0 < 64) ⌝ }
+    ensures { λ r. ⌜ ((stops ≡ before → legs ≡ wordOf (stops - 1) (now (route .entry))) → r ≡ wordOf (stops - 1) (now (route .entry))) ⌝ }
+{
+    if stops == before {
+        return legs;
+    }
+    word(route, stops - 1)
 }
 
 // The records from `base` on undone, newest first, as far as they fit.
@@ -172,13 +188,24 @@ pub fn undo_many(
 {
     let mut s = f.stops;
     let mut m = f.marks;
+    let mut legs = word(route, s - 1);
     let mut left = f.records;
     while base < left {
         left -= 1;
-        let o = undo_one(route, sets, s, m, n, trail[2 * left], trail[2 * left + 1]);
+        let o = undo_one(
+            route,
+            sets,
+            s,
+            m,
+            legs,
+            n,
+            trail[2 * left],
+            trail[2 * left + 1],
+        );
         if !o.fits {
             return o;
         }
+        legs = legs_after(route, s, o.stops, legs);
         s = o.stops;
         m = o.marks;
     }

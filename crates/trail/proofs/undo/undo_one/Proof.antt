@@ -1,4 +1,4 @@
-use mathlib.Core.Path.{sym, _∙_}
+use mathlib.Core.Path.{refl, sym, _∙_}
 use Rattle.trail.specs.UndoLaws.{one-shrunk, one-placed, one-marked, one-other}
 use borrow.Author.Needs.{needs}
 use Rattle.trail.proofs.undo.undo_one.Statement.{statement}
@@ -17,16 +17,16 @@ misfit-requires : tie.Need-misfit-requires
 misfit-requires c κs = search needs
 
 returns : tie.Need-returns
-returns c = one-shrunk _ _ _ _ (c .before .before .before .match .keys1) ∙ c .undo-shrunk .ensures
+returns c = (one-shrunk _ _ _ _ (c .before .before .before .match .keys1) ∙ c .undo-shrunk .ensures, λ e. refl)
 
 returns-2 : tie.Need-returns-2
-returns-2 c = one-placed _ _ _ _ (c .before .before .before .match .keys2) ∙ c .undo-placed .ensures
+returns-2 c = (one-placed _ _ _ _ (c .before .before .before .match .keys2) ∙ c .undo-placed .ensures .0, c .undo-placed .ensures .1)
 
 returns-3 : tie.Need-returns-3
-returns-3 c = one-marked _ _ _ _ (c .before .before .before .match .keys3) ∙ c .undo-marked .ensures
+returns-3 c = (one-marked _ _ _ _ (c .before .before .before .match .keys3) ∙ c .undo-marked .ensures, λ e. refl)
 
 returns-4 : tie.Need-returns-4
-returns-4 c = let r = c .before .match .rest in one-other _ _ _ _ (r .0 .0 .1) (r .0 .1) (r .1) ∙ sym (c .misfit .ensures _ _)
+returns-4 c = let r = c .before .match .rest in (one-other _ _ _ _ (r .0 .0 .1) (r .0 .1) (r .1) ∙ sym (c .misfit .ensures _ _), λ e. refl)
 
 pub undo-one-spec : {M : Type 1} → statement M
 undo-one-spec =

@@ -17,19 +17,19 @@ node : (c : tie.Else1) → isInner (c .before .before .args .n) (c .before .befo
 node c = sym (c .before .inner .ensures) ∙ not-false _ (c .if1 .left)
 
 low : (c : tie.Else1) → c .before .before .args .x < 64
-low c = omega (arith, is-inner _ _ (node c) .1, c .before .before .pre .small)
+low c = omega (arith, is-inner _ _ (node c) .1, c .before .before .pre .0 .small)
 
 on : (c : tie.Else2) → let a = c .before .before .before .before .before .args in onRoute (board (a .route .now) (a .stops) (a .sets .now) (a .marks)) (a .x) ≡ true
 unfolding routeOf
-on c = placed-on _ _ _ (c .before .before .before .before .before .pre) (omega (arith, c .before .position .ensures, c .if2 .left))
+on c = placed-on _ _ _ (c .before .before .before .before .before .pre .0) (omega (arith, c .before .position .ensures, c .if2 .left))
 
-fits-is : (c : tie.After-left-legs) → let a = c .before .before .before .before .before .before .before .before .before .args in
+fits-is : (c : tie.After-left-legs) → let a = c .before .before .before .before .before .before .before .args in
     fitsPlaced (a .n) (board (a .route .now) (a .stops) (a .sets .now) (a .marks)) (a .x) (a .old) ≡ c .left-legs .result
 unfolding legsOf stopBefore routeOf
 fits-is c =
-    let e = c .before .before .before .before in
+    let e = c .before .before in
     placed-test _ _ _ _ (node (e .before .before .before)) (on e)
-    ∙ rw (c .left-legs .ensures, c .before .before .word .ensures, e .before .position .ensures) refl
+    ∙ rw (c .left-legs .ensures, e .before .before .before .before .before .pre .1, e .before .position .ensures) refl
 
 inner-requires : tie.Need-inner-requires
 inner-requires c κs = search needs
@@ -40,10 +40,10 @@ misfit-requires c κs = search needs
 returns : tie.Need-returns
 returns c =
     let t = c .before in
-    undone-no _ _ (placed-out _ _ _ _ (sym (t .before .inner .ensures) ∙ not-true _ (t .if1 .taken))) ∙ sym (c .misfit .ensures _ _)
+    (undone-no _ _ (placed-out _ _ _ _ (sym (t .before .inner .ensures) ∙ not-true _ (t .if1 .taken))) ∙ sym (c .misfit .ensures _ _), λ e. refl)
 
 position-requires : tie.Need-position-requires
-position-requires c κs = let r = readable _ _ (c .before .before .before .pre) in (r .1, r .2)
+position-requires c κs = let r = readable _ _ (c .before .before .before .pre .0) in (r .1, r .2)
 
 misfit-requires-2 : tie.Need-misfit-requires-2
 misfit-requires-2 c κs = search needs
@@ -51,24 +51,17 @@ misfit-requires-2 c κs = search needs
 returns-2 : tie.Need-returns-2
 unfolding routeOf
 returns-2 c =
-    let t = c .before in
-    undone-no _ _ (placed-off _ _ _ _ (t .before .before .before .before .before .pre) (omega (arith, t .before .position .ensures, t .if2 .taken)))
-    ∙ sym (c .misfit2 .ensures _ _)
-
-sub-word : tie.Need-sub-word
-sub-word c = search needs
-
-word-requires : tie.Need-word-requires
-word-requires c κs =
-    let r = readable _ _ (c .before .before .before .before .before .before .pre) in
-    (omega (arith, r .1), λ i h. r .3 i (omega arith))
+    let t = c .before in (
+      undone-no _ _ (placed-off _ _ _ _ (t .before .before .before .before .before .pre .0) (omega (arith, t .before .position .ensures, t .if2 .taken)))
+          ∙ sym (c .misfit2 .ensures _ _),
+      λ e. refl,
+    )
 
 sub-before : tie.Need-sub-before
 unfolding routeOf
 sub-before c =
-    let e = c .before .before in
-    let s = e .before .before .before .before .before .pre in
-    omega (arith, inner-inside _ _ (s .small) (s .wide) (s .form .route) _ (node (e .before .before .before)) (on e) .0, e .before .position .ensures)
+    let s = c .before .before .before .before .before .pre .0 in
+    omega (arith, inner-inside _ _ (s .small) (s .wide) (s .form .route) _ (node (c .before .before .before)) (on c) .0, c .before .position .ensures)
 
 mul-before : tie.Need-mul-before
 mul-before c = search needs
@@ -83,22 +76,23 @@ misfit-requires-3 : tie.Need-misfit-requires-3
 misfit-requires-3 c κs = search needs
 
 returns-3 : tie.Need-returns-3
-returns-3 c = let t = c .before in undone-no _ _ (fits-is (t .before) ∙ not-true _ (t .if3 .taken)) ∙ sym (c .misfit3 .ensures _ _)
+returns-3 c = let t = c .before in (undone-no _ _ (fits-is (t .before) ∙ not-true _ (t .if3 .taken)) ∙ sym (c .misfit3 .ensures _ _), λ e. refl)
 
 unplace-requires : tie.Need-unplace-requires
 unplace-requires c κs =
-    let e = c .before .before .before .before .before .before .before in
+    let e = c .before .before .before .before .before in
     let d = e .before .before .before .before .before in
-    (omega (arith, readable _ _ (d .pre) .1, e .if2 .left), low (e .before .before .before), (_, _, d .pre))
+    (omega (arith, readable _ _ (d .pre .0) .1, e .if2 .left), low (e .before .before .before), (_, _, d .pre .0))
 
-sub-t19 : tie.Need-sub-t19
-sub-t19 c = search needs
+sub-t18 : tie.Need-sub-t18
+sub-t18 c = search needs
 
 returns-4 : tie.Need-returns-4
 returns-4 c =
     let l = c .before .before .before .before in
-    let e = l .before .before .before .before in
-    undone-yes _ _ (fits-is l ∙ not-false _ (c .before .before .before .if3 .left)) ∙ ap (λ (b : Board). (true, b)) (c .unplace .ensures _ _ (e .before .position .ensures))
+    let e = l .before .before in
+    let d = e .before .before .before .before .before in
+    (undone-yes _ _ (fits-is l ∙ not-false _ (c .before .before .before .if3 .left)) ∙ ap (λ (b : Board). (true, b)) (c .unplace .ensures _ _ (e .before .position .ensures)), λ same. absurd (omega (arith, d .pre .0 .form .route .two, same)))
 
 pub undo-placed-spec : {M : Type 1} → statement M
 undo-placed-spec =
@@ -110,8 +104,6 @@ undo-placed-spec =
     position-requires
     misfit-requires-2
     returns-2
-    sub-word
-    word-requires
     sub-before
     mul-before
     element-copy-out-before
@@ -119,5 +111,5 @@ undo-placed-spec =
     misfit-requires-3
     returns-3
     unplace-requires
-    sub-t19
+    sub-t18
     returns-4)

@@ -17,15 +17,15 @@ node : (c : tie.Else1) → isInner (c .before .before .args .n) (c .before .befo
 node c = sym (c .before .inner .ensures) ∙ not-false _ (c .if1 .left)
 
 low : (c : tie.Else1) → c .before .before .args .x < 64
-low c = omega (arith, is-inner _ _ (node c) .1, c .before .before .pre .small)
+low c = omega (arith, is-inner _ _ (node c) .1, c .before .before .pre .0 .small)
 
-fits-is : (c : tie.After-grows) → let a = c .before .before .before .before .before .before .args in
+fits-is : (c : tie.After-grows) → let a = c .before .before .before .before .before .args in
     fitsShrunk (a .n) (board (a .route .now) (a .stops) (a .sets .now) (a .marks)) (a .x) (a .w) ≡ not (c .before .has .result) && c .grows .result
 unfolding legsOf setOf
 fits-is c =
-    let e = c .before .before .before .before in
-    shrunk-test _ _ _ _ (e .before .before .pre) (node e)
-    ∙ rw (c .grows .ensures, c .before .has .ensures, c .before .before .before .word .ensures) refl
+    let e = c .before .before .before in
+    let p = e .before .before .pre in
+    shrunk-test _ _ _ _ (p .0) (node e) ∙ rw (c .grows .ensures, c .before .has .ensures, p .1) refl
 
 inner-requires : tie.Need-inner-requires
 inner-requires c κs = search needs
@@ -38,19 +38,11 @@ returns c =
 misfit-requires : tie.Need-misfit-requires
 misfit-requires c κs = search needs
 
-sub-word : tie.Need-sub-word
-sub-word c = omega (arith, c .before .before .pre .form .route .two)
-
-word-requires : tie.Need-word-requires
-word-requires c κs =
-    let r = readable _ _ (c .before .before .pre) in
-    (omega (arith, r .1), λ i h. r .3 i (omega arith))
-
 mul-v : tie.Need-mul-v
-mul-v c = omega (arith, low (c .before))
+mul-v c = omega (arith, low c)
 
 element-copy-out-v : tie.Need-element-copy-out-v
-element-copy-out-v c = low (c .before)
+element-copy-out-v c = low c
 
 has-requires : tie.Need-has-requires
 has-requires c κs = search needs
@@ -65,10 +57,10 @@ misfit-requires-2 : tie.Need-misfit-requires-2
 misfit-requires-2 c κs = search needs
 
 mul-sets : tie.Need-mul-sets
-mul-sets c = omega (arith, low (c .before .before .before .before .before))
+mul-sets c = omega (arith, low (c .before .before .before .before))
 
 element-write-sets : tie.Need-element-write-sets
-element-write-sets c = low (c .before .before .before .before .before)
+element-write-sets c = low (c .before .before .before .before)
 
 returns-3 : tie.Need-returns-3
 unfolding putSet
@@ -81,8 +73,6 @@ undo-shrunk-spec =
     inner-requires
     misfit-requires
     returns
-    sub-word
-    word-requires
     mul-v
     element-copy-out-v
     has-requires
