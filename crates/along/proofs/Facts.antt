@@ -18,7 +18,7 @@ use Rattle.sheet.specs.declared.Layout.{Layout}
 use Rattle.day.specs.Tell.{dayOf}
 use Rattle.along.specs.Route.{Route, node-at}
 use Rattle.along.specs.Spots.{node-low}
-use Rattle.along.specs.Sets.{placesIn, Small, word-ext}
+use Rattle.along.specs.Sets.{placesIn, Narrow, word-ext}
 use Rattle.along.specs.Ready.{Ready, nodes-are, nodes-most}
 
 some-stops : (k : ℕ) → 1 ≤ k → (tail : List ℕ) → T (endsWith k (0 ∷ tail)) → 1 ≤ length tail
@@ -52,7 +52,7 @@ module _ {s : List ℕ} {at : Layout} {l : List ℕ} {n : ℕ} {ws : List ℕ} {
   pub places-seen : Seen (dayOf s) m (placesIn ws)
   places-seen = formed-seen (r .form)
 
-  pub places-small : Small (placesIn ws)
+  pub places-small : Narrow (placesIn ws)
   places-small x p t =
       let a = leg-index p m (r .form .leg x p t) in
       (omega (arith, inner-low (dayOf s) (r .form .inside x p t) .1, few-nodes), omega (arith, a .2, node-low (r .form .nodes) (a .0) (omega (arith, a .1)), few-nodes))

@@ -197,25 +197,25 @@ module _ (a on off : List ℕ) (i : ℕ) (few : i < 64) (wide : length on ≡ 64
 -- ---- what is aboard, leg by leg
 
 -- the first i legs are filled in; the other entries of what comes are as they were
-pub record Ran (first : ℕ) (on off : List ℕ) (i aboard : ℕ) (r : List ℕ) : Type 0 where
+pub record Summed (first : ℕ) (on off : List ℕ) (i aboard : ℕ) (r : List ℕ) : Type 0 where
   pub is : aboard + sumBelow i (λ k. getD off k 0) ≡ first + sumBelow i (λ k. getD on k 0)
   pub legs : Filled 64 (running first on off) 0 i r
   pub rest : (k : ℕ) → i ≤ k → getD r k 0 ≡ getD on k 0
 
-pub ran-none : (first : ℕ) (on off : List ℕ) → length on ≡ 64 → Ran first on off 0 first on
+pub ran-none : (first : ℕ) (on off : List ℕ) → length on ≡ 64 → Summed first on off 0 first on
 unfolding sumBelow
 ran-none first on off h = record { is = refl; legs = filled-none 64 (running first on off) 0 on h; rest = λ k b. refl }
 
 -- what is aboard with what comes at the next stop
-pub ran-next : {first : ℕ} {on off : List ℕ} {i aboard : ℕ} {r : List ℕ} → Ran first on off i aboard r
+pub ran-next : {first : ℕ} {on off : List ℕ} {i aboard : ℕ} {r : List ℕ} → Summed first on off i aboard r
     → (aboard + getD r i 0 ≤ first + upTo i on) × (aboard + getD r i 0 + upTo i off ≡ first + upTo i on + getD off i 0)
 ran-next {on = on} {off = off} {i} p =
     let a = sum-next i (λ k. getD on k 0) refl refl in
     let b = sum-next i (λ k. getD off k 0) refl refl in (omega (arith, p .is, p .rest i (omega arith)), omega (arith, p .is, p .rest i (omega arith)))
 
 -- one leg more
-pub ran-more : {first : ℕ} {on off : List ℕ} {i aboard : ℕ} {r : List ℕ} → i < 64 → upTo i off ≤ first + upTo i on → Ran first on off i aboard r
-    → Ran first on off (i + 1) (aboard + getD r i 0 - getD off i 0) (set r i (aboard + getD r i 0 - getD off i 0))
+pub ran-more : {first : ℕ} {on off : List ℕ} {i aboard : ℕ} {r : List ℕ} → i < 64 → upTo i off ≤ first + upTo i on → Summed first on off i aboard r
+    → Summed first on off (i + 1) (aboard + getD r i 0 - getD off i 0) (set r i (aboard + getD r i 0 - getD off i 0))
 unfolding running
 ran-more {off = off} {i} {aboard} {r} h b p = record {
   is = omega (arith, ran-next p);

@@ -12,7 +12,7 @@ use Rattle.day.specs.Refuse.{callRefusal}
 use Rattle.day.specs.Tell.{dayOf}
 use Rattle.along.specs.Sets.{planFrom}
 
--- a sheet that 1 to 4 do not refuse, where it has what, and a state in form in arrays: route, sets, marks
+-- a sheet that no call refuses, where it has what, and a state in form in arrays: route, sets, marks
 pub record Ready (s : List ℕ) (at : Layout) (l : List ℕ) (n : ℕ) (ws : List ℕ) (marks : ℕ) : Type 0 where
   pub clear : callRefusal s ≡ 0
   pub laid : Laid s at

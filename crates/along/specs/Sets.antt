@@ -82,14 +82,14 @@ sets-ext ws o n e far =
 
 -- ---- places of nodes and legs below 64 are those of their words
 
-abbrev pub Small : Places → Type 0
-Small o = (x p : ℕ) → T (o x p) → (x < 64) × (p < 64)
+abbrev pub Narrow : Places → Type 0
+Narrow o = (x p : ℕ) → T (o x p) → (x < 64) × (p < 64)
 
 pub length-sets : (o : Places) → length (setsOf o) ≡ 64
 unfolding setsOf
 length-sets o = length-tab 64 (λ x. wordFrom 64 (o x))
 
-pub places-sets : (o : Places) → Small o → (x p : ℕ) → placesIn (setsOf o) x p ≡ o x p
+pub places-sets : (o : Places) → Narrow o → (x p : ℕ) → placesIn (setsOf o) x p ≡ o x p
 unfolding setsOf
 places-sets o small x p = decided (ltb x 64) (λ t. near (ltb-true x 64 t)) (λ t. far (ltb-false x 64 t))
   where

@@ -24,15 +24,15 @@ setOk n b y = cond (isInner n y && not (onRoute b y)) (within (setOf b y) (legsO
 unfoldable pub markOk : ℕ → Board → ℕ → Bool
 markOk n b y = not (has (b .marks) y) || isInner n y
 
-unfoldable pub nodeOk : ℕ → Board → ℕ → Bool
-nodeOk n b y = setOk n b y && markOk n b y
+unfoldable pub nodeFits : ℕ → Board → ℕ → Bool
+nodeFits n b y = setOk n b y && markOk n b y
 
 -- route from 0 to n - 1; its stops, sets and marks
 unfoldable pub boardOk : ℕ → Board → Bool
 boardOk n b =
     (leb 2 (b .stops) && leb (b .stops) n)
     && ((eqb (getD (b .route) 0 0) 0 && eqb (getD (b .route) (b .stops - 1) 0) (n - 1))
-    && (allBelow 64 (stopOk n (b .stops) (b .route)) && allBelow 64 (nodeOk n b)))
+    && (allBelow 64 (stopOk n (b .stops) (b .route)) && allBelow 64 (nodeFits n b)))
 
 -- the counts not falling and not above the record count, unused ones 0
 unfoldable pub levelOk : ℕ → ℕ → List ℕ → ℕ → Bool

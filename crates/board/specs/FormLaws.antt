@@ -18,7 +18,7 @@ use Rattle.rules.proofs.Inner.{is-inner}
 use Rattle.board.specs.Route.{indexOf, wordOf}
 use Rattle.board.specs.RouteLaws.{index-hit, mem-at, mem-none, mem-absent, mem-index, word-mem, word-not, word-find, word-has, word-members}
 use Rattle.board.specs.Board.{Board, boardOf, routeOf, onRoute, legsOf, setOf, legNode}
-use Rattle.board.specs.Form.{stopOk, setOk, markOk, nodeOk, boardOk, levelOk, levelsOk, inForm, formWith}
+use Rattle.board.specs.Form.{stopOk, setOk, markOk, nodeFits, boardOk, levelOk, levelsOk, inForm, formWith}
 use Rattle.board.specs.declared.State.{State}
 
 pub leg-in : (n p : ℕ) → legNode n p ≡ true → p + 1 < n
@@ -67,16 +67,16 @@ module _ (n : ℕ) (b : Board) (small : n ≤ 64) (wide : Wide b) where
   stop-past i e h = eqb-true (getD (b .route) i 0) 0 (rw (le-ltb i (b .stops) h) at e)
 
   pub formed : boardOk n b ≡ true → Formed n b
-  unfolding boardOk nodeOk
+  unfolding boardOk nodeFits
   formed e =
       let p = and-true (leb 2 (b .stops) && leb (b .stops) n) _ e in
       let p' = and-true (leb 2 (b .stops)) (leb (b .stops) n) (p .0) in
       let q = and-true (eqb (getD (b .route) 0 0) 0 && eqb (getD (b .route) (b .stops - 1) 0) (n - 1)) _ (p .1) in
       let q' = and-true (eqb (getD (b .route) 0 0) 0) (eqb (getD (b .route) (b .stops - 1) 0) (n - 1)) (q .0) in
-      let r = and-true (allBelow 64 (stopOk n (b .stops) (b .route))) (allBelow 64 (nodeOk n b)) (q .1) in
+      let r = and-true (allBelow 64 (stopOk n (b .stops) (b .route))) (allBelow 64 (nodeFits n b)) (q .1) in
       let most : b .stops ≤ n = leb-true (b .stops) n (p' .1) in
       let stop : (i : ℕ) → i < 64 → stopOk n (b .stops) (b .route) i ≡ true = λ i l. below-at 64 i (stopOk n (b .stops) (b .route)) (r .0) l in
-      let node : (y : ℕ) → y < 64 → (setOk n b y ≡ true) × (markOk n b y ≡ true) = λ y l. and-true (setOk n b y) (markOk n b y) (below-at 64 y (nodeOk n b) (r .1) l) in
+      let node : (y : ℕ) → y < 64 → (setOk n b y ≡ true) × (markOk n b y ≡ true) = λ y l. and-true (setOk n b y) (markOk n b y) (below-at 64 y (nodeFits n b) (r .1) l) in
       record {
         route = record {
           two = leb-true 2 (b .stops) (p' .0);
@@ -106,7 +106,7 @@ module _ (n : ℕ) (b : Board) (small : n ≤ 64) (wide : Wide b) where
       (λ e. rw e (eq-eqb (getD (b .route) i 0) 0 (f .past i (ltb-false i (b .stops) e) l)))
 
   pub form-of : Formed n b → boardOk n b ≡ true
-  unfolding boardOk nodeOk
+  unfolding boardOk nodeFits
   form-of f =
       rw (
         le-leb 2 (b .stops) (f .route .two),
@@ -114,7 +114,7 @@ module _ (n : ℕ) (b : Board) (small : n ≤ 64) (wide : Wide b) where
         eq-eqb (getD (b .route) 0 0) 0 (f .route .start),
         eq-eqb (getD (b .route) (b .stops - 1) 0) (n - 1) (f .route .end),
         below-make 64 (stopOk n (b .stops) (b .route)) (stop-make (f .route)),
-      ) (below-make 64 (nodeOk n b) (λ y l. rw (f .sets y l) (f .marks y l)))
+      ) (below-make 64 (nodeFits n b) (λ y l. rw (f .sets y l) (f .marks y l)))
 
 -- ---- what follows from it
 

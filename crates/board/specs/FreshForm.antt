@@ -23,8 +23,8 @@ use Rattle.board.specs.declared.State.{State}
 abbrev pub freshBoard : ℕ → Board
 freshBoard n = board (set (replicate 64 0) 1 (n - 1)) 2 (freshSets n) 0
 
-abbrev pub freshOf : ℕ → State
-freshOf n = stateOf (set (replicate 64 0) 1 (n - 1)) 2 (freshSets n) 0 (replicate 64 0) 0 0
+abbrev pub freshMade : ℕ → State
+freshMade n = stateOf (set (replicate 64 0) 1 (n - 1)) 2 (freshSets n) 0 (replicate 64 0) 0 0
 
 module _ (n : ℕ) (two : 2 ≤ n) (small : n ≤ 64) where
   one : getD (set (replicate 64 0) 1 (n - 1)) 1 0 ≡ n - 1
@@ -76,7 +76,7 @@ module _ (n : ℕ) (two : 2 ≤ n) (small : n ≤ 64) where
   unfolding markOk
   fresh-formed = record { route = fresh-routed; sets = fresh-sets; marks = λ y l. rw (has-none y) }
 
-  pub fresh-inform : InForm n (freshOf n)
+  pub fresh-inform : InForm n (freshMade n)
   fresh-inform = record {
     board = fresh-formed;
     levels = record { most = omega arith; held = λ i h. absurd (omega arith); rise = λ i h. absurd (omega arith); past = λ i h l. getD-replicate 64 i 0 0 l };
@@ -90,9 +90,9 @@ module _ (n : ℕ) (two : 2 ≤ n) (small : n ≤ 64) where
       go true = omega arith
       go false = omega arith
 
-  pub fresh-held : Held (freshOf n)
+  pub fresh-held : Held (freshMade n)
   fresh-held = record { wide = fresh-wide; levels = refl; words = record { fits = fresh-word; marks = omega arith } }
 
 -- the fresh state is in form
 pub fresh-in-form : (n : ℕ) → 2 ≤ n → n ≤ 64 → inForm n (freshState n) ≡ true
-fresh-in-form n two small = rw (fresh-is n two small) (in-form-of n (freshOf n) small (fresh-wide n two small) (fresh-inform n two small))
+fresh-in-form n two small = rw (fresh-is n two small) (in-form-of n (freshMade n) small (fresh-wide n two small) (fresh-inform n two small))

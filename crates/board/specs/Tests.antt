@@ -20,7 +20,7 @@ use Rattle.rules.specs.Day.{isInner}
 use Rattle.board.specs.Route.{wordOf}
 use Rattle.board.specs.RouteLaws.{word-mem, word-has, word-more}
 use Rattle.board.specs.Board.{Board, routeOf, onRoute, legsOf, setOf}
-use Rattle.board.specs.Form.{stopOk, setOk, markOk, nodeOk, boardOk, levelOk, levelsOk}
+use Rattle.board.specs.Form.{stopOk, setOk, markOk, nodeFits, boardOk, levelOk, levelsOk}
 
 -- entry i is 0 where it is unused: from k on
 unfoldable pub zeroFrom : ℕ → List ℕ → ℕ → Bool
@@ -83,11 +83,11 @@ used-none k l f s h =
 
 -- a board whose route has its two ends: the used entries, the unused ones, the nodes
 pub board-test : (n : ℕ) (b : Board) → n ≤ 64 → 2 ≤ b .stops → b .stops ≤ n → getD (b .route) 0 0 ≡ 0 → getD (b .route) (b .stops - 1) 0 ≡ n - 1
-    → boardOk n b ≡ ((allBelow (b .stops) (stopOk n (b .stops) (b .route)) && allBelow 64 (zeroFrom (b .stops) (b .route))) && allBelow 64 (nodeOk n b))
+    → boardOk n b ≡ ((allBelow (b .stops) (stopOk n (b .stops) (b .route)) && allBelow 64 (zeroFrom (b .stops) (b .route))) && allBelow 64 (nodeFits n b))
 unfolding boardOk stopOk
 board-test n b s two most start end =
     rw (le-leb 2 (b .stops) two, le-leb (b .stops) n most, eq-eqb (getD (b .route) 0 0) 0 start, eq-eqb (getD (b .route) (b .stops - 1) 0) (n - 1) end)
-    (ap (λ (t : Bool). t && allBelow 64 (nodeOk n b))
+    (ap (λ (t : Bool). t && allBelow 64 (nodeFits n b))
     (used-none (b .stops) (b .route) (stopOk n (b .stops) (b .route)) (omega arith) (λ i h. rw (le-ltb i (b .stops) h) refl)))
 
 module _ (n stops : ℕ) (l : List ℕ) (i : ℕ) (used : i < stops) where
@@ -162,12 +162,12 @@ set-test n b y s l e =
 
 pub nodes-test : (n : ℕ) (b : Board) → n ≤ 64 → 0 < b .stops → b .stops ≤ length (b .route) → getD (b .route) (b .stops - 1) 0 ≡ n - 1
     → allBelow (b .stops) (stopOk n (b .stops) (b .route)) ≡ true
-    → (allBelow 64 (setTest n (b .sets) (wordOf (b .stops) (b .route))) && allBelow 64 (markTest n (b .marks))) ≡ allBelow 64 (nodeOk n b)
-unfolding nodeOk markOk markTest
+    → (allBelow 64 (setTest n (b .sets) (wordOf (b .stops) (b .route))) && allBelow 64 (markTest n (b .marks))) ≡ allBelow 64 (nodeFits n b)
+unfolding nodeFits markOk markTest
 nodes-test n b s h l e a =
     let o = below-at (b .stops) (b .stops - 1) (stopOk n (b .stops) (b .route)) a (omega arith) in
     rw (below-same 64 (setTest n (b .sets) (wordOf (b .stops) (b .route))) (setOk n b) (λ y f. set-test n b y f l (legs-test n b s h l e o)))
-    (sym (below-both 64 (setOk n b) (markOk n b) (nodeOk n b) (λ y. refl)))
+    (sym (below-both 64 (setOk n b) (markOk n b) (nodeFits n b) (λ y. refl)))
 
 -- what the loop over the sets asks of an isInner node, and of another
 pub set-inner : (n : ℕ) (sets : List ℕ) (on y : ℕ) → 1 ≤ y → y + 1 < n

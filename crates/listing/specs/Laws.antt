@@ -10,7 +10,7 @@ use native.Mathlib.Numerals.{add-one}
 use lib.ListN.{length, getD, take, length-append, length-take}
 use lib.Seq.{take-suc}
 use borrow.Author.Tests.{lt-ltb, le-ltb}
-use Rattle.listing.specs.Text.{digits, decimal, space, newline, stepWord, answerWord, openWord, recordsWord, roundsWord, aliveWord, routeWord, field, threeFields, stepLine, stopText, stopsText, routeLine}
+use Rattle.listing.specs.Text.{digits, decimal, space, newline, stepName, answerName, openName, recordsName, roundsName, aliveName, routeName, field, threeFields, stepLine, stopText, stopsText, routeLine}
 use Rattle.listing.specs.Put.{Put, put-then, put-length}
 
 -- room for one digit more changes nothing where the number has no more digits
@@ -80,9 +80,9 @@ pub step-takes : {d c : List ℕ} {at next : ℕ} (i answer places records round
     → (next ≤ at + 200) × (length c ≡ length d)
 unfolding stepLine
 step-takes i answer places records rounds alive p =
-    let l = three-few stepWord i answerWord answer openWord places space in
-    let r = three-few recordsWord records roundsWord rounds aliveWord alive newline in
-    (omega (arith, p .next-is, l, r, length-append (threeFields stepWord i answerWord answer openWord places space) (threeFields recordsWord records roundsWord rounds aliveWord alive newline)), put-length p)
+    let l = three-few stepName i answerName answer openName places space in
+    let r = three-few recordsName records roundsName rounds aliveName alive newline in
+    (omega (arith, p .next-is, l, r, length-append (threeFields stepName i answerName answer openName places space) (threeFields recordsName records roundsName rounds aliveName alive newline)), put-length p)
 
 -- the route line grows stop by stop, at most 21 bytes each
 stops-append : (l : List ℕ) (x : ℕ) → stopsText (l ++ (x ∷ [])) ≡ stopsText l ++ stopText x
@@ -117,4 +117,4 @@ stops-take l k p = (omega (arith, p .next-is, stops-few (take k l), length-take 
 pub route-takes : {b c : List ℕ} {at next : ℕ} (l : List ℕ) (k : ℕ) → k ≤ 64 → Put b at (routeLine (take k l)) next c → (next ≤ at + 1350) × (length c ≡ length b)
 unfolding routeLine
 route-takes l k h p =
-    (omega (arith, p .next-is, length-append (routeWord ++ stopsText (take k l)) (newline ∷ []), length-append routeWord (stopsText (take k l)), stops-few (take k l), length-take k l), put-length p)
+    (omega (arith, p .next-is, length-append (routeName ++ stopsText (take k l)) (newline ∷ []), length-append routeName (stopsText (take k l)), stops-few (take k l), length-take k l), put-length p)

@@ -20,29 +20,29 @@ abbrev pub newline : ℕ
 newline = 10
 
 -- "step", "answer", "open", "records", "rounds", "alive", "route", "refused"
-abbrev pub stepWord : List ℕ
-stepWord = 115 ∷ 116 ∷ 101 ∷ 112 ∷ []
+abbrev pub stepName : List ℕ
+stepName = 115 ∷ 116 ∷ 101 ∷ 112 ∷ []
 
-abbrev pub answerWord : List ℕ
-answerWord = 97 ∷ 110 ∷ 115 ∷ 119 ∷ 101 ∷ 114 ∷ []
+abbrev pub answerName : List ℕ
+answerName = 97 ∷ 110 ∷ 115 ∷ 119 ∷ 101 ∷ 114 ∷ []
 
-abbrev pub openWord : List ℕ
-openWord = 111 ∷ 112 ∷ 101 ∷ 110 ∷ []
+abbrev pub openName : List ℕ
+openName = 111 ∷ 112 ∷ 101 ∷ 110 ∷ []
 
-abbrev pub recordsWord : List ℕ
-recordsWord = 114 ∷ 101 ∷ 99 ∷ 111 ∷ 114 ∷ 100 ∷ 115 ∷ []
+abbrev pub recordsName : List ℕ
+recordsName = 114 ∷ 101 ∷ 99 ∷ 111 ∷ 114 ∷ 100 ∷ 115 ∷ []
 
-abbrev pub roundsWord : List ℕ
-roundsWord = 114 ∷ 111 ∷ 117 ∷ 110 ∷ 100 ∷ 115 ∷ []
+abbrev pub roundsName : List ℕ
+roundsName = 114 ∷ 111 ∷ 117 ∷ 110 ∷ 100 ∷ 115 ∷ []
 
-abbrev pub aliveWord : List ℕ
-aliveWord = 97 ∷ 108 ∷ 105 ∷ 118 ∷ 101 ∷ []
+abbrev pub aliveName : List ℕ
+aliveName = 97 ∷ 108 ∷ 105 ∷ 118 ∷ 101 ∷ []
 
-abbrev pub routeWord : List ℕ
-routeWord = 114 ∷ 111 ∷ 117 ∷ 116 ∷ 101 ∷ []
+abbrev pub routeName : List ℕ
+routeName = 114 ∷ 111 ∷ 117 ∷ 116 ∷ 101 ∷ []
 
-abbrev pub refusedWord : List ℕ
-refusedWord = 114 ∷ 101 ∷ 102 ∷ 117 ∷ 115 ∷ 101 ∷ 100 ∷ []
+abbrev pub refusedName : List ℕ
+refusedName = 114 ∷ 101 ∷ 102 ∷ 117 ∷ 115 ∷ 101 ∷ 100 ∷ []
 
 -- a name, a space, a number, and what follows it
 unfoldable pub field : List ℕ → ℕ → ℕ → List ℕ
@@ -55,8 +55,8 @@ threeFields a v b w c u after = field a v space ++ field b w space ++ field c u 
 -- the line of a step: step from 1, refusal or 0, open places in all, records, striking rounds, verdict
 unfoldable pub stepLine : ℕ → ℕ → ℕ → ℕ → ℕ → ℕ → List ℕ
 stepLine i answer places records rounds alive =
-    threeFields stepWord i answerWord answer openWord places space
-    ++ threeFields recordsWord records roundsWord rounds aliveWord alive newline
+    threeFields stepName i answerName answer openName places space
+    ++ threeFields recordsName records roundsName rounds aliveName alive newline
 
 -- each stop after a space
 unfoldable pub stopText : ℕ → List ℕ
@@ -68,8 +68,8 @@ stopsText (x ∷ r) = stopText x ++ stopsText r
 
 -- the line of the route
 unfoldable pub routeLine : List ℕ → List ℕ
-routeLine r = routeWord ++ stopsText r ++ (newline ∷ [])
+routeLine r = routeName ++ stopsText r ++ (newline ∷ [])
 
 -- the one line of a refused sheet
 unfoldable pub refusedLine : ℕ → List ℕ
-refusedLine k = field refusedWord k newline
+refusedLine k = field refusedName k newline

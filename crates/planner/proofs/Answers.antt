@@ -68,7 +68,7 @@ abbrev Leaves : State → List ℕ → Ran → Type 0
 Leaves s t r = (r .0 .answer ≡ 0 → ⊥) → r ≡ answered (r .0 .answer) s t
 
 -- of a step that is accepted where its refusal is 0
-leaves : (c : ℕ) (s : State) (t : List ℕ) (ran : Ran) → ran .0 .answer ≡ 0 → Leaves s t (trail.stepOf c s t ran)
+leaves : (c : ℕ) (s : State) (t : List ℕ) (ran : Ran) → ran .0 .answer ≡ 0 → Leaves s t (trail.unlessRefused c s t ran)
 leaves c s t ran took left =
     decided (eqb c 0)
     (λ q. absurd (left (ap (λ (r : Ran). r .0 .answer) (step-yes c s t ran (eqb-true c 0 q)) ∙ took)))

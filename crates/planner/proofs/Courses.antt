@@ -53,7 +53,7 @@ module _ (sheet : List ℕ) (s : State) (t : List ℕ) (held : Held s) (c : Call
 
 opened : {k : ℕ} (s s₁ : State) (t t₁ : List ℕ) → trail.levelStep s t ≡ trail.acted 0 k s₁ t₁ → s₁ .depth ≡ s .depth + 1
 unfolding trail.levelStep
-opened s s₁ t t₁ e = sym (ap (λ (r : trail.Ran). r .0 .state .depth) (accepted (unless (ltb (s .depth) 64) Refusal.LEVEL) s t _ s₁ t₁ e .1))
+opened s s₁ t t₁ e = sym (ap (λ (r : trail.Ran). r .0 .state .depth) (accepted (unless (ltb (s .depth) 64) Refusal.DEPTH) s t _ s₁ t₁ e .1))
 
 acted-level : (sheet : List ℕ) (s s₁ : State) (t t₁ : List ℕ) (a b k : ℕ) → Took sheet s t LEVEL a b k s₁ t₁ → trail.levelStep s t ≡ trail.acted 0 k s₁ t₁
 unfolding actOf

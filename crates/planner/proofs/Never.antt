@@ -25,7 +25,7 @@ use Rattle.trail.specs.Run as run
 use Rattle.trail.specs.Bound.{reached}
 use Rattle.trail.specs.Never.{records-room, place-roomy, exclude-roomy, require-roomy, settle-roomy, back-fitting}
 use Rattle.rules.specs.Step as step
-use Rattle.rules.specs.Refusal.{KIND, NODE, PLACED, UNPLACED, SHUT, OWED, ROOM, LEVEL, FORM, MISFIT}
+use Rattle.rules.specs.Refusal.{KIND, NODE, PLACED, UNPLACED, SHUT, OWED, ROOM, DEPTH, FORM, MISFIT}
 use Rattle.planner.specs.Face.{freshOf, stepOf, actOf, stepRefusal, owedOf, settledSets}
 use Rattle.planner.specs.Promises.{Steps, NeverShort}
 use Rattle.planner.proofs.Answers.{called, call-made, call-yes, either, zero-both}
@@ -37,7 +37,7 @@ abbrev Avoids : ℕ → Ran → Type 0
 Avoids m r = r .0 .answer ≡ m → ⊥
 
 -- the answer of a step is its refusal
-stepping : (m c : ℕ) (s : State) (t : List ℕ) (ran : Ran) → ran .0 .answer ≡ 0 → (c ≡ m → ⊥) → Avoids m (trail.stepOf c s t ran)
+stepping : (m c : ℕ) (s : State) (t : List ℕ) (ran : Ran) → ran .0 .answer ≡ 0 → (c ≡ m → ⊥) → Avoids m (trail.unlessRefused c s t ran)
 stepping m c s t ran took avoid e =
     avoid (decided (eqb c 0)
     (λ q. let z = eqb-true c 0 q in z ∙ sym took ∙ sym (ap (λ (r : Ran). r .0 .answer) (step-yes c s t ran z)) ∙ e)
@@ -54,7 +54,7 @@ end : (b : Bool) (k m : ℕ) → (0 ≡ m → ⊥) → (k ≡ m → ⊥) → unl
 end true k m z n e = z e
 end false k m z n e = n e
 
-module _ (m : ℕ) (high : LEVEL < m) where
+module _ (m : ℕ) (high : DEPTH < m) where
   place-high : (n : ℕ) (b : Board) (records room p x : ℕ) → placeRefusal n b records room p x ≡ m → ⊥
   unfolding placeRefusal
   place-high n b records room p x e =
@@ -80,8 +80,8 @@ pub record Avoided (sheet : List ℕ) (s : State) (t : List ℕ) (m : ℕ) : Typ
   pub exclude : (x : ℕ) → excludeRefusal (nOf sheet) (boardOf s) (s .records) (roomOf t) (owedOf (dayOf sheet) s x) x ≡ m → ⊥
   pub require : (x : ℕ) → requireRefusal (nOf sheet) (boardOf s) (s .records) (roomOf t) x ≡ m → ⊥
   pub settle : unless (leb (s .records + shrunk (s .sets) (settledSets (vanOf sheet) (dayOf sheet) s) 64) (roomOf t)) ROOM ≡ m → ⊥
-  pub level : unless (ltb (s .depth) 64) LEVEL ≡ m → ⊥
-  pub back : orElse (unless (ltb 0 (s .depth)) LEVEL) (unless (trail.undoLevel (nOf sheet) s t .0) MISFIT) ≡ m → ⊥
+  pub level : unless (ltb (s .depth) 64) DEPTH ≡ m → ⊥
+  pub back : orElse (unless (ltb 0 (s .depth)) DEPTH) (unless (trail.undoLevel (nOf sheet) s t .0) MISFIT) ≡ m → ⊥
   pub kind : KIND ≡ m → ⊥
 
 act-avoids : (sheet : List ℕ) (s : State) (t : List ℕ) (kind a b m : ℕ) → Avoided sheet s t m → Avoids m (actOf (vanOf sheet) (dayOf sheet) s t kind a b)
@@ -118,32 +118,32 @@ module _ (sheet : List ℕ) (s : State) (t t′ : List ℕ) (z : callRefusal she
     exclude = λ x. exclude-roomy (nOf sheet) two small t s t′ runs space (owedOf (dayOf sheet) s x) x;
     require = require-roomy (nOf sheet) two small t s t′ runs space;
     settle = settle-roomy (nOf sheet) two small t s t′ runs space (settledSets (vanOf sheet) (dayOf sheet) s) (settled-smaller sheet s t′ (reached (nOf sheet) two small t s t′ runs .held) (called sheet s t′ call));
-    level = end (ltb (s .depth) 64) LEVEL ROOM (λ e. omega arith) (λ e. omega arith);
-    back = λ e. end (trail.undoLevel (nOf sheet) s t′ .0) MISFIT ROOM (λ e. omega arith) (λ e. omega arith) (next (ltb 0 (s .depth)) LEVEL _ ROOM refl (λ e. omega arith) e);
+    level = end (ltb (s .depth) 64) DEPTH ROOM (λ e. omega arith) (λ e. omega arith);
+    back = λ e. end (trail.undoLevel (nOf sheet) s t′ .0) MISFIT ROOM (λ e. omega arith) (λ e. omega arith) (next (ltb 0 (s .depth)) DEPTH _ ROOM refl (λ e. omega arith) e);
     kind = λ e. omega arith;
   }
 
-  avoided-high : (m : ℕ) → LEVEL < m → (orElse (unless (ltb 0 (s .depth)) LEVEL) (unless (trail.undoLevel (nOf sheet) s t′ .0) MISFIT) ≡ m → ⊥) → Avoided sheet s t′ m
+  avoided-high : (m : ℕ) → DEPTH < m → (orElse (unless (ltb 0 (s .depth)) DEPTH) (unless (trail.undoLevel (nOf sheet) s t′ .0) MISFIT) ≡ m → ⊥) → Avoided sheet s t′ m
   avoided-high m high back = record {
     place = place-high m high (nOf sheet) (boardOf s) (s .records) (roomOf t′);
     exclude = λ x. exclude-high m high (nOf sheet) (boardOf s) (s .records) (roomOf t′) (owedOf (dayOf sheet) s x) x;
     require = require-high m high (nOf sheet) (boardOf s) (s .records) (roomOf t′);
     settle = end (leb (s .records + shrunk (s .sets) (settledSets (vanOf sheet) (dayOf sheet) s) 64) (roomOf t′)) ROOM m (λ e. omega arith) (λ e. omega arith);
-    level = end (ltb (s .depth) 64) LEVEL m (λ e. omega arith) (λ e. omega arith);
+    level = end (ltb (s .depth) 64) DEPTH m (λ e. omega arith) (λ e. omega arith);
     back = back;
     kind = λ e. omega arith;
   }
 
-  back-formed : orElse (unless (ltb 0 (s .depth)) LEVEL) (unless (trail.undoLevel (nOf sheet) s t′ .0) MISFIT) ≡ FORM → ⊥
-  back-formed e = end (trail.undoLevel (nOf sheet) s t′ .0) MISFIT FORM (λ e. omega arith) (λ e. omega arith) (next (ltb 0 (s .depth)) LEVEL _ FORM refl (λ e. omega arith) e)
+  back-formed : orElse (unless (ltb 0 (s .depth)) DEPTH) (unless (trail.undoLevel (nOf sheet) s t′ .0) MISFIT) ≡ FORM → ⊥
+  back-formed e = end (trail.undoLevel (nOf sheet) s t′ .0) MISFIT FORM (λ e. omega arith) (λ e. omega arith) (next (ltb 0 (s .depth)) DEPTH _ FORM refl (λ e. omega arith) e)
 
-  back-fits : orElse (unless (ltb 0 (s .depth)) LEVEL) (unless (trail.undoLevel (nOf sheet) s t′ .0) MISFIT) ≡ MISFIT → ⊥
+  back-fits : orElse (unless (ltb 0 (s .depth)) DEPTH) (unless (trail.undoLevel (nOf sheet) s t′ .0) MISFIT) ≡ MISFIT → ⊥
   unfolding orElse
   back-fits e =
       decided (ltb 0 (s .depth))
       (λ q. let b = back-fitting (nOf sheet) two small t s t′ runs space (ltb-true 0 (s .depth) q) in
       let f : unless (trail.undoLevel (nOf sheet) s t′ .0) MISFIT ≡ MISFIT = rw q at e in omega (arith, sym b ∙ f))
-      (λ q. let f : _≡_ {A = ℕ} LEVEL MISFIT = rw q at e in omega arith)
+      (λ q. let f : _≡_ {A = ℕ} DEPTH MISFIT = rw q at e in omega arith)
 
   avoids : (kind a b m : ℕ) → Avoided sheet s t′ m → stepOf sheet s t′ kind a b .0 .answer ≡ m → ⊥
   avoids kind a b m h e = act-avoids sheet s t′ kind a b m h (sym (ap (λ (r : Ran). r .0 .answer) (call-yes sheet s t′ kind a b call)) ∙ e)

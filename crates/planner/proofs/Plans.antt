@@ -31,7 +31,7 @@ use Rattle.trail.specs.Steps.{Ran}
 use Rattle.trail.specs.Steps as trail
 use Rattle.trail.specs.StepLaws.{placeable, excludable, requirable}
 use Rattle.trail.specs.Since.{accepted}
-use Rattle.along.specs.Sets.{Small, places-sets}
+use Rattle.along.specs.Sets.{Narrow, places-sets}
 use Rattle.stands.proofs.Formed.{stands-formed}
 use Rattle.stands.proofs.Changed.{plan-ext, placed-stands, closed-stands, excluded-stands, required-stands}
 use Rattle.rules.specs.Step.{PLACE, CLOSE, EXCLUDE, REQUIRE, SETTLE}
@@ -120,7 +120,7 @@ module _ (sheet : List ℕ) (s : State) (t : List ℕ) (typed : Held s) where
       )
 
   -- step 5
-  pub places-small : Called sheet s t → Small (settle (vanOf sheet) (dayOf sheet) (planIn s .route) (planIn s .places))
+  pub places-small : Called sheet s t → Narrow (settle (vanOf sheet) (dayOf sheet) (planIn s .route) (planIn s .places))
   unfolding openAt
   places-small c y q h =
       let o = settle-less (vanOf sheet) (dayOf sheet) (planIn s .route) (planIn s .places) y q h in

@@ -35,7 +35,7 @@ use Rattle.board.specs.Change.{heir, placed}
 use Rattle.board.specs.declared.State.{State}
 use Rattle.board.specs.Board.{boardOf, routeOf, onRoute, legsOf, setOf, openAt, legNode, placesOf}
 use Rattle.board.specs.Fresh.{freshState, freshSets, freshSet}
-use Rattle.board.specs.Form.{stopOk, setOk, markOk, nodeOk, boardOk, levelOk, levelsOk, inForm, formWith}
+use Rattle.board.specs.Form.{stopOk, setOk, markOk, nodeFits, boardOk, levelOk, levelsOk, inForm, formWith}
 use Rattle.trail.specs.Trail.{roomOf, shrunk, noteBelow, noteOne, pushed}
 use Rattle.trail.specs.Refusals.{placeRefusal}
 use Rattle.trail.specs.Steps as trail
@@ -107,5 +107,5 @@ pub record Paper : Type 0 where
   pub p12-kept : kept (dayOf paper) (vanOf paper) (planIn fresh) ≡ (0 ∷ 3 ∷ []) ∷ (0 ∷ 1 ∷ 2 ∷ 3 ∷ []) ∷ []
 
 paper-cases : Paper
-unfolding allBelow orElse sumBelow tab wordAt headRefusal limitsRefusal nodesRefusal jobsRefusal tableRefusal stepsRefusal laterRefusal readRefusal jobAt clash apart cell callRefusal digit has with within stays round strikes settleIn roundsIn keeps owed rules.alive everyRound wordOf indexOf insertIn routeOf onRoute legsOf setOf openAt isInner legNode placesOf ones onesIn heir placed freshState freshSets freshSet stopOk setOk markOk nodeOk boardOk levelOk levelsOk inForm formWith roomOf shrunk noteBelow noteOne pushed placeRefusal trail.placeStep trail.recorded trail.settleStep trail.stepOf setsOf wordFrom stepOf actOf stepRefusal askRefusal countOf judgeOf
+unfolding allBelow orElse sumBelow tab wordAt headRefusal limitsRefusal nodesRefusal jobsRefusal tableRefusal stepsRefusal laterRefusal readRefusal jobAt clash apart cell callRefusal digit has with within stays round strikes settleIn roundsIn keeps owed rules.alive everyRound wordOf indexOf insertIn routeOf onRoute legsOf setOf openAt isInner legNode placesOf ones onesIn heir placed freshState freshSets freshSet stopOk setOk markOk nodeFits boardOk levelOk levelsOk inForm formWith roomOf shrunk noteBelow noteOne pushed placeRefusal trail.placeStep trail.recorded trail.settleStep trail.unlessRefused setsOf wordFrom stepOf actOf stepRefusal askRefusal countOf judgeOf
 paper-cases = record { p1 = refl; p2 = refl; p3 = refl; p4 = refl; p5 = refl; p6 = refl; p7 = refl; p8 = refl; p8-dead = refl; p9 = refl; p9-rounds = refl; p9-alive = refl; p10 = refl; p10-none = refl; p10-alive = refl; p11 = refl; p11-dead = refl; p12 = refl; p12-kept = refl }

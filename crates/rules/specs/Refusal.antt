@@ -50,8 +50,8 @@ abbrev pub ROOM : ℕ
 ROOM = 17
 
 -- "a 65th level, or stepping back with none"
-abbrev pub LEVEL : ℕ
-LEVEL = 18
+abbrev pub DEPTH : ℕ
+DEPTH = 18
 
 -- "state out of form"
 abbrev pub FORM : ℕ

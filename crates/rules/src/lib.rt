@@ -85,7 +85,7 @@ impl Refusal {
 
     pub const ROOM: usize = 17;
 
-    pub const LEVEL: usize = 18;
+    pub const DEPTH: usize = 18;
 
     pub const FORM: usize = 19;
 

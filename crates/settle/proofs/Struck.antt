@@ -20,7 +20,7 @@ use Rattle.rules.specs.Asked.{OneEnd}
 use Rattle.rules.proofs.Left.{_⊆_, round-less}
 use Rattle.rules.proofs.Twice.{calm, at-most-two}
 use Rattle.rules.proofs.Fixpoint.{Seen, settle-twice}
-use Rattle.along.specs.Sets.{placesIn, setsOf, sets-ext, length-sets, places-sets, Small}
+use Rattle.along.specs.Sets.{placesIn, setsOf, sets-ext, length-sets, places-sets, Narrow}
 use Rattle.settle.specs.Settles.{Settles}
 
 -- the arrays are the same
@@ -50,11 +50,11 @@ module _ (v : Van) (d : Day) (one : OneEnd (d .jobs)) (rt : List ℕ) (nodes : D
       round-less v d rt (round v d rt o) x p
       (subst (λ (b : Bool). T b) (ap (λ (f : Places). f x p) (sym (settle-no (suc (d .n * d .n - 2)) o e)) ∙ ap (λ (k : ℕ). settleIn k v d rt o x p) fuel ∙ settle-twice v d one rt nodes o seen x p) t)
 
-  module _ (ws : List ℕ) (long : length ws ≡ 64) (seen : Seen d rt (placesIn ws)) (small : Small (placesIn ws)) where
+  module _ (ws : List ℕ) (long : length ws ≡ 64) (seen : Seen d rt (placesIn ws)) (small : Narrow (placesIn ws)) where
     abbrev o : Places
     o = placesIn ws
 
-    pub round-small : Small (round v d rt o)
+    pub round-small : Narrow (round v d rt o)
     round-small x p t = small x p (round-less v d rt o x p t)
 
     pub round-seen : Seen d rt (round v d rt o)
@@ -108,7 +108,7 @@ module _ (v : Van) (d : Day) (one : OneEnd (d .jobs)) (rt : List ℕ) (nodes : D
 
   -- ---- the ways out of the code
 
-  module _ (ws : List ℕ) (long : length ws ≡ 64) (seen : Seen d rt (placesIn ws)) (small : Small (placesIn ws)) where
+  module _ (ws : List ℕ) (long : length ws ≡ 64) (seen : Seen d rt (placesIn ws)) (small : Narrow (placesIn ws)) where
     abbrev o₀ : Places
     o₀ = placesIn ws
 
@@ -127,7 +127,7 @@ module _ (v : Van) (d : Day) (one : OneEnd (d .jobs)) (rt : List ℕ) (nodes : D
     struck₂ : {first second : List ℕ} → first ≡ setsOf o₁ → second ≡ setsOf (round v d rt (placesIn first)) → strikes v d rt o₁ ≡ not (sameSets first second)
     struck₂ {first} e f =
         ap (strikes v d rt) (sym (first-open e))
-        ∙ struck-is first (ap length e ∙ length-sets o₁) (subst (Seen d rt) (sym (first-open e)) (round-seen ws long seen small)) (subst Small (sym (first-open e)) (round-small ws long seen small))
+        ∙ struck-is first (ap length e ∙ length-sets o₁) (subst (Seen d rt) (sym (first-open e)) (round-seen ws long seen small)) (subst Narrow (sym (first-open e)) (round-small ws long seen small))
         ∙ ap (λ (l : List ℕ). not (sameSets first l)) (sym f)
 
     -- nothing struck: the words stay

@@ -13,7 +13,7 @@ use Rattle.laws.specs.Choice.{orElse, unless, or-else-first, or-else-next, or-e
 use Rattle.laws.specs.Logic.{and-true}
 use Rattle.sheet.specs.Word.{vanWords, nodeWords, jobWords, stepWords, words, wordAt}
 use Rattle.sheet.specs.Rule.{limitsOk, nodeAtOk, jobAtOk, entryOk}
-use Rattle.sheet.specs.Section.{vansAt, vansFrom, nodesAt, nodesFrom, jobsAt, jobsFrom, secondsFrom, metresFrom, stepsAt, stepsFrom, nOf, mOf, kOf, behind}
+use Rattle.sheet.specs.Section.{vansAt, vansFrom, nodesAt, nodesFrom, jobsAt, jobsFrom, secondsFrom, metresFrom, stepsAt, stepsFrom, nOf, mOf, kOf, endOf}
 use Rattle.sheet.specs.Section.{headRefusal, limitsRefusal, nodesRefusal, jobsRefusal, tableRefusal, stepsRefusal, laterRefusal, readRefusal}
 use Rattle.sheet.specs.declared.Part.{Part}
 use Rattle.sheet.specs.declared.Layout.{Layout}
@@ -27,13 +27,13 @@ noPart k = record { answer = k; count = 0; from = 0; end = 0 }
 
 -- the section whose count stands at word `at` and counts entries of `width` words, where the number k refuses it if it is not 0
 unfoldable pub partOf : List ℕ → ℕ → ℕ → ℕ → Part
-partOf s at width k = cond (eqb k 0) (record { answer = 0; count = wordAt s at; from = at + 1; end = behind s at width }) (noPart k)
+partOf s at width k = cond (eqb k 0) (record { answer = 0; count = wordAt s at; from = at + 1; end = endOf s at width }) (noPart k)
 
 -- p is that section, which nothing refuses
 pub record Stands (s : List ℕ) (at width : ℕ) (p : Part) : Type 0 where
   pub count : p .count ≡ wordAt s at
   pub from : p .from ≡ at + 1
-  pub end : p .end ≡ behind s at width
+  pub end : p .end ≡ endOf s at width
 
 refused-part : (s : List ℕ) (at width k : ℕ) → (k ≡ 0 → ⊥) → noPart k ≡ partOf s at width k
 unfolding partOf
@@ -130,7 +130,7 @@ found-judged f g s k {p} {r} {ok} {t} e z h w q = go ok h (q ∙ ap (λ (b : Boo
 pub record Headed (s : List ℕ) (at lo hi width : ℕ) : Type 0 where
   pub low : lo ≤ wordAt s at
   pub high : wordAt s at ≤ hi
-  pub room : behind s at width ≤ words s
+  pub room : endOf s at width ≤ words s
 
 head-zero : (s : List ℕ) (at lo hi width : ℕ) → headRefusal s at lo hi width ≡ 0 → Headed s at lo hi width
 unfolding headRefusal
@@ -180,7 +180,7 @@ pub record Fine (s : List ℕ) : Type 0 where
   pub m-high : mOf s ≤ 155
   pub k-high : kOf s ≤ 2000
   pub whole : length s % 4 ≡ 0
-  pub long : words s ≡ behind s (stepsAt s) stepWords
+  pub long : words s ≡ endOf s (stepsAt s) stepWords
   pub limits : limitsOk (wordAt s vansFrom) (wordAt s (vansFrom + 1)) ≡ true
   pub nodes : allBelow (nOf s) (nodeAtOk s (nodesFrom s)) ≡ true
   pub jobs : allBelow (mOf s) (jobAtOk s (nOf s) (jobsFrom s)) ≡ true

@@ -62,8 +62,8 @@ abbrev pub kOf : List ℕ → ℕ
 kOf s = wordAt s (stepsAt s)
 
 -- the word behind a section whose count stands at word `at` and counts entries of `width` words
-abbrev pub behind : List ℕ → ℕ → ℕ → ℕ
-behind s at width = at + 1 + width * wordAt s at
+abbrev pub endOf : List ℕ → ℕ → ℕ → ℕ
+endOf s at width = at + 1 + width * wordAt s at
 
 -- ---- what reading the sections finds
 
@@ -72,7 +72,7 @@ unfoldable pub headRefusal : List ℕ → ℕ → ℕ → ℕ → ℕ → ℕ
 headRefusal s at lo hi width =
     orElse (unless (ltb at (words s)) SHORT)
     (orElse (unless (leb lo (wordAt s at) && leb (wordAt s at) hi) COUNT)
-    (unless (leb (behind s at width) (words s)) SHORT))
+    (unless (leb (endOf s at width) (words s)) SHORT))
 
 -- "limits: count 2": the count is of words
 unfoldable pub limitsRefusal : List ℕ → ℕ
@@ -92,7 +92,7 @@ tableRefusal s n at = orElse (headRefusal s at (n * n) (n * n) 1) (unless (allBe
 
 -- "steps: count 0 to 2,000; each three words", and then "words left over". "Step words are judged when run."
 unfoldable pub stepsRefusal : List ℕ → ℕ
-stepsRefusal s = orElse (headRefusal s (stepsAt s) 0 2000 stepWords) (unless (eqb (words s) (behind s (stepsAt s) stepWords)) SHORT)
+stepsRefusal s = orElse (headRefusal s (stepsAt s) 0 2000 stepWords) (unless (eqb (words s) (endOf s (stepsAt s) stepWords)) SHORT)
 
 -- sections 4 to 6
 unfoldable pub laterRefusal : List ℕ → ℕ

@@ -17,8 +17,7 @@ use Rattle.board.specs.Board.{boardOf, onRoute, setOf, openAt, legNode}
 use Rattle.board.specs.Fresh.{freshState}
 use Rattle.board.specs.Change.{putSet, placed, marked}
 use Rattle.board.specs.declared.State.{State}
-use Rattle.trail.specs.Trail.{roomOf, SHRUNK, MARKED, firstWord, shrunk}
-use Rattle.trail.specs.Trail as trail
+use Rattle.trail.specs.Trail.{roomOf, SHRINKING, PLACING, MARKING, firstWord, shrunk}
 use Rattle.trail.specs.Refusals.{placeRefusal, excludeRefusal, requireRefusal}
 use Rattle.trail.specs.Steps.{undoLevel}
 use Rattle.trail.specs.Small.{shrinks, places, marks}
@@ -55,7 +54,7 @@ module _ (n : ℕ) (two : 2 ≤ n) (small : n ≤ 64) (t : List ℕ) (r : State)
       let q = skip (onRoute b p) UNPLACED _ refl refl (o .1) in
       let w = skip (openAt b x p) SHUT _ refl refl (q .1) in
       let a = and-true (isInner n x) (legNode n p) (i .0) in
-      let l = record-room n two small t r u run (firstWord trail.PLACED x) (setOf b x) (placed b p x)
+      let l = record-room n two small t r u run (firstWord PLACING x) (setOf b x) (placed b p x)
       (places p x (record { node = a .0; leg = a .1; off = not-true (onRoute b x) (o .0); on = q .0 }) (w .0) refl refl refl) in
       omega (arith, l, room-is, space, ltb-false (r .records) (roomOf u) (last (ltb (r .records) (roomOf u)) (w .1)))
 
@@ -68,7 +67,7 @@ module _ (n : ℕ) (two : 2 ≤ n) (small : n ≤ 64) (t : List ℕ) (r : State)
       let q = skip (not owed) OWED _ refl refl (o .1) in
       let z = neither (eqb (setOf b x) 0) (ltb (r .records) (roomOf u)) (last (eqb (setOf b x) 0 || ltb (r .records) (roomOf u)) (q .1)) in
       let h = reached n two small t r u run .held .words .fits x (omega (arith, is-inner n x (i .0) .1, small)) in
-      let l = record-room n two small t r u run (firstWord SHRUNK x) (setOf b x) (putSet b x 0)
+      let l = record-room n two small t r u run (firstWord SHRINKING x) (setOf b x) (putSet b x 0)
       (shrinks x 0 (record { node = i .0; off = not-true (onRoute b x) (o .0) }) (strict 0 (setOf b x) (omega arith) h (within-none (setOf b x)) (eqb-false (setOf b x) 0 (z .0))) (omega arith) refl refl refl) in
       omega (arith, l, room-is, space, ltb-false (r .records) (roomOf u) (z .1))
 
@@ -79,7 +78,7 @@ module _ (n : ℕ) (two : 2 ≤ n) (small : n ≤ 64) (t : List ℕ) (r : State)
       let i = skip (isInner n x) NODE _ refl refl e in
       let o = skip (not (onRoute b x)) PLACED _ refl refl (i .1) in
       let z = neither (has (r .marks) x) (ltb (r .records) (roomOf u)) (last (has (r .marks) x || ltb (r .records) (roomOf u)) (o .1)) in
-      let l = record-room n two small t r u run (firstWord MARKED x) 0 (marked b x)
+      let l = record-room n two small t r u run (firstWord MARKING x) 0 (marked b x)
       (marks x (record { node = i .0; off = not-true (onRoute b x) (o .0) }) (z .0) refl refl refl) in
       omega (arith, l, room-is, space, ltb-false (r .records) (roomOf u) (z .1))
 

@@ -15,7 +15,7 @@ use Rattle.laws.specs.Choice.{orElse, unless, or-else-zero, passed}
 use Rattle.laws.specs.Sweep.{swept, swept-start, swept-end, swept-more, swept-ahead}
 use Rattle.bits.specs.Places.{has, without, within}
 use Rattle.bits.specs.Members.{false-true, without-same, without-fits, within-without, within-ext, within-none}
-use Rattle.rules.specs.Refusal.{ROOM, LEVEL, MISFIT}
+use Rattle.rules.specs.Refusal.{ROOM, DEPTH, MISFIT}
 use Rattle.rules.specs.Day.{isInner}
 use Rattle.rules.proofs.Inner.{is-inner}
 use Rattle.board.specs.Board.{Board, board, boardOf, stateOf, onBoard, onRoute, legsOf, setOf, openAt}
@@ -24,11 +24,11 @@ use Rattle.board.specs.Change.{putSet, placed, marked}
 use Rattle.board.specs.FormLaws.{Sound, Levels, InForm}
 use Rattle.board.specs.Held.{Words, Held}
 use Rattle.board.specs.declared.State.{State}
-use Rattle.trail.specs.Trail.{roomOf, pushed, firstOf, secondOf, SHRUNK, PLACED, MARKED, firstWord, shrunk, Noted, noteOne, noteBelow}
+use Rattle.trail.specs.Trail.{roomOf, pushed, firstOf, secondOf, SHRINKING, PLACING, MARKING, firstWord, shrunk, Noted, noteOne, noteBelow}
 use Rattle.trail.specs.TrailLaws.{pushed-first, pushed-second, pushed-long, pushed-room, pushed-other, shrunk-upto, shrunk-differ, note-same, note-differ, note-all}
 use Rattle.trail.specs.Refusals.{placeRefusal, excludeRefusal, requireRefusal}
 use Rattle.trail.specs.Undo.{strictly, undoMany}
-use Rattle.trail.specs.Steps.{Ran, acted, answered, stepOf, recorded, shrank, placeStep, closeStep, excludeStep, requireStep, settleStep, levelStep, backStep, baseOf, undoLevel, dropped}
+use Rattle.trail.specs.Steps.{Ran, acted, answered, unlessRefused, recorded, shrank, placeStep, closeStep, excludeStep, requireStep, settleStep, levelStep, backStep, baseOf, undoLevel, dropped}
 use Rattle.trail.specs.StepLaws.{step-yes, step-zero, placeable, Free, excludable, requirable}
 use Rattle.trail.specs.Small.{Small, shrinks, places, marks, small-sound, small-words}
 use Rattle.trail.specs.Spells.{Spells, more, spells-sound, spells-words, spells-agree, spells-undo}
@@ -48,7 +48,7 @@ pub record Since (n : ℕ) (b : Board) (k d : ℕ) (levels t₀ : List ℕ) (s :
   pub long : length t ≡ length t₀
 
 -- an accepted step: its refusal is 0, and it ran
-pub accepted : (k : ℕ) (s : State) (t : List ℕ) (ran : Ran) {j : ℕ} (r : State) (u : List ℕ) → stepOf k s t ran ≡ acted 0 j r u → (k ≡ 0) × (ran ≡ acted 0 j r u)
+pub accepted : (k : ℕ) (s : State) (t : List ℕ) (ran : Ran) {j : ℕ} (r : State) (u : List ℕ) → unlessRefused k s t ran ≡ acted 0 j r u → (k ≡ 0) × (ran ≡ acted 0 j r u)
 accepted k s t ran r u e =
     let z = step-zero k s t ran (ap (λ (q : Ran). q .0 .answer) e) in
     (z, sym (step-yes k s t ran z) ∙ e)
@@ -155,15 +155,15 @@ module _ (n : ℕ) (b : Board) (k d : ℕ) (levels t₀ : List ℕ) where
   place-since : {j : ℕ} (s : State) (t : List ℕ) (p x : ℕ) (r : State) (u : List ℕ) → Since n b k d levels t₀ s t → placeStep n s t p x ≡ acted 0 j r u → Since n b k d levels t₀ r u
   unfolding placeStep recorded
   place-since s t p x r u h e =
-      let a = accepted (placeRefusal n (boardOf s) (s .records) (roomOf t) p x) s t (recorded s t (placed (boardOf s) p x) (firstWord PLACED x) (setOf (boardOf s) x)) r u e in
+      let a = accepted (placeRefusal n (boardOf s) (s .records) (roomOf t) p x) s t (recorded s t (placed (boardOf s) p x) (firstWord PLACING x) (setOf (boardOf s) x)) r u e in
       let o = placeable n (boardOf s) (s .records) (roomOf t) p x (a .0) in
-      at-ran (a .1) (record-since s t (firstWord PLACED x) (setOf (boardOf s) x) (placed (boardOf s) p x) h (places p x (o .split) (o .place) refl refl refl) (o .left))
+      at-ran (a .1) (record-since s t (firstWord PLACING x) (setOf (boardOf s) x) (placed (boardOf s) p x) h (places p x (o .split) (o .place) refl refl refl) (o .left))
 
   shrink-since : (s : State) (t : List ℕ) (x v : ℕ) → Since n b k d levels t₀ s t → Free n (boardOf s) x → v < 2 ^ 64 → within v (setOf (boardOf s) x) ≡ true → (setOf (boardOf s) x ≡ v → ⊥) → s .records < roomOf t
-      → Since n b k d levels t₀ (onBoard s (putSet (boardOf s) x v) (s .records + 1)) (pushed t (s .records) (firstWord SHRUNK x) (setOf (boardOf s) x))
+      → Since n b k d levels t₀ (onBoard s (putSet (boardOf s) x v) (s .records + 1)) (pushed t (s .records) (firstWord SHRINKING x) (setOf (boardOf s) x))
   shrink-since s t x v h f l e y m =
       let w = h .held .words .fits x (omega (arith, is-inner n x (f .node) .1, h .small)) in
-      record-since s t (firstWord SHRUNK x) (setOf (boardOf s) x) (putSet (boardOf s) x v) h (shrinks x v f (strict v (setOf (boardOf s) x) l w e y) l refl refl refl) m
+      record-since s t (firstWord SHRINKING x) (setOf (boardOf s) x) (putSet (boardOf s) x v) h (shrinks x v f (strict v (setOf (boardOf s) x) l w e y) l refl refl refl) m
 
   close-since : {j : ℕ} (s : State) (t : List ℕ) (p x : ℕ) (r : State) (u : List ℕ) → Since n b k d levels t₀ s t → closeStep n s t p x ≡ acted 0 j r u → Since n b k d levels t₀ r u
   unfolding closeStep recorded openAt
@@ -190,12 +190,12 @@ module _ (n : ℕ) (b : Board) (k d : ℕ) (levels t₀ : List ℕ) where
   require-since : {j : ℕ} (s : State) (t : List ℕ) (x : ℕ) (r : State) (u : List ℕ) → Since n b k d levels t₀ s t → requireStep n s t x ≡ acted 0 j r u → Since n b k d levels t₀ r u
   unfolding requireStep recorded
   require-since s t x r u h e =
-      let ran = cond (has (s .marks) x) (answered 0 s t) (recorded s t (marked (boardOf s) x) (firstWord MARKED x) 0) in
+      let ran = cond (has (s .marks) x) (answered 0 s t) (recorded s t (marked (boardOf s) x) (firstWord MARKING x) 0) in
       let a = accepted (requireRefusal n (boardOf s) (s .records) (roomOf t) x) s t ran r u e in
       let o = requirable n (boardOf s) (s .records) (roomOf t) x (a .0) in
       decided (has (s .marks) x)
       (λ z. at-ran (rw z at (a .1)) h)
-      (λ z. at-ran (rw z at (a .1)) (record-since s t (firstWord MARKED x) 0 (marked (boardOf s) x) h (marks x (o .0) z refl refl refl) (o .1 z)))
+      (λ z. at-ran (rw z at (a .1)) (record-since s t (firstWord MARKING x) 0 (marked (boardOf s) x) h (marks x (o .0) z refl refl refl) (o .1 z)))
 
   -- ---- settling: node by node
 
@@ -276,8 +276,8 @@ module _ (n : ℕ) (b : Board) (k d : ℕ) (levels t₀ : List ℕ) where
   unfolding levelStep
   level-since s t r u h e =
       let q = stateOf (s .route) (s .stops) (s .sets) (s .marks) (set (s .levels) (s .depth) (s .records)) (s .depth + 1) (s .records) in
-      let a = accepted (unless (ltb (s .depth) 64) LEVEL) s t (answered 0 q t) r u e in
-      let l = ltb-true (s .depth) 64 (passed (ltb (s .depth) 64) LEVEL refl (a .0)) in
+      let a = accepted (unless (ltb (s .depth) 64) DEPTH) s t (answered 0 q t) r u e in
+      let l = ltb-true (s .depth) 64 (passed (ltb (s .depth) 64) DEPTH refl (a .0)) in
       let same = getD-set-same (s .levels) (s .depth) (s .records) 0 (omega (arith, h .held .levels)) in
       at-ran (a .1) (record {
         small = h .small;
@@ -302,8 +302,8 @@ module _ (n : ℕ) (b : Board) (k d : ℕ) (levels t₀ : List ℕ) where
   back-since s t r u f wd h e m =
       let base = getD (s .levels) (s .depth - 1) 0 in
       let o = undoMany (s .records - base) n (boardOf s) (s .records) t in
-      let a = accepted (orElse (unless (ltb 0 (s .depth)) LEVEL) (unless (o .0) MISFIT)) s t (answered 0 (dropped s (o .1)) t) r u e in
-      let some = ltb-true 0 (s .depth) (passed (ltb 0 (s .depth)) LEVEL refl (or-else-zero (unless (ltb 0 (s .depth)) LEVEL) _ (a .0) .0)) in
+      let a = accepted (orElse (unless (ltb 0 (s .depth)) DEPTH) (unless (o .0) MISFIT)) s t (answered 0 (dropped s (o .1)) t) r u e in
+      let some = ltb-true 0 (s .depth) (passed (ltb 0 (s .depth)) DEPTH refl (or-else-zero (unless (ltb 0 (s .depth)) DEPTH) _ (a .0) .0)) in
       let dm : s .depth - 1 ≡ r .depth = ap (λ (z : Ran). z .0 .state .depth) (a .1) in
       let low : k ≤ base = h .floor (s .depth - 1) (omega (arith, dm, m)) (omega (arith, some)) in
       let high : base ≤ s .records = h .form .levels .held (s .depth - 1) (omega (arith, some)) in

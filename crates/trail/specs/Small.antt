@@ -17,7 +17,7 @@ use Rattle.board.specs.FormLaws.{Wide, Sound, set-legs}
 use Rattle.board.specs.Held.{Words}
 use Rattle.board.specs.Keep.{Splits, put-same, put-other, put-wide, put-formed, placed-wide, placed-formed, placed-set, placed-none, placed-on, legs-after, marked-formed, heir-yes, heir-no}
 use Rattle.board.specs.Inverse.{put-back, mark-back, place-back, placed-index, placed-before}
-use Rattle.trail.specs.Trail.{SHRUNK, PLACED, MARKED, firstWord}
+use Rattle.trail.specs.Trail.{SHRINKING, PLACING, MARKING, firstWord}
 use Rattle.trail.specs.TrailLaws.{kind-of, node-of}
 use Rattle.trail.specs.Undo.{strictly, stopBefore, fitsShrunk, fitsPlaced, fitsMarked, undoOne}
 use Rattle.trail.specs.UndoLaws.{one-shrunk, one-placed, one-marked, undone-yes}
@@ -25,9 +25,9 @@ use Rattle.trail.specs.StepLaws.{Free}
 
 -- from b to c, with the record's two words
 pub data Small (n : ℕ) (b : Board) (first second : ℕ) (c : Board) : Type 0 where
-  shrinks : (x v : ℕ) → Free n b x → strictly v (setOf b x) ≡ true → v < 2 ^ 64 → first ≡ firstWord SHRUNK x → second ≡ setOf b x → c ≡ putSet b x v → Small n b first second c
-  places : (p x : ℕ) → Splits n b p x → openAt b x p ≡ true → first ≡ firstWord PLACED x → second ≡ setOf b x → c ≡ placed b p x → Small n b first second c
-  marks : (x : ℕ) → Free n b x → has (b .marks) x ≡ false → first ≡ firstWord MARKED x → second ≡ 0 → c ≡ marked b x → Small n b first second c
+  shrinks : (x v : ℕ) → Free n b x → strictly v (setOf b x) ≡ true → v < 2 ^ 64 → first ≡ firstWord SHRINKING x → second ≡ setOf b x → c ≡ putSet b x v → Small n b first second c
+  places : (p x : ℕ) → Splits n b p x → openAt b x p ≡ true → first ≡ firstWord PLACING x → second ≡ setOf b x → c ≡ placed b p x → Small n b first second c
+  marks : (x : ℕ) → Free n b x → has (b .marks) x ≡ false → first ≡ firstWord MARKING x → second ≡ 0 → c ≡ marked b x → Small n b first second c
 
 -- ---- a smaller set
 
@@ -57,10 +57,10 @@ module _ (n : ℕ) (b : Board) (x v : ℕ) (s : Sound n b) (f : Free n b x) (t :
       rw (f .node, same-road .0, f .off, same-road .1, put-same b x v (omega (arith, s .wide .sets, low)), t)
       (set-legs n b (s .small) (s .wide) (s .form) x low (f .node) (f .off))
 
-  shrinks-undo : undoOne n (putSet b x v) (firstWord SHRUNK x) (setOf b x) ≡ (true, b)
+  shrinks-undo : undoOne n (putSet b x v) (firstWord SHRINKING x) (setOf b x) ≡ (true, b)
   shrinks-undo =
-      one-shrunk n (putSet b x v) (firstWord SHRUNK x) (setOf b x) (kind-of SHRUNK x low)
-      ∙ rw (node-of SHRUNK x low) (undone-yes (putSet b x v) (putSet (putSet b x v) x (setOf b x)) shrinks-fits ∙ ap (λ (c : Board). (true, c)) (put-back b x v))
+      one-shrunk n (putSet b x v) (firstWord SHRINKING x) (setOf b x) (kind-of SHRINKING x low)
+      ∙ rw (node-of SHRINKING x low) (undone-yes (putSet b x v) (putSet (putSet b x v) x (setOf b x)) shrinks-fits ∙ ap (λ (c : Board). (true, c)) (put-back b x v))
 
 -- ---- a placing
 
@@ -91,10 +91,10 @@ module _ (n : ℕ) (b : Board) (p x : ℕ) (s : Sound n b) (f : Splits n b p x) 
         stop-before,
       ) o
 
-  places-undo : undoOne n (placed b p x) (firstWord PLACED x) (setOf b x) ≡ (true, b)
+  places-undo : undoOne n (placed b p x) (firstWord PLACING x) (setOf b x) ≡ (true, b)
   places-undo =
-      one-placed n (placed b p x) (firstWord PLACED x) (setOf b x) (kind-of PLACED x low-x)
-      ∙ rw (node-of PLACED x low-x) (undone-yes (placed b p x) (unplaced (placed b p x) x (setOf b x)) places-fits ∙ ap (λ (c : Board). (true, c)) (place-back n b p x (s .small) (s .wide) (s .form) f))
+      one-placed n (placed b p x) (firstWord PLACING x) (setOf b x) (kind-of PLACING x low-x)
+      ∙ rw (node-of PLACING x low-x) (undone-yes (placed b p x) (unplaced (placed b p x) x (setOf b x)) places-fits ∙ ap (λ (c : Board). (true, c)) (place-back n b p x (s .small) (s .wide) (s .form) f))
 
 -- ---- a mark
 
@@ -121,10 +121,10 @@ module _ (n : ℕ) (b : Board) (x : ℕ) (s : Sound n b) (f : Free n b x) (o : h
   unfolding fitsMarked
   marks-fits = rw (marked-road b x, f .off, marked-has b x low-m)
 
-  marks-undo : undoOne n (marked b x) (firstWord MARKED x) 0 ≡ (true, b)
+  marks-undo : undoOne n (marked b x) (firstWord MARKING x) 0 ≡ (true, b)
   marks-undo =
-      one-marked n (marked b x) (firstWord MARKED x) 0 (kind-of MARKED x low-m)
-      ∙ rw (node-of MARKED x low-m) (undone-yes (marked b x) (unmarked (marked b x) x) marks-fits ∙ ap (λ (c : Board). (true, c)) (mark-back b x o))
+      one-marked n (marked b x) (firstWord MARKING x) 0 (kind-of MARKING x low-m)
+      ∙ rw (node-of MARKING x low-m) (undone-yes (marked b x) (unmarked (marked b x) x) marks-fits ∙ ap (λ (c : Board). (true, c)) (mark-back b x o))
 
 -- ---- all three
 

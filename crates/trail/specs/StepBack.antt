@@ -11,7 +11,7 @@ use lib.Dec.{eqb, ltb}
 use borrow.Author.Tests.{eqb-true, eqb-false, ltb-true, ltb-false}
 use Rattle.laws.specs.Logic.{decided}
 use Rattle.laws.specs.Choice.{orElse, unless, or-else-zero, passed}
-use Rattle.rules.specs.Refusal.{LEVEL, MISFIT}
+use Rattle.rules.specs.Refusal.{DEPTH, MISFIT}
 use Rattle.board.specs.Board.{Board, boardOf, stateOf}
 use Rattle.board.specs.FormLaws.{Sound, InForm}
 use Rattle.board.specs.Held.{Words, Held}
@@ -67,8 +67,8 @@ module _ (n : ℕ) (s₀ : State) (t₀ : List ℕ) (small : n ≤ 64) (held : H
   opened-is : (s₀ .depth < 64) × (s₁ ≡ next)
   unfolding levelStep next
   opened-is =
-      let a = accepted (unless (ltb (s₀ .depth) 64) LEVEL) s₀ t₀ (answered 0 next t₀) s₁ t₁ opened in
-      (ltb-true (s₀ .depth) 64 (passed (ltb (s₀ .depth) 64) LEVEL refl (a .0)), sym (ap (λ (r : Ran). r .0 .state) (a .1)))
+      let a = accepted (unless (ltb (s₀ .depth) 64) DEPTH) s₀ t₀ (answered 0 next t₀) s₁ t₁ opened in
+      (ltb-true (s₀ .depth) 64 (passed (ltb (s₀ .depth) 64) DEPTH refl (a .0)), sym (ap (λ (r : Ran). r .0 .state) (a .1)))
 
   deep-1 : s₁ .depth ≡ s₀ .depth + 1
   unfolding next
@@ -157,23 +157,23 @@ pub record Wordy (t : List ℕ) : Type 0 where
   pub word : (i : ℕ) → getD t i 0 < 2 ^ 64
 
 -- what an accepted step leaves: a state in form, with arrays of 64 and words of 64 bits, its records within the trail, which is as long
-pub record Kept (n : ℕ) (t : List ℕ) (r : State) (u : List ℕ) : Type 0 where
+pub record KeptForm (n : ℕ) (t : List ℕ) (r : State) (u : List ℕ) : Type 0 where
   pub form : InForm n r
   pub held : Held r
   pub room : r .records ≤ roomOf u
   pub long : length u ≡ length t
 
-back-keeps : {j : ℕ} (n : ℕ) (s : State) (t : List ℕ) (r : State) (u : List ℕ) → n ≤ 64 → Held s → InForm n s → s .records ≤ roomOf t → Wordy t → backStep n s t ≡ acted 0 j r u → Kept n t r u
+back-keeps : {j : ℕ} (n : ℕ) (s : State) (t : List ℕ) (r : State) (u : List ℕ) → n ≤ 64 → Held s → InForm n s → s .records ≤ roomOf t → Wordy t → backStep n s t ≡ acted 0 j r u → KeptForm n t r u
 unfolding backStep undoLevel dropped baseOf
 back-keeps n s t r u small held form room wordy e =
     let base = getD (s .levels) (s .depth - 1) 0 in
     let o = undoMany (s .records - base) n (boardOf s) (s .records) t in
-    let a = accepted (orElse (unless (ltb 0 (s .depth)) LEVEL) (unless (o .0) MISFIT)) s t (answered 0 (dropped s (o .1)) t) r u e in
-    let some = ltb-true 0 (s .depth) (passed (ltb 0 (s .depth)) LEVEL refl (or-else-zero (unless (ltb 0 (s .depth)) LEVEL) _ (a .0) .0)) in
+    let a = accepted (orElse (unless (ltb 0 (s .depth)) DEPTH) (unless (o .0) MISFIT)) s t (answered 0 (dropped s (o .1)) t) r u e in
+    let some = ltb-true 0 (s .depth) (passed (ltb 0 (s .depth)) DEPTH refl (or-else-zero (unless (ltb 0 (s .depth)) DEPTH) _ (a .0) .0)) in
     let high : base ≤ s .records = form .levels .held (s .depth - 1) (omega (arith, some)) in
     let sound : Sound n (boardOf s) = record { small = small; wide = held .wide; form = form .board } in
     let g = many-sound (s .records - base) n (boardOf s) (s .records) t sound in
-    subst (λ (q : Ran). Kept n t (q .0 .state) (q .1)) (a .1)
+    subst (λ (q : Ran). KeptForm n t (q .0 .state) (q .1)) (a .1)
     (record {
       form = record { board = g .form; levels = levels-drop (s .depth) (s .records) (s .levels) (held .levels) some (form .levels) };
       held = record { wide = g .wide; levels = length-set (s .levels) (s .depth - 1) 0 ∙ held .levels; words = many-words (s .records - base) n (boardOf s) (s .records) t sound (held .words) (wordy .word) };
@@ -181,7 +181,7 @@ back-keeps n s t r u small held form room wordy e =
       long = refl;
     })
 
-pub move-keeps : (n : ℕ) (s : State) (t : List ℕ) (r : State) (u : List ℕ) → n ≤ 64 → Held s → InForm n s → s .records ≤ roomOf t → Wordy t → Move n s t r u → Kept n t r u
+pub move-keeps : (n : ℕ) (s : State) (t : List ℕ) (r : State) (u : List ℕ) → n ≤ 64 → Held s → InForm n s → s .records ≤ roomOf t → Wordy t → Move n s t r u → KeptForm n t r u
 move-keeps n s t r u small held form room wordy m =
     ⊎-elim (λ h. record { form = h .form; held = h .held; room = h .room; long = h .long }) (λ e. back-keeps n s t r u small held form room wordy (e .1))
     (step-since n (boardOf s) (s .records) (s .depth) (s .levels) t s t r u (here-since n s t small held form room) m)

@@ -10,7 +10,7 @@ use Rattle.laws.specs.Logic.{decided, and-true}
 use Rattle.laws.specs.Choice.{orElse, unless, or-else-zero, passed}
 use Rattle.bits.specs.Places.{has}
 use Rattle.bits.specs.Members.{false-true}
-use Rattle.rules.specs.Refusal.{NODE, PLACED, UNPLACED, SHUT, OWED, ROOM, LEVEL, MISFIT}
+use Rattle.rules.specs.Refusal.{NODE, PLACED, UNPLACED, SHUT, OWED, ROOM, DEPTH, MISFIT}
 use Rattle.rules.specs.Day.{isInner}
 use Rattle.board.specs.Board.{Board, boardOf, onBoard, onRoute, setOf, openAt, legNode}
 use Rattle.board.specs.FormLaws.{InForm}
@@ -19,18 +19,18 @@ use Rattle.board.specs.declared.State.{State}
 use Rattle.trail.specs.Trail.{roomOf, shrunk, Noted}
 use Rattle.trail.specs.TrailLaws.{shrunk-still, note-still}
 use Rattle.trail.specs.Refusals.{placeRefusal, excludeRefusal, requireRefusal}
-use Rattle.trail.specs.Steps.{Ran, answered, stepOf, settleStep, baseOf, undoLevel, dropped, backStep}
+use Rattle.trail.specs.Steps.{Ran, answered, unlessRefused, settleStep, baseOf, undoLevel, dropped, backStep}
 
-pub step-no : (k : ℕ) (s : State) (t : List ℕ) (ran : Ran) → (k ≡ 0 → ⊥) → stepOf k s t ran ≡ answered k s t
-unfolding stepOf
+pub step-no : (k : ℕ) (s : State) (t : List ℕ) (ran : Ran) → (k ≡ 0 → ⊥) → unlessRefused k s t ran ≡ answered k s t
+unfolding unlessRefused
 step-no k s t ran h = rw (ne-eqb k 0 h)
 
-pub step-yes : (k : ℕ) (s : State) (t : List ℕ) (ran : Ran) → k ≡ 0 → stepOf k s t ran ≡ ran
-unfolding stepOf
+pub step-yes : (k : ℕ) (s : State) (t : List ℕ) (ran : Ran) → k ≡ 0 → unlessRefused k s t ran ≡ ran
+unfolding unlessRefused
 step-yes k s t ran h = rw h
 
 -- a step that gave 0 was not refused
-pub step-zero : (k : ℕ) (s : State) (t : List ℕ) (ran : Ran) → stepOf k s t ran .0 .answer ≡ 0 → k ≡ 0
+pub step-zero : (k : ℕ) (s : State) (t : List ℕ) (ran : Ran) → unlessRefused k s t ran .0 .answer ≡ 0 → k ≡ 0
 step-zero k s t ran e =
     decided (eqb k 0) (λ q. eqb-true k 0 q)
     (λ q. sym (ap (λ (r : Ran). r .0 .answer) (step-no k s t ran (eqb-false k 0 q))) ∙ e)
@@ -104,9 +104,9 @@ pub base-low : (n : ℕ) (s : State) → InForm n s → 0 < s .depth → baseOf 
 unfolding baseOf
 base-low n s f h = f .levels .held (s .depth - 1) (omega arith)
 
-pub back-none : (n : ℕ) (s : State) (t : List ℕ) → s .depth < 1 → backStep n s t ≡ answered LEVEL s t
+pub back-none : (n : ℕ) (s : State) (t : List ℕ) → s .depth < 1 → backStep n s t ≡ answered DEPTH s t
 unfolding backStep orElse
-back-none n s t h = rw (le-ltb 0 (s .depth) (omega arith)) (step-no LEVEL s t _ (eqb-false LEVEL 0 refl))
+back-none n s t h = rw (le-ltb 0 (s .depth) (omega arith)) (step-no DEPTH s t _ (eqb-false DEPTH 0 refl))
 
 module _ (n : ℕ) (s : State) (t : List ℕ) (f : Bool) (b : Board) (h : 0 < s .depth) (e : undoLevel n s t ≡ (f, b)) where
   pub back-misfit : f ≡ false → backStep n s t ≡ answered MISFIT s t

@@ -45,7 +45,7 @@ more s b e = absurd (omega arith)
 
 module _ (s r : State) (t u : List ℕ) (e : r .records ≡ s .records) where
   -- a step that was accepted ran
-  at-ran : {j : ℕ} (c : ℕ) (ran : Ran) → step.stepOf c s t ran ≡ acted 0 j r u → Stays s ran → boardOf r ≡ boardOf s
+  at-ran : {j : ℕ} (c : ℕ) (ran : Ran) → step.unlessRefused c s t ran ≡ acted 0 j r u → Stays s ran → boardOf r ≡ boardOf s
   at-ran c ran q h =
       let a = accepted c s t ran r u q .1 in
       ap (λ (x : Ran). boardOf (x .0 .state)) (sym a) ∙ h (ap (λ (x : Ran). x .0 .state .records) a ∙ e)

@@ -23,30 +23,30 @@ secondOf t i = getD t (2 * i + 1) 0
 -- ---- the kinds of records, named once
 
 -- "Kind 1: set made smaller"
-abbrev pub SHRUNK : ℕ
-SHRUNK = 1
+abbrev pub SHRINKING : ℕ
+SHRINKING = 1
 
 -- "Kind 2: placed"
-abbrev pub PLACED : ℕ
-PLACED = 2
+abbrev pub PLACING : ℕ
+PLACING = 2
 
 -- "Kind 3: marked"
-abbrev pub MARKED : ℕ
-MARKED = 3
+abbrev pub MARKING : ℕ
+MARKING = 3
 
 -- what one kind counts in a first word
-abbrev pub KIND : ℕ
-KIND = 256
+abbrev pub WEIGHT : ℕ
+WEIGHT = 256
 
 -- "First word 256 × kind + node"
 abbrev pub firstWord : ℕ → ℕ → ℕ
-firstWord kind x = KIND * kind + x
+firstWord kind x = WEIGHT * kind + x
 
-abbrev pub kindOf : ℕ → ℕ
-kindOf first = first / KIND
+abbrev pub recordKind : ℕ → ℕ
+recordKind first = first / WEIGHT
 
-abbrev pub nodeOf : ℕ → ℕ
-nodeOf first = first % KIND
+abbrev pub recordNode : ℕ → ℕ
+recordNode first = first % WEIGHT
 
 -- ---- settling: one per node whose set shrank, ascending, with the set as it was before
 
@@ -64,7 +64,7 @@ abbrev pub Noted : Type 0
 Noted = ℕ × List ℕ
 
 unfoldable pub noteOne : ℕ → ℕ → ℕ → Noted → Noted
-noteOne w v y b = cond (eqb w v) b (b .0 + 1, pushed (b .1) (b .0) (firstWord SHRUNK y) w)
+noteOne w v y b = cond (eqb w v) b (b .0 + 1, pushed (b .1) (b .0) (firstWord SHRINKING y) w)
 
 unfoldable pub noteBelow : List ℕ → List ℕ → ℕ → Noted → Noted
 noteBelow old new zero b = b

@@ -10,14 +10,14 @@ use lib.Seq.{getD-set-same, getD-set-other}
 use lib.Dec.{eqb}
 use borrow.Author.Tests.{eq-eqb, ne-eqb, eqb-true, eqb-false}
 use Rattle.laws.specs.Logic.{decided}
-use Rattle.trail.specs.Trail.{roomOf, pushed, firstOf, secondOf, SHRUNK, firstWord, kindOf, nodeOf, Alike, shrunk, Noted, noteOne, noteBelow}
+use Rattle.trail.specs.Trail.{roomOf, pushed, firstOf, secondOf, SHRINKING, firstWord, recordKind, recordNode, Alike, shrunk, Noted, noteOne, noteBelow}
 
 -- ---- the kind and the node of a first word
 
-pub kind-of : (k x : ℕ) → x < 64 → kindOf (firstWord k x) ≡ k
+pub kind-of : (k x : ℕ) → x < 64 → recordKind (firstWord k x) ≡ k
 kind-of k x h = omega arith
 
-pub node-of : (k x : ℕ) → x < 64 → nodeOf (firstWord k x) ≡ x
+pub node-of : (k x : ℕ) → x < 64 → recordNode (firstWord k x) ≡ x
 node-of k x h = omega arith
 
 -- ---- a record written
@@ -93,7 +93,7 @@ pub note-same : (w v y : ℕ) (b : Noted) → w ≡ v → noteOne w v y b ≡ b
 unfolding noteOne
 note-same w v y b e = rw (eq-eqb w v e)
 
-pub note-differ : (w v y : ℕ) (b : Noted) → (w ≡ v → ⊥) → noteOne w v y b ≡ (b .0 + 1, pushed (b .1) (b .0) (firstWord SHRUNK y) w)
+pub note-differ : (w v y : ℕ) (b : Noted) → (w ≡ v → ⊥) → noteOne w v y b ≡ (b .0 + 1, pushed (b .1) (b .0) (firstWord SHRINKING y) w)
 unfolding noteOne
 note-differ w v y b d = rw (ne-eqb w v d)
 
@@ -106,8 +106,8 @@ note-grows old new y r i t c h e =
     let z : c ≡ (i, t) = sym h ∙ note-same (getD old y 0) (getD new y 0) y (i, t) q in
     rw z (omega (arith, e, shrunk-same old new y q), refl))
     (λ p. let q = eqb-false (getD old y 0) (getD new y 0) p in
-    let z : c ≡ (i + 1, pushed t i (firstWord SHRUNK y) (getD old y 0)) = sym h ∙ note-differ (getD old y 0) (getD new y 0) y (i, t) q in
-    rw z (omega (arith, e, shrunk-differ old new y q), pushed-long t i (firstWord SHRUNK y) (getD old y 0)))
+    let z : c ≡ (i + 1, pushed t i (firstWord SHRINKING y) (getD old y 0)) = sym h ∙ note-differ (getD old y 0) (getD new y 0) y (i, t) q in
+    rw z (omega (arith, e, shrunk-differ old new y q), pushed-long t i (firstWord SHRINKING y) (getD old y 0)))
 
 -- all of them: the count, and a trail as long
 pub note-all : (old new : List ℕ) (k r : ℕ) (t : List ℕ) → (noteBelow old new k (r, t) .0 ≡ r + shrunk old new k) × (length (noteBelow old new k (r, t) .1) ≡ length t)

@@ -10,7 +10,7 @@ use Rattle.board.specs.Route.{indexOf}
 use Rattle.board.specs.Board.{Board, board, routeOf, onRoute, legsOf, setOf}
 use Rattle.board.specs.Change.{putSet, unplaced, unmarked}
 use Rattle.trail.specs.declared.undo.Undone as code
-use Rattle.trail.specs.Trail.{firstOf, secondOf, SHRUNK, PLACED, MARKED, kindOf, nodeOf}
+use Rattle.trail.specs.Trail.{firstOf, secondOf, SHRINKING, PLACING, MARKING, recordKind, recordNode}
 
 -- the second set strictly contains the first
 unfoldable pub strictly : ℕ → ℕ → Bool
@@ -56,9 +56,9 @@ undoMarked b x w = undone (fitsMarked b x w) (unmarked b x) b
 -- the record with these two words. No other kind fits
 unfoldable pub undoOne : ℕ → Board → ℕ → ℕ → Undone
 undoOne n b first w =
-    cond (eqb (kindOf first) SHRUNK) (undoShrunk n b (nodeOf first) w)
-    (cond (eqb (kindOf first) PLACED) (undoPlaced n b (nodeOf first) w)
-    (cond (eqb (kindOf first) MARKED) (undoMarked b (nodeOf first) w)
+    cond (eqb (recordKind first) SHRINKING) (undoShrunk n b (recordNode first) w)
+    (cond (eqb (recordKind first) PLACING) (undoPlaced n b (recordNode first) w)
+    (cond (eqb (recordKind first) MARKING) (undoMarked b (recordNode first) w)
     (false, b)))
 
 -- the k newest of so many records, newest first, each against the board after the newer ones are undone, as far as they fit

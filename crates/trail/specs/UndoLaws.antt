@@ -17,7 +17,7 @@ use Rattle.board.specs.FormLaws.{Wide, Sound, on-leg, route-long}
 use Rattle.board.specs.Route.{indexOf}
 use Rattle.board.specs.RouteLaws.{index-mem}
 use Rattle.board.specs.Keep.{put-wide, put-formed, unplaced-wide, unplaced-formed, unmarked-formed}
-use Rattle.trail.specs.Trail.{firstOf, secondOf, SHRUNK, PLACED, MARKED, kindOf, nodeOf}
+use Rattle.trail.specs.Trail.{firstOf, secondOf, SHRINKING, PLACING, MARKING, recordKind, recordNode}
 use Rattle.trail.specs.Undo.{strictly, stopBefore, fitsShrunk, fitsPlaced, fitsMarked, Undone, undone, undoShrunk, undoPlaced, undoMarked, undoOne, undoMany}
 
 -- what reading a route asks: few stops, each a place of a word
@@ -37,21 +37,21 @@ pub undone-yes : (b c : Board) {t : Bool} → t ≡ true → undone t c b ≡ (t
 unfolding undone
 undone-yes b c e = rw e
 
-pub one-shrunk : (n : ℕ) (b : Board) (a w : ℕ) → kindOf a ≡ SHRUNK → undoOne n b a w ≡ undoShrunk n b (nodeOf a) w
+pub one-shrunk : (n : ℕ) (b : Board) (a w : ℕ) → recordKind a ≡ SHRINKING → undoOne n b a w ≡ undoShrunk n b (recordNode a) w
 unfolding undoOne
 one-shrunk n b a w e = rw e
 
-pub one-placed : (n : ℕ) (b : Board) (a w : ℕ) → kindOf a ≡ PLACED → undoOne n b a w ≡ undoPlaced n b (nodeOf a) w
+pub one-placed : (n : ℕ) (b : Board) (a w : ℕ) → recordKind a ≡ PLACING → undoOne n b a w ≡ undoPlaced n b (recordNode a) w
 unfolding undoOne
 one-placed n b a w e = rw e
 
-pub one-marked : (n : ℕ) (b : Board) (a w : ℕ) → kindOf a ≡ MARKED → undoOne n b a w ≡ undoMarked b (nodeOf a) w
+pub one-marked : (n : ℕ) (b : Board) (a w : ℕ) → recordKind a ≡ MARKING → undoOne n b a w ≡ undoMarked b (recordNode a) w
 unfolding undoOne
 one-marked n b a w e = rw e
 
-pub one-other : (n : ℕ) (b : Board) (a w : ℕ) → (kindOf a ≡ SHRUNK → ⊥) → (kindOf a ≡ PLACED → ⊥) → (kindOf a ≡ MARKED → ⊥) → undoOne n b a w ≡ (false, b)
+pub one-other : (n : ℕ) (b : Board) (a w : ℕ) → (recordKind a ≡ SHRINKING → ⊥) → (recordKind a ≡ PLACING → ⊥) → (recordKind a ≡ MARKING → ⊥) → undoOne n b a w ≡ (false, b)
 unfolding undoOne
-one-other n b a w e f g = rw (ne-eqb (kindOf a) SHRUNK e, ne-eqb (kindOf a) PLACED f, ne-eqb (kindOf a) MARKED g)
+one-other n b a w e f g = rw (ne-eqb (recordKind a) SHRINKING e, ne-eqb (recordKind a) PLACING f, ne-eqb (recordKind a) MARKING g)
 
 -- ---- the tests as the code makes them, on a board in form
 
@@ -131,10 +131,10 @@ marked-sound : (n : ℕ) (b : Board) (x : ℕ) → Sound n b → Sound n (unmark
 marked-sound n b x s = record { small = s .small; wide = unmarked-wide b x (s .wide); form = unmarked-formed n b x (s .form) }
 
 -- what holds after a record of each kind, and where none fits, holds after any
-pub one-by : (P : Undone → Type 0) (n : ℕ) (b : Board) (a w : ℕ) → P (undoShrunk n b (nodeOf a) w) → P (undoPlaced n b (nodeOf a) w) → P (undoMarked b (nodeOf a) w)
+pub one-by : (P : Undone → Type 0) (n : ℕ) (b : Board) (a w : ℕ) → P (undoShrunk n b (recordNode a) w) → P (undoPlaced n b (recordNode a) w) → P (undoMarked b (recordNode a) w)
     → P (false, b) → P (undoOne n b a w)
 unfolding undoOne
-one-by P n b a w p q r s = pick (eqb (kindOf a) SHRUNK) p (pick (eqb (kindOf a) PLACED) q (pick (eqb (kindOf a) MARKED) r s))
+one-by P n b a w p q r s = pick (eqb (recordKind a) SHRINKING) p (pick (eqb (recordKind a) PLACING) q (pick (eqb (recordKind a) MARKING) r s))
   where
     pick : (t : Bool) {x y : Undone} → P x → P y → P (cond t x y)
     pick true h g = h
@@ -143,9 +143,9 @@ one-by P n b a w p q r s = pick (eqb (kindOf a) SHRUNK) p (pick (eqb (kindOf a) 
 pub one-sound : (n : ℕ) (b : Board) (a w : ℕ) → Sound n b → Sound n (undoOne n b a w .1)
 one-sound n b a w s =
     one-by (λ (u : Undone). Sound n (u .1)) n b a w
-    (undone-keeps n (fitsShrunk n b (nodeOf a) w) b _ (shrunk-sound n b (nodeOf a) w s) s)
-    (undone-keeps n (fitsPlaced n b (nodeOf a) w) b _ (placed-sound n b (nodeOf a) w s) s)
-    (undone-keeps n (fitsMarked b (nodeOf a) w) b _ (λ h. marked-sound n b (nodeOf a) s) s)
+    (undone-keeps n (fitsShrunk n b (recordNode a) w) b _ (shrunk-sound n b (recordNode a) w s) s)
+    (undone-keeps n (fitsPlaced n b (recordNode a) w) b _ (placed-sound n b (recordNode a) w s) s)
+    (undone-keeps n (fitsMarked b (recordNode a) w) b _ (λ h. marked-sound n b (recordNode a) s) s)
     s
 
 -- ---- many

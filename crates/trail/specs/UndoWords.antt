@@ -16,7 +16,7 @@ use Rattle.board.specs.Change.{strike, putSet, unplaced, unmarked}
 use Rattle.board.specs.FormLaws.{Sound}
 use Rattle.board.specs.Held.{Words}
 use Rattle.board.specs.Keep.{unplaced-set, unplaced-here}
-use Rattle.trail.specs.Trail.{firstOf, secondOf, nodeOf}
+use Rattle.trail.specs.Trail.{firstOf, secondOf, recordNode}
 use Rattle.trail.specs.Undo.{fitsShrunk, fitsPlaced, fitsMarked, Undone, undone, undoOne, undoMany}
 use Rattle.trail.specs.UndoLaws.{one-by, one-sound, many-keeps}
 use Rattle.trail.specs.Small.{put-words}
@@ -58,9 +58,9 @@ unmarked-words b x h = record { fits = h .fits; marks = without-fits (b .marks) 
 one-words : (n : ℕ) (b : Board) (a w : ℕ) → Sound n b → Words b → w < 2 ^ 64 → Words (undoOne n b a w .1)
 one-words n b a w s h l =
     one-by (λ (u : Undone). Words (u .1)) n b a w
-    (undone-words (fitsShrunk n b (nodeOf a) w) b _ (shrunk-words n b (nodeOf a) w s h l) h)
-    (undone-words (fitsPlaced n b (nodeOf a) w) b _ (placed-words n b (nodeOf a) w s h l) h)
-    (undone-words (fitsMarked b (nodeOf a) w) b _ (λ z. unmarked-words b (nodeOf a) h) h)
+    (undone-words (fitsShrunk n b (recordNode a) w) b _ (shrunk-words n b (recordNode a) w s h l) h)
+    (undone-words (fitsPlaced n b (recordNode a) w) b _ (placed-words n b (recordNode a) w s h l) h)
+    (undone-words (fitsMarked b (recordNode a) w) b _ (λ z. unmarked-words b (recordNode a) h) h)
     h
 
 second-word : (t : List ℕ) → ((i : ℕ) → getD t i 0 < 2 ^ 64) → (i : ℕ) → secondOf t i < 2 ^ 64

@@ -3,7 +3,7 @@ ghost use mathlib.Core.Path.{_≡_};
 ghost use mathlib.Core.Bool.{cond};
 ghost use Prim.Native.Nat.{_+_, _^_, _≤_, _<_};
 ghost use lib.Dec.{eqb};
-ghost use Rattle.trail.specs.Trail.{roomOf, pushed, MARKED, firstWord, Alike, shrunk, noteOne, noteBelow};
+ghost use Rattle.trail.specs.Trail.{roomOf, pushed, MARKING, firstWord, Alike, shrunk, noteOne, noteBelow};
 use rules::Node;
 
 // A record, named by its kind.
@@ -11,24 +11,24 @@ pub struct Record;
 
 impl Record {
     // A node's set made smaller.
-    pub const SHRUNK: u64 = 1;
+    pub const SHRINKING: u64 = 1;
 
     // A node placed.
-    pub const PLACED: u64 = 2;
+    pub const PLACING: u64 = 2;
 
     // A node marked.
-    pub const MARKED: u64 = 3;
+    pub const MARKING: u64 = 3;
 
     // What one kind counts in a first word.
-    pub const KIND: u64 = 256;
+    pub const WEIGHT: u64 = 256;
 }
 
 // The first word of a record: its kind and its node.
 pub fn first_word(kind: u64, x: usize) -> u64
-    requires { ⌜ (kind ≤ MARKED) × (x < 64) ⌝ }
+    requires { ⌜ (kind ≤ MARKING) × (x < 64) ⌝ }
     ensures { λ r. ⌜ r ≡ firstWord kind x ⌝ }
 {
-    Record::KIND * kind + x as u64
+    Record::WEIGHT * kind + x as u64
 }
 
 // Record i written.
@@ -70,7 +70,7 @@ fn note_one(trail: &mut [u64], i: usize, w: u64, v: u64, y: usize) -> usize
     if w == v {
         return i;
     }
-    push(trail, i, first_word(Record::SHRUNK, y), w);
+    push(trail, i, first_word(Record::SHRINKING, y), w);
     i + 1
 }
 

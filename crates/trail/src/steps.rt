@@ -23,11 +23,11 @@ ghost use Rattle.board.specs.Form.{formWith};
 ghost use Rattle.board.specs.FormLaws.{Sound};
 ghost use Rattle.trail.specs.Trail.{roomOf, Alike};
 ghost use Rattle.trail.specs.UndoLaws.{Readable};
-ghost use Rattle.trail.specs.Steps.{ran, unchanged, shrank, placeStep, closeStep, excludeStep, requireStep, settleStep, levelStep, backStep};
+ghost use Rattle.trail.specs.Steps.{ran, asBefore, shrank, placeStep, closeStep, excludeStep, requireStep, settleStep, levelStep, backStep};
 
 // Nothing changed: refused with a number, or 0 where nothing was to be done.
 pub fn same(answer: usize, f: Figures) -> Outcome
-    ensures { λ r. ⌜ r ≡ unchanged answer f ⌝ }
+    ensures { λ r. ⌜ r ≡ asBefore answer f ⌝ }
 {
     Outcome {
         answer: answer,
@@ -57,7 +57,7 @@ pub fn place(
     if code != 0 {
         return same(code, f);
     }
-    push(trail, i, first_word(Record::PLACED, x), sets[x]);
+    push(trail, i, first_word(Record::PLACING, x), sets[x]);
     board::change::place(route, sets, stops, n, p, x);
     Outcome {
         answer: 0,
@@ -78,7 +78,7 @@ fn shrink(sets: &mut [u64; Node::MOST], f: Figures, x: usize, w: u64, trail: &mu
         ≡ ran r route (now (sets .exit)) levels (now (trail .exit))) ⌝ }
 {
     let i = f.records;
-    push(trail, i, first_word(Record::SHRUNK, x), sets[x]);
+    push(trail, i, first_word(Record::SHRINKING, x), sets[x]);
     sets[x] = w;
     Outcome {
         answer: 0,
@@ -162,7 +162,7 @@ pub fn require(
     if bits::has(marks, x) {
         return same(0, f);
     }
-    push(trail, i, first_word(Record::MARKED, x), 0);
+    push(trail, i, first_word(Record::MARKING, x), 0);
     Outcome {
         answer: 0,
         rounds: 0,
@@ -220,7 +220,7 @@ pub fn level(levels: &mut [usize; State::LEVELS], f: Figures) -> Outcome
 {
     let d = f.depth;
     if State::LEVELS <= d {
-        return same(Refusal::LEVEL, f);
+        return same(Refusal::DEPTH, f);
     }
     levels[d] = f.records;
     Outcome {
@@ -251,7 +251,7 @@ pub fn back(
 {
     let depth = f.depth;
     if depth < 1 {
-        return same(Refusal::LEVEL, f);
+        return same(Refusal::DEPTH, f);
     }
     let base = levels[depth - 1];
     let mut stops = *route;

@@ -152,12 +152,12 @@ fn undo_one(
     ensures { λ r. ⌜ undoOne n (board (now (route .entry)) stops (now (sets .entry)) marks) first w ≡ undid r (now (route .exit)) (now (sets .exit)) ⌝ }
     ensures { λ r. ⌜ (r .stops ≡ stops → now (route .exit) ≡ now (route .entry)) ⌝ }
 {
-    let kind = first / Record::KIND;
-    let x = (first % Record::KIND) as usize;
+    let kind = first / Record::WEIGHT;
+    let x = (first % Record::WEIGHT) as usize;
     match kind {
-        Record::SHRUNK => undo_shrunk(route, sets, stops, marks, legs, n, x, w),
-        Record::PLACED => undo_placed(route, sets, stops, marks, legs, n, x, w),
-        Record::MARKED => undo_marked(route, sets, stops, marks, n, x, w),
+        Record::SHRINKING => undo_shrunk(route, sets, stops, marks, legs, n, x, w),
+        Record::PLACING => undo_placed(route, sets, stops, marks, legs, n, x, w),
+        Record::MARKING => undo_marked(route, sets, stops, marks, n, x, w),
         _ => misfit(stops, marks),
     }
 }

@@ -2,7 +2,7 @@ use mathlib.Core.Path.{_≡_, sym, _∙_}
 use native.Mathlib.Omega.{arith}
 use Rattle.sheet.specs.Place.{Laid, found-answer}
 use Rattle.day.specs.Refuse.{openRefusal, call-zero, open-laid}
-use Rattle.listing.specs.Text.{refusedWord, newline, refusedLine}
+use Rattle.listing.specs.Text.{refusedName, newline, refusedLine}
 use Rattle.listing.specs.Laws.{field-takes}
 use Rattle.dock.proofs.Lines.{listing-open, listing-refused}
 use borrow.Author.Needs.{needs}
@@ -29,7 +29,7 @@ unfolding refusedLine
 returns c =
     let q = c .before .before in
     let t = q .before .before in
-    let k = field-takes refusedWord _ newline (q .put-refused .ensures) in
+    let k = field-takes refusedName _ newline (q .put-refused .ensures) in
     (listing-refused _ _ (found-answer _ _ (t .before .before .opening .ensures)) (t .if1 .taken) (q .put-refused .ensures), omega (arith, k .0))
 
 fresh-requires : tie.Need-fresh-requires

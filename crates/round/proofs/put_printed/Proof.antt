@@ -1,7 +1,7 @@
 use native.Mathlib.Omega.{arith}
 use borrow.Author.Tests.{lt-ltb, le-ltb}
 use Rattle.listing.specs.Put.{put-first, put-length}
-use Rattle.listing.specs.Text.{refusedWord, newline, refusedLine}
+use Rattle.listing.specs.Text.{refusedName, newline, refusedLine}
 use Rattle.listing.specs.Laws.{field-takes}
 use Rattle.dock.specs.Listing.{printed}
 use borrow.Author.Needs.{needs}
@@ -20,7 +20,7 @@ returns c =
     let q = c .before .before in
     let t = q .before .before in
     let d = t .before .before .before .before in
-    let k = field-takes refusedWord _ newline (q .put-refused .ensures) in
+    let k = field-takes refusedName _ newline (q .put-refused .ensures) in
     (rw (lt-ltb _ _ (t .if1 .taken)) (put-first (q .put-refused .ensures) (omega (arith, k .0, d .pre .1))), omega (arith, k .0, k .1, d .pre .1))
 
 list-requires : tie.Need-list-requires

@@ -1,11 +1,11 @@
 use Prim.Native.Nat.{_≤_, _-_}
 use native.Mathlib.Omega.{arith}
-use Rattle.along.specs.Loads.{Ran, ran-none, ran-next, ran-more}
+use Rattle.along.specs.Loads.{Summed, ran-none, ran-next, ran-more}
 use Rattle.along.proofs.loads.run.Statement.{statement}
 use Rattle.along.proofs.loads.run.Tie as tie
 
 abbrev Inv-loop : tie.InvT-loop
-Inv-loop on₀ off first stops aboard₀ i₀ on aboard i = (i ≤ stops) × Ran first on₀ off i aboard on
+Inv-loop on₀ off first stops aboard₀ i₀ on aboard i = (i ≤ stops) × Summed first on₀ off i aboard on
 
 abbrev μ-loop : tie.MeasureT-loop
 μ-loop on₀ off first stops aboard₀ i₀ on aboard i = stops - i

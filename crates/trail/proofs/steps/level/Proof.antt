@@ -1,6 +1,6 @@
 use mathlib.Core.Path.{refl}
 use borrow.Author.Tests.{le-ltb, lt-ltb, eqb-false}
-use Rattle.rules.specs.Refusal.{LEVEL}
+use Rattle.rules.specs.Refusal.{DEPTH}
 use Rattle.trail.specs.Steps.{levelStep}
 use Rattle.trail.specs.StepLaws.{step-no, step-yes}
 use borrow.Author.Needs.{needs}
@@ -13,7 +13,7 @@ same-requires c κs = search needs
 returns : tie.Need-returns
 unfolding levelStep
 returns c = λ route sets t.
-    rw (c .same .ensures, le-ltb _ 64 (c .before .if1 .taken)) (step-no LEVEL _ t _ (eqb-false LEVEL 0 refl))
+    rw (c .same .ensures, le-ltb _ 64 (c .before .if1 .taken)) (step-no DEPTH _ t _ (eqb-false DEPTH 0 refl))
 
 mul-levels : tie.Need-mul-levels
 mul-levels c = search needs
