@@ -4,19 +4,18 @@ use std::collections::BTreeSet;
 
 use crate::read::{File, House, Item, Kind};
 
-/// The names in a text: runs of letters, digits, dashes and primes; a name after a dot is a field or a member.
+/// The names in a text: runs of letters, digits, dashes and primes; a name with a dot is a member of a module, or a field. An operator `▸`
+/// has the name `_▸_`.
 fn names(text: &str) -> Vec<String> {
     let code: Vec<&str> = text.lines().map(|l| l.split(" -- ").next().unwrap_or("")).collect();
-    let code = code.iter().filter(|l| !l.trim_start().starts_with("--")).cloned().collect::<Vec<&str>>().join("\n");
+    let code =
+        code.iter().filter(|l| !l.trim_start().starts_with("--")).cloned().collect::<Vec<&str>>().join("\n");
     let mut all = vec![];
-    let mut word = String::new();
-    for c in code.chars().chain([' ']) {
-        if c.is_alphanumeric() || "-_′″₀₁₂₃₄▸.".contains(c) {
-            word.push(c);
-        } else if !word.is_empty() {
-            all.push(std::mem::take(&mut word));
-        }
+    for token in code.split(|c: char| c.is_whitespace() || "(){};,".contains(c)) {
+        let plain = token.chars().all(|c| c.is_alphanumeric() || "-_.′″₀₁₂₃₄".contains(c));
+        all.push(if plain { token.to_string() } else { format!("_{token}_") });
     }
+    all.retain(|name| !name.is_empty());
     all
 }
 
@@ -28,7 +27,11 @@ fn item<'a>(file: &'a File, name: &str) -> Option<&'a Item> {
 fn places(house: &House, file: usize, name: &str) -> Option<(usize, usize)> {
     let at = |path: &str, name: &str| -> Option<(usize, usize)> {
         house.files.iter().enumerate().find_map(|(f, other)| {
-            let here = if path.ends_with("/src") { other.path.starts_with(&format!("{path}/")) } else { other.path == path };
+            let here = if path.ends_with("/src") {
+                other.path.starts_with(&format!("{path}/"))
+            } else {
+                other.path == path
+            };
             let i = other.items.iter().position(|i| i.name == name)?;
             here.then_some((f, i))
         })

@@ -19,8 +19,8 @@ const ROOTS: [(&str, &str); 9] = [
     ("planner/specs/Face.antt", "judgeOf"),
     ("day/specs/Section.antt", "sectionOf"),
     ("planner/specs/Paper.antt", "Paper"),
-    ("dock/specs/Line.antt", "lineOf"),
     ("dock/specs/Listing.antt", "listingOf"),
+    ("dock/specs/Listing.antt", "printed"),
 ];
 
 fn main() {

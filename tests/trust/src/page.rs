@@ -7,7 +7,8 @@ use crate::read::{House, Kind};
 const HEAD: &str = "# What has to be believed\n\n\
 The checker proves that the code meets its contracts and that the promises follow. What it cannot check is that the definitions say what\n\
 document 01 means. These are all of them: whatever the promises, the answers of the entry points, the table P1 to P12 and the listing rest on, and\n\
-nothing else. `tests/trust` makes this page from the sources, and the gate fails if it differs.\n\n";
+nothing else but the kit's own numbers, lists and tests. Laws are checked, so they are not here. `tests/trust` makes this page from the sources, and the\n\
+gate fails if it differs.\n\n";
 
 fn cell(text: &str) -> String {
     text.replace('|', "\\|")
@@ -29,7 +30,10 @@ pub fn page(house: &House, found: &BTreeSet<(usize, usize)>) -> String {
         if file.path.ends_with("/Paper.antt") {
             table += count;
         }
-        body.push_str(&format!("## `{}`, {count} lines\n\n| line | definition | what it says |\n|---|---|---|\n", file.path));
+        body.push_str(&format!(
+            "## `{}`, {count} lines\n\n| line | definition | what it says |\n|---|---|---|\n",
+            file.path
+        ));
         for (_, item) in here {
             body.push_str(&format!("| {} | `{}` | {} |\n", item.line, cell(&item.name), cell(&item.says)));
         }

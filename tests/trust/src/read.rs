@@ -108,7 +108,8 @@ fn blocks(text: &str) -> Vec<(usize, Vec<&str>)> {
 }
 
 fn comment(lines: &[&str], mark: &str) -> String {
-    let said: Vec<&str> = lines.iter().take_while(|l| l.starts_with(mark)).map(|l| l[mark.len()..].trim()).collect();
+    let said: Vec<&str> =
+        lines.iter().take_while(|l| l.starts_with(mark)).map(|l| l[mark.len()..].trim()).collect();
     said.join(" ")
 }
 
@@ -196,7 +197,8 @@ pub fn house(crates: &Path, order: &Path) -> House {
         }
         for part in ["specs", "proofs"] {
             for module in listed(&folder, part) {
-                let text = fs::read_to_string(folder.join(part).join(format!("{module}.antt"))).unwrap_or_default();
+                let text =
+                    fs::read_to_string(folder.join(part).join(format!("{module}.antt"))).unwrap_or_default();
                 files.push(File {
                     path: format!("{name}/{part}/{module}.antt"),
                     uses: uses_of(&text),
