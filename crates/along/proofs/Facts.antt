@@ -6,9 +6,9 @@ use mathlib.Core.List.{List, [], _∷_}
 use native.Mathlib.Omega.{arith}
 use lib.Dec.{T, eqb→eq}
 use lib.ListN.{getD, take, length, length-take}
-use Rattle.laws.specs.Logic.{decided, true→T}
+use Rattle.laws.proofs.Logic.{decided, true→T}
 use Rattle.bits.specs.Places.{has}
-use Rattle.bits.specs.Members.{has-none}
+use Rattle.bits.proofs.Members.{has-none}
 use Rattle.rules.specs.Asked.{endsWith}
 use Rattle.rules.proofs.AlongLaws.{leg-index}
 use Rattle.rules.proofs.Inner.{inner-low}
@@ -16,10 +16,13 @@ use Rattle.rules.proofs.Fixpoint.{Seen}
 use Rattle.rules.proofs.Forms.{formed-seen}
 use Rattle.sheet.specs.declared.Layout.{Layout}
 use Rattle.day.specs.Tell.{dayOf}
-use Rattle.along.specs.Route.{Route, node-at}
-use Rattle.along.specs.Spots.{node-low}
-use Rattle.along.specs.Sets.{placesIn, Narrow, word-ext}
-use Rattle.along.specs.Ready.{Ready, nodes-are, nodes-most}
+use Rattle.along.specs.Route.{Route}
+use Rattle.along.proofs.RouteLaws.{node-at}
+use Rattle.along.proofs.SpotLaws.{node-low}
+use Rattle.along.specs.Sets.{placesIn}
+use Rattle.along.proofs.SetLaws.{Narrow, word-ext}
+use Rattle.along.specs.Ready.{Ready}
+use Rattle.along.proofs.ReadyLaws.{nodes-are, nodes-most}
 
 some-stops : (k : ℕ) → 1 ≤ k → (tail : List ℕ) → T (endsWith k (0 ∷ tail)) → 1 ≤ length tail
 some-stops k h [] t = absurd (omega (arith, eqb→eq 0 k t))

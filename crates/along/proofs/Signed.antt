@@ -14,7 +14,7 @@ use mir.Facts.{toZ-ofZ, toZ-pos}
 use Rattle.rules.specs.Day.{Day}
 use Rattle.rules.specs.Time.{lastMoment, inTime, lastStart, minZ}
 use Rattle.rules.specs.Along.{lastAt}
-use Rattle.along.specs.Times.{Low}
+use Rattle.along.proofs.TimeLaws.{Low}
 
 mag-subℕ : (a b k : ℕ) → a ≤ k → b ≤ suc k → mag (subℕ a b) ≤ k
 mag-subℕ a b k h g = go (ltb a b)
@@ -38,8 +38,8 @@ mag-min a b k p q = go (leZ a b)
     go false = q
 
 -- what is written of a number near 0 is read back
-pub back : (z : ℤ) → mag z < 9223372036854775808 → toZ w64 (ofZ w64 z) ≡ z
-back z h = toZ-ofZ (record { sfits = h })
+pub back-64 : (z : ℤ) → mag z < 9223372036854775808 → toZ w64 (ofZ w64 z) ≡ z
+back-64 z h = toZ-ofZ (record { sfits = h })
 
 pub ahead : (n : ℕ) → n < 9223372036854775808 → toZ w64 n ≡ pos n
 ahead n h = toZ-pos w64 h
@@ -66,11 +66,11 @@ last-low d w l n i h = omega (arith, last-far d w (drop (suc i) (take n l)) (get
 
 -- what is stored of L is read back
 pub last-kept : (d : Day) → Low d → (l : List ℕ) (n i : ℕ) {z : ℤ} → n ≤ 64 → z ≡ lastAt d (take n l) i → toZ w64 (ofZ w64 z) ≡ lastAt d (take n l) i
-last-kept d w l n i {z} h e = rw e (back (lastAt d (take n l) i) (omega (arith, last-low d w l n i h)))
+last-kept d w l n i {z} h e = rw e (back-64 (lastAt d (take n l) i) (omega (arith, last-low d w l n i h)))
 
 -- and what is handed on of a last moment
 pub moment-kept : (d : Day) → Low d → (x : ℕ) {z : ℤ} → z ≡ lastMoment d x → toZ w64 (ofZ w64 z) ≡ lastMoment d x
-moment-kept d w x {z} e = rw e (back (lastMoment d x) (omega (arith, w .moment x)))
+moment-kept d w x {z} e = rw e (back-64 (lastMoment d x) (omega (arith, w .moment x)))
 
 -- the answer whether a start at t is in time at x
 pub in-time-told : (d : Day) → Low d → (x t : ℕ) {z : ℤ} {b : Bool} → z ≡ lastMoment d x → b ≡ leZ (pos t) (toZ w64 (ofZ w64 z)) → b ≡ inTime d x t

@@ -1,19 +1,24 @@
 // H: the load aboard on each leg, by what comes aboard and what goes off at each stop.
 ghost use mathlib.Core.Path.{_≡_};
-ghost use Prim.Native.Nat.{ℕ, _+_, _-_, _<_, _≤_};
+ghost use Prim.Native.Nat.{ℕ, _-_, _<_};
 ghost use lib.ListN.{take, getD, length, replicate};
-ghost use Rattle.laws.specs.Sum.{sumBelow};
-ghost use Rattle.laws.specs.Table.{Filled};
+ghost use Rattle.laws.specs.Basic.{Filled};
 ghost use Rattle.rules.specs.Along.{loadAt};
 ghost use Rattle.sheet.specs.Place.{Laid};
+ghost use Rattle.day.specs.Tell.{jobIn, dayOf};
 ghost use Rattle.day.specs.Seen.{Placed};
-ghost use Rattle.day.specs.Tell.{dayOf};
 ghost use Rattle.along.specs.Route.{Route};
 ghost use Rattle.along.specs.Spots.{Spots, loadOf};
-ghost use Rattle.along.specs.Loads.{stowFirst, stowOn, stowOff, running};
+ghost use Rattle.along.specs.Loads.{stowFirst, stowOn, stowOff, running, Flows, peak, Peaked};
 use rules::Job;
 use rules::Node;
 use sheet::Layout;
+
+// The most that is aboard on any leg, and the most that any job loads.
+pub struct Peaks {
+    pub highest: usize,
+    pub heaviest: usize,
+}
 
 // One job's load: `on` and `off` have what comes aboard and goes off at each stop; the answer is what is aboard from the start. Nothing where
 // a node of the job is off the route, or a transfer in wrong order.
@@ -56,23 +61,45 @@ pub fn stow(
     }
 }
 
-// What is aboard on each leg: `first`, and what has come and gone up to its stop. It takes the place of what comes.
-pub fn run(on: &mut [usize; Node::MOST], off: &[usize; Node::MOST], first: usize, stops: usize)
-    requires { ⌜ (length (now on) ≡ 64) × (length (now off) ≡ 64) × (stops ≤ 64) ⌝ }
-    requires { ⌜ ((i : ℕ) → i + 1 < stops → first + sumBelow (i + 1) (λ k. getD (now on) k 0) < 4611686018427387904)
-        × ((i : ℕ) → i + 1 < stops → sumBelow (i + 1) (λ k. getD (now off) k 0) ≤ first + sumBelow (i + 1) (λ k. getD (now on) k 0)) ⌝ }
-    ensures { λ _. ⌜ Filled 64 (running first (now (on .entry)) (now (off .entry))) 0 (stops - 1) (now (on .exit)) ⌝ }
+// What is aboard on each leg: `first`, and what has come and gone up to its stop. It takes the place of what comes; the answer is the most of it.
+pub fn run(
+    on: &mut [usize; Node::MOST],
+    off: &[usize; Node::MOST],
+    first: usize,
+    stops: usize,
+) -> usize
+    requires { ⌜ Flows first (now on) (now off) stops ⌝ }
+    ensures { λ r. ⌜ Filled 64 (running first (now (on .entry)) (now (off .entry))) 0 (stops - 1) (now (on .exit))
+        × (r ≡ peak (running first (now (on .entry)) (now (off .entry))) (stops - 1)) ⌝ }
 {
     let mut aboard = first;
+    let mut most = 0;
     let mut i = 0;
     while i + 1 < stops {
         aboard = aboard + on[i] - off[i];
         on[i] = aboard;
+        most = if most < aboard { aboard } else { most };
         i += 1;
+    }
+    most
+}
+
+// How much a job loads.
+fn load_of(job: Job) -> usize
+    ensures { λ r. ⌜ r ≡ loadOf job ⌝ }
+{
+    match job {
+        Job::Clean { node: _, load } => load,
+        Job::Soiled { node: _, load } => load,
+        Job::Transfer {
+            from: _,
+            to: _,
+            load,
+        } => load,
     }
 }
 
-// H: the load aboard on each leg of the route, where `spots` has each node's stop, into an array of zeros.
+// H: the load aboard on each leg of the route, where `spots` has each node's stop, into an array of zeros; and the peaks.
 pub fn loads(
     s: &[u8],
     at: Layout,
@@ -80,18 +107,26 @@ pub fn loads(
     stops: usize,
     spots: &[usize; Node::MOST],
     h: &mut [usize; Node::MOST],
-)
+) -> Peaks
     requires { ⌜ Laid (now s) at × Route (at .nodes) (now route) stops × Spots (now route) stops (now spots) × (now h ≡ replicate 64 0) ⌝ }
-    ensures { λ _. ⌜ Filled 64 (loadAt (dayOf (now (s .entry))) (take stops (now (route .entry)))) 0 (stops - 1) (now (h .exit)) ⌝ }
+    ensures { λ r. ⌜ Filled 64 (loadAt (dayOf (now (s .entry))) (take stops (now (route .entry)))) 0 (stops - 1) (now (h .exit))
+        × Peaked (dayOf (now (s .entry))) (take stops (now (route .entry))) (stops - 1) (jobIn (now (s .entry))) (at .jobs) r ⌝ }
 {
     let mut off = [0usize; Node::MOST];
     let mut first = 0;
+    let mut heaviest = 0;
     let m = at.jobs;
     let mut j = 0;
     while j < m {
         let job = day::jobs::job(s, at, j);
         first += stow(job, spots, h, &mut off);
+        let load = load_of(job);
+        heaviest = if heaviest < load { load } else { heaviest };
         j += 1;
     }
-    run(h, &off, first, stops);
+    let highest = run(h, &off, first, stops);
+    Peaks {
+        highest: highest,
+        heaviest: heaviest,
+    }
 }

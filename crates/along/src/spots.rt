@@ -7,8 +7,8 @@ use rules::Node;
 
 // The stop of each node into an array that has `Node::MOST`, which stands for no stop, at every node.
 pub fn spots(route: &[usize; Node::MOST], stops: usize, at: &mut [usize; Node::MOST])
-    requires { ⌜ (length (now route) ≡ 64) × (stops ≤ 64) × ((i : ℕ) → i < stops → getD (now route) i 0 < 64)
-        × (now at ≡ replicate 64 64) ⌝ }
+    requires { ⌜ (length (now route) ≡ 64) × (stops ≤ 64) × ((i : ℕ) → i < stops → getD (now route) i 0 < 64) ⌝ }
+    requires { ⌜ now at ≡ replicate 64 64 ⌝ }
     ensures { λ _. ⌜ Spots (now (route .entry)) stops (now (at .exit)) ⌝ }
 {
     let mut i = 0;

@@ -4,7 +4,7 @@ ghost use Prim.Native.Nat.{_+_, _<_, _≤_};
 ghost use lib.ListN.{length, take};
 ghost use lib.IntN.{pos, _-ℤ_};
 ghost use lib.Signed.{mag, leZ};
-ghost use Rattle.laws.specs.Table.{Filled};
+ghost use Rattle.laws.specs.Basic.{Filled};
 ghost use Rattle.rules.specs.Time.{lastMoment, minZ};
 ghost use Rattle.rules.specs.Along.{lastAt};
 ghost use Rattle.rules.proofs.AlongLaws.{arrives};

@@ -1,51 +1,26 @@
 // A word of places against a load that is to ride, leg by leg.
 ghost use mathlib.Core.Path.{_≡_};
-ghost use Prim.Native.Nat.{ℕ, _+_, _-_, _<_, _≤_};
-ghost use lib.ListN.{getD, length};
+ghost use mathlib.Core.Bool.{_&&_, _||_};
+ghost use Prim.Native.Nat.{_+_, _<_};
 ghost use lib.Dec.{leb};
-ghost use Rattle.along.specs.Walks.{Kept, Legs, Heads, peak, through, between, ridesUp, ridesDown};
-ghost use Rattle.along.specs.Stretches.{First, Last, Under, full, boards, alights};
+ghost use Rattle.along.specs.Walks.{Kept, Legs, struck, ridesUp, ridesDown, fromStart, toEnd};
 use rules::Node;
 
-// A load that is to ride: the capacity, how much, the partner's node and its open places, and whether the ride may go to the end of the
-// route with no partner met.
+// A load that is to ride: how many legs the route has, the most that is aboard on any of them, the capacity, and how much the load is.
 pub struct Ride {
+    pub legs: usize,
+    pub highest: usize,
     pub capacity: usize,
     pub load: usize,
-    pub partner: usize,
+}
+
+// The other end of a transfer: its node, and its open places.
+pub struct Partner {
+    pub node: usize,
     pub places: u64,
-    pub through: bool,
 }
 
-impl Ride {
-    // To the end of the route.
-    pub fn through(capacity: usize, load: usize) -> Ride
-        ensures { λ r. ⌜ r ≡ through capacity load ⌝ }
-    {
-        Ride {
-            capacity: capacity,
-            load: load,
-            partner: Node::MOST,
-            places: 0,
-            through: true,
-        }
-    }
-
-    // To the partner, where it stands or is open.
-    pub fn between(capacity: usize, load: usize, partner: usize, places: u64) -> Ride
-        ensures { λ r. ⌜ r ≡ between capacity load partner places ⌝ }
-    {
-        Ride {
-            capacity: capacity,
-            load: load,
-            partner: partner,
-            places: places,
-            through: false,
-        }
-    }
-}
-
-// Whether a load fits on a leg that has so much aboard. Where it fits on the fullest leg, it fits on every one.
+// Whether a load fits on a leg that has so much aboard.
 pub fn has_room(aboard: usize, load: usize, capacity: usize) -> bool
     requires { ⌜ (aboard < 1099511627776) × (load < 4294967296) ⌝ }
     ensures { λ r. ⌜ r ≡ leb (aboard + load) capacity ⌝ }
@@ -53,115 +28,58 @@ pub fn has_room(aboard: usize, load: usize, capacity: usize) -> bool
     aboard + load <= capacity
 }
 
-// The first leg from `from` on, of `legs`, on which the load does not fit; `highest` is the most that is aboard on any leg.
-fn fits_until(
-    h: &[usize; Node::MOST],
-    highest: usize,
-    from: usize,
-    legs: usize,
-    ride: Ride,
-) -> usize
-    requires { ⌜ Under (now h) legs highest × (legs < 64) × (from ≤ legs) × (ride .load < 4294967296) ⌝ }
-    ensures { λ r. ⌜ First (full (now (h .entry)) ride) from legs r ⌝ }
+// Whether a load fits on the fullest leg, and so on every one.
+fn fits_all(ride: Ride) -> bool
+    requires { ⌜ (ride .highest < 1099511627776) × (ride .load < 4294967296) ⌝ }
+    ensures { λ r. ⌜ r ≡ leb (ride .highest + ride .load) (ride .capacity) ⌝ }
 {
-    if has_room(highest, ride.load, ride.capacity) {
-        return legs;
-    }
-    let mut i = from;
-    while i < legs {
-        if !has_room(h[i], ride.load, ride.capacity) {
-            return i;
-        }
-        i += 1;
-    }
-    i
+    has_room(ride.highest, ride.load, ride.capacity)
 }
 
-// The first of the legs before `from` from which on the load fits up to it.
-fn fits_since(h: &[usize; Node::MOST], highest: usize, from: usize, ride: Ride) -> usize
-    requires { ⌜ Under (now h) from highest × (from < 64) × (ride .load < 4294967296) ⌝ }
-    ensures { λ r. ⌜ Last (full (now (h .entry)) ride) from r ⌝ }
+// Whether a ride is on a leg that has so much aboard: the load fits, and the ride begins there or is on the leg before.
+fn rides(aboard: usize, ride: Ride, met: bool, on: bool) -> bool
+    requires { ⌜ (aboard < 1099511627776) × (ride .load < 4294967296) ⌝ }
+    ensures { λ r. ⌜ r ≡ (leb (aboard + ride .load) (ride .capacity) && (met || on)) ⌝ }
 {
-    if has_room(highest, ride.load, ride.capacity) {
-        return 0;
-    }
-    let mut i = from;
-    while 0 < i {
-        if !has_room(h[i - 1], ride.load, ride.capacity) {
-            return i;
-        }
-        i -= 1;
-    }
-    i
+    has_room(aboard, ride.load, ride.capacity) & (met | on)
 }
 
-// The first leg from `from` on at which the partner is met and the load fits.
-fn boards(
-    route: &[usize; Node::MOST],
-    h: &[usize; Node::MOST],
-    from: usize,
-    legs: usize,
-    ride: Ride,
-) -> usize
-    requires { ⌜ Legs (now route) (now h) legs (ride .load) × (from ≤ legs) ⌝ }
-    ensures { λ r. ⌜ First (boards (now (route .entry)) (now (h .entry)) ride) from legs r ⌝ }
+// The word without the place p, unless it stays.
+pub fn strike(word: u64, p: usize, stays: bool) -> u64
+    requires { ⌜ p < 64 ⌝ }
+    ensures { λ r. ⌜ r ≡ struck word p stays ⌝ }
 {
-    let mut i = from;
-    while i < legs {
-        let p = route[i];
-        let met = (p == ride.partner) | bits::holds(ride.places, p);
-        let fits = has_room(h[i], ride.load, ride.capacity);
-        if met & fits {
-            return i;
-        }
-        i += 1;
-    }
-    i
+    if stays { word } else { bits::take(word, p) }
 }
 
-// The last leg before `from` at which the partner is met and the load fits, and one more.
-fn alights(route: &[usize; Node::MOST], h: &[usize; Node::MOST], from: usize, ride: Ride) -> usize
-    requires { ⌜ Legs (now route) (now h) from (ride .load) ⌝ }
-    ensures { λ r. ⌜ Last (alights (now (route .entry)) (now (h .entry)) ride) from r ⌝ }
-{
-    let mut i = from;
-    while 0 < i {
-        let k = route[i];
-        let p = route[i - 1];
-        let met = (k == ride.partner) | bits::holds(ride.places, p);
-        let room = has_room(h[i - 1], ride.load, ride.capacity);
-        if met & room {
-            return i;
-        }
-        i -= 1;
-    }
-    i
-}
-
-// Forward: a place stays where the load fits leg by leg back to a leg at which the partner stands or in which it is open, or back to the first.
-// From stretch to stretch: `heads` has the first so many legs as a set, so that the legs between two rides are struck at once.
+// Forward: a place stays where the load fits leg by leg back to a leg at which the partner stands or in which it is open. Where the fullest leg
+// has room, a ride that has begun goes on to the end. A word with no place needs no walk.
 pub fn forward(
     word: u64,
     route: &[usize; Node::MOST],
-    heads: &[u64; Node::MOST],
     h: &[usize; Node::MOST],
-    highest: usize,
-    legs: usize,
     ride: Ride,
+    partner: Partner,
 ) -> u64
-    requires { ⌜ Legs (now route) (now h) legs (ride .load) × Heads (now route) legs (now heads) × (highest ≡ peak (now h) legs) ⌝ }
-    ensures { λ r. ⌜ Kept (now (route .entry)) 0 legs (ridesUp (now (route .entry)) (now (h .entry)) ride) word r ⌝ }
+    requires { ⌜ Legs (now route) (now h) ride ⌝ }
+    ensures { λ r. ⌜ Kept (now (route .entry)) 0 (ride .legs) (ridesUp (now (route .entry)) (now (h .entry)) ride partner) word r ⌝ }
 {
+    if word == 0 {
+        return 0;
+    }
+    let roomy = fits_all(ride);
     let mut w = word;
-    let mut i = if ride.through {
-        fits_until(h, highest, 0, legs, ride)
-    } else {
-        0
-    };
-    while i < legs {
-        let m = boards(route, h, i, legs, ride);
-        w = bits::minus(w, bits::minus(heads[m], heads[i]));
-        i = fits_until(h, highest, m, legs, ride);
+    let mut on = false;
+    let mut i = 0;
+    while i < ride.legs {
+        let p = route[i];
+        let met = (p == partner.node) | bits::holds(partner.places, p);
+        on = rides(h[i], ride, met, on);
+        if on & roomy {
+            return w;
+        }
+        w = strike(w, p, on);
+        i += 1;
     }
     w
 }
@@ -170,55 +88,79 @@ pub fn forward(
 pub fn backward(
     word: u64,
     route: &[usize; Node::MOST],
-    heads: &[u64; Node::MOST],
     h: &[usize; Node::MOST],
-    highest: usize,
-    legs: usize,
     ride: Ride,
+    partner: Partner,
 ) -> u64
-    requires { ⌜ Legs (now route) (now h) legs (ride .load) × Heads (now route) legs (now heads) × (highest ≡ peak (now h) legs) ⌝ }
-    ensures { λ r. ⌜ Kept (now (route .entry)) 0 legs (ridesDown (now (route .entry)) (now (h .entry)) ride legs) word r ⌝ }
+    requires { ⌜ Legs (now route) (now h) ride ⌝ }
+    ensures { λ r. ⌜ Kept (now (route .entry)) 0 (ride .legs) (ridesDown (now (route .entry)) (now (h .entry)) ride partner) word r ⌝ }
 {
+    if word == 0 {
+        return 0;
+    }
+    let roomy = fits_all(ride);
     let mut w = word;
-    let mut i = if ride.through {
-        fits_since(h, highest, legs, ride)
-    } else {
-        legs
-    };
+    let mut on = false;
+    let mut i = ride.legs;
     while 0 < i {
-        let m = alights(route, h, i, ride);
-        w = bits::minus(w, bits::minus(heads[i], heads[m]));
-        i = fits_since(h, highest, m, ride);
+        let k = route[i];
+        i -= 1;
+        let p = route[i];
+        let met = (k == partner.node) | bits::holds(partner.places, p);
+        on = rides(h[i], ride, met, on);
+        if on & roomy {
+            return w;
+        }
+        w = strike(w, p, on);
     }
     w
 }
 
-// The first 0, 1, .. up to all legs as sets, into an array.
-pub fn heads(route: &[usize; Node::MOST], legs: usize, a: &mut [u64; Node::MOST])
-    requires { ⌜ (length (now route) ≡ 64) × (length (now a) ≡ 64) × (legs < 64) × ((i : ℕ) → i < legs → getD (now route) i 0 < 64) ⌝ }
-    ensures { λ _. ⌜ Heads (now (route .entry)) legs (now (a .exit)) ⌝ }
+// A load from the start: a place stays where it fits leg by leg back to the first. Where the fullest leg has room, none is struck.
+pub fn from_start(
+    word: u64,
+    route: &[usize; Node::MOST],
+    h: &[usize; Node::MOST],
+    ride: Ride,
+) -> u64
+    requires { ⌜ Legs (now route) (now h) ride ⌝ }
+    ensures { λ r. ⌜ Kept (now (route .entry)) 0 (ride .legs) (fromStart (now (h .entry)) ride) word r ⌝ }
 {
-    let mut w: u64 = 0;
-    let mut i = 0;
-    a[0] = 0;
-    while i < legs {
-        w = bits::put(w, route[i]);
-        i += 1;
-        a[i] = w;
+    if word == 0 {
+        return 0;
     }
+    if fits_all(ride) {
+        return word;
+    }
+    let mut w = word;
+    let mut on = true;
+    let mut i = 0;
+    while i < ride.legs {
+        on = rides(h[i], ride, false, on);
+        w = strike(w, route[i], on);
+        i += 1;
+    }
+    w
 }
 
-// The most that is aboard on any leg.
-pub fn highest(h: &[usize; Node::MOST], legs: usize) -> usize
-    requires { ⌜ (length (now h) ≡ 64) × (legs ≤ 64) ⌝ }
-    ensures { λ r. ⌜ r ≡ peak (now (h .entry)) legs ⌝ }
+// A load to the end: the same from the last leg on.
+pub fn to_end(word: u64, route: &[usize; Node::MOST], h: &[usize; Node::MOST], ride: Ride) -> u64
+    requires { ⌜ Legs (now route) (now h) ride ⌝ }
+    ensures { λ r. ⌜ Kept (now (route .entry)) 0 (ride .legs) (toEnd (now (h .entry)) ride) word r ⌝ }
 {
-    let mut most = 0;
-    let mut i = 0;
-    while i < legs {
-        let v = h[i];
-        most = if most < v { v } else { most };
-        i += 1;
+    if word == 0 {
+        return 0;
     }
-    most
+    if fits_all(ride) {
+        return word;
+    }
+    let mut w = word;
+    let mut on = true;
+    let mut i = ride.legs;
+    while 0 < i {
+        i -= 1;
+        on = rides(h[i], ride, false, on);
+        w = strike(w, route[i], on);
+    }
+    w
 }

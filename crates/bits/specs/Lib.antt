@@ -1,7 +1,2 @@
--- Places: a set of places in a word. Digits: a word is its digits. Members: the laws of sets by their members.
--- Number: how many members. Masks: what the machine's operations on words do to the sets.
+-- Places: a set of places in a word.
 pub mod Places
-pub mod Digits
-pub mod Members
-pub mod Number
-pub mod Masks

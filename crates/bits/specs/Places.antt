@@ -4,7 +4,7 @@ use Prim.Native.Nat.{ℕ, _+_, _-_, _/_, _%_, _^_}
 use lib.Dec.{eqb, ltb}
 use lib.Bits.{bitAnd}
 use lib.Count.{trailingZeros}
-use Rattle.laws.specs.Below.{allBelow}
+use Rattle.laws.specs.Basic.{allBelow}
 
 -- the digit of w at place p, 0 or 1
 unfoldable pub digit : ℕ → ℕ → ℕ

@@ -26,9 +26,9 @@ map-same : (l : List ℕ) → map (λ v. v) l ≡ l
 map-same [] = refl
 map-same (x ∷ l) = ap (λ (t : List ℕ). x ∷ t) (map-same l)
 
-pub told : (s : State) (vs : List Val) → Is (row the-type) s vs → Held s
+pub is-held : (s : State) (vs : List Val) → Is (row the-type) s vs → Held s
 unfolding setOf
-told s vs g =
+is-held s vs g =
     let a = g .1 .1 .1 .1 .0 in
     record {
       wide = record { route = sym (length-map (s .route) (λ v. v)) ∙ g .1 .1 .0 .1 .0 .1; sets = sym (length-map (s .sets) (λ v. v)) ∙ a .1 .0 .1 };

@@ -5,22 +5,24 @@ use Prim.Native.Nat.{ℕ, _+_, _-_}
 use lib.Count.{ones}
 use lib.ListN.{getD, take}
 use lib.Dec.{ltb}
-use Rattle.laws.specs.Lists.{mem}
-use Rattle.laws.specs.Sum.{sumBelow}
+use Rattle.laws.specs.Basic.{mem, sumBelow}
 use Rattle.bits.specs.Places.{has}
 use Rattle.board.specs.Route.{wordOf}
 use Rattle.board.specs.declared.State.{State}
 use Rattle.board.specs.declared.Figures.{Figures}
 
+-- the part of a state that records speak of: route, place sets and marks
 pub record Board : Type 0 where
   pub route : List ℕ
   pub stops : ℕ
   pub sets : List ℕ
   pub marks : ℕ
 
+-- a board by its parts
 abbrev pub board : List ℕ → ℕ → List ℕ → ℕ → Board
 board route stops sets marks = record { route = route; stops = stops; sets = sets; marks = marks }
 
+-- a state by its parts
 abbrev pub stateOf : List ℕ → ℕ → List ℕ → ℕ → List ℕ → ℕ → ℕ → State
 stateOf route stops sets marks levels depth records =
     record { route = route; stops = stops; sets = sets; marks = marks; levels = levels; depth = depth; records = records }
@@ -29,6 +31,7 @@ stateOf route stops sets marks levels depth records =
 abbrev pub stateWith : List ℕ → List ℕ → List ℕ → Figures → State
 stateWith route sets levels f = stateOf route (f .stops) sets (f .marks) levels (f .depth) (f .records)
 
+-- the board of a state
 abbrev pub boardOf : State → Board
 boardOf s = board (s .route) (s .stops) (s .sets) (s .marks)
 
@@ -40,6 +43,7 @@ onBoard s b k = stateOf (b .route) (b .stops) (b .sets) (b .marks) (s .levels) (
 unfoldable pub routeOf : Board → List ℕ
 routeOf b = take (b .stops) (b .route)
 
+-- whether x is on the route
 unfoldable pub onRoute : Board → ℕ → Bool
 onRoute b x = mem x (routeOf b)
 

@@ -20,9 +20,8 @@ unfoldable pub putSet : Board → ℕ → ℕ → Board
 putSet b x w = board (b .route) (b .stops) (set (b .sets) x w) (b .marks)
 
 -- x placed after p: both halves of the split leg inherit what the leg had open, for each other node; marks stay
-unfoldable pub placed : Board → ℕ → ℕ → Board
-placed b p x =
-    board (insertIn 63 (indexOf p (routeOf b) + 1) x (b .route)) (b .stops + 1) (set (map (heir p x) (b .sets)) x 0) (b .marks)
+unfoldable pub placedAfter : Board → ℕ → ℕ → Board
+placedAfter b p x = board (insertIn 63 (indexOf p (routeOf b) + 1) x (b .route)) (b .stops + 1) (set (map (heir p x) (b .sets)) x 0) (b .marks)
 
 -- x marked
 unfoldable pub marked : Board → ℕ → Board
@@ -30,8 +29,7 @@ marked b x = board (b .route) (b .stops) (b .sets) (with (b .marks) x)
 
 -- x taken off the route, its set w again: that leg goes out of every set
 unfoldable pub unplaced : Board → ℕ → ℕ → Board
-unplaced b x w =
-    board (removeIn (indexOf x (routeOf b)) (b .route)) (b .stops - 1) (set (map (strike x) (b .sets)) x w) (b .marks)
+unplaced b x w = board (removeIn (indexOf x (routeOf b)) (b .route)) (b .stops - 1) (set (map (strike x) (b .sets)) x w) (b .marks)
 
 -- x not marked
 unfoldable pub unmarked : Board → ℕ → Board

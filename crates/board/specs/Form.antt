@@ -4,8 +4,7 @@ use mathlib.Core.List.{List}
 use Prim.Native.Nat.{ℕ, _-_}
 use lib.ListN.{getD, take}
 use lib.Dec.{eqb, leb, ltb}
-use Rattle.laws.specs.Below.{allBelow}
-use Rattle.laws.specs.Lists.{mem}
+use Rattle.laws.specs.Basic.{allBelow, mem}
 use Rattle.bits.specs.Places.{has, within}
 use Rattle.rules.specs.Day.{isInner}
 use Rattle.board.specs.Board.{Board, boardOf, onRoute, legsOf, setOf}
@@ -13,8 +12,7 @@ use Rattle.board.specs.declared.State.{State}
 
 -- entry i of the route: a node below n that does not stand before it; unused entries are 0
 unfoldable pub stopOk : ℕ → ℕ → List ℕ → ℕ → Bool
-stopOk n stops route i =
-    cond (ltb i stops) (ltb (getD route i 0) n && not (mem (getD route i 0) (take i route))) (eqb (getD route i 0) 0)
+stopOk n stops route i = cond (ltb i stops) (ltb (getD route i 0) n && not (mem (getD route i 0) (take i route))) (eqb (getD route i 0) 0)
 
 -- sets only for nodes 1 to n - 2 off the route and only of present legs, all others empty
 unfoldable pub setOk : ℕ → Board → ℕ → Bool
@@ -24,20 +22,16 @@ setOk n b y = cond (isInner n y && not (onRoute b y)) (within (setOf b y) (legsO
 unfoldable pub markOk : ℕ → Board → ℕ → Bool
 markOk n b y = not (has (b .marks) y) || isInner n y
 
-unfoldable pub nodeFits : ℕ → Board → ℕ → Bool
-nodeFits n b y = setOk n b y && markOk n b y
-
 -- route from 0 to n - 1; its stops, sets and marks
 unfoldable pub boardOk : ℕ → Board → Bool
 boardOk n b =
     (leb 2 (b .stops) && leb (b .stops) n)
     && ((eqb (getD (b .route) 0 0) 0 && eqb (getD (b .route) (b .stops - 1) 0) (n - 1))
-    && (allBelow 64 (stopOk n (b .stops) (b .route)) && allBelow 64 (nodeFits n b)))
+    && (allBelow 64 (stopOk n (b .stops) (b .route)) && allBelow 64 (λ y. setOk n b y && markOk n b y)))
 
 -- the counts not falling and not above the record count, unused ones 0
 unfoldable pub levelOk : ℕ → ℕ → List ℕ → ℕ → Bool
-levelOk depth records levels i =
-    cond (ltb i depth) (leb (getD levels i 0) records && leb (getD levels (i - 1) 0) (getD levels i 0)) (eqb (getD levels i 0) 0)
+levelOk depth records levels i = cond (ltb i depth) (leb (getD levels i 0) records && leb (getD levels (i - 1) 0) (getD levels i 0)) (eqb (getD levels i 0) 0)
 
 -- levels at most 64
 unfoldable pub levelsOk : ℕ → ℕ → List ℕ → Bool

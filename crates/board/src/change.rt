@@ -10,9 +10,8 @@ ghost use Prim.Native.Nat.{ℕ, _+_, _-_, _<_};
 ghost use lib.ListN.{take};
 ghost use Rattle.board.specs.Route.{indexOf};
 ghost use Rattle.board.specs.Board.{board};
-ghost use Rattle.board.specs.FormLaws.{Sound};
-ghost use Rattle.board.specs.Keep.{Splits};
-ghost use Rattle.board.specs.Change.{placed, unplaced};
+ghost use Rattle.board.specs.Held.{Sound, Splits};
+ghost use Rattle.board.specs.Change.{placedAfter, unplaced};
 
 // x placed after p, in a leg that it can split.
 pub fn place(
@@ -24,7 +23,7 @@ pub fn place(
     x: usize,
 )
     requires { ⌜ ((marks : ℕ) × Sound n (board (now route) stops (now sets) marks) × Splits n (board (now route) stops (now sets) marks) p x) ⌝ }
-    ensures { λ r. ⌜ ((marks : ℕ) → placed (board (now (route .entry)) stops (now (sets .entry)) marks) p x
+    ensures { λ r. ⌜ ((marks : ℕ) → placedAfter (board (now (route .entry)) stops (now (sets .entry)) marks) p x
         ≡ board (now (route .exit)) (stops + 1) (now (sets .exit)) marks) ⌝ }
 {
     let at = position(route, stops, p);

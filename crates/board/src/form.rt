@@ -4,7 +4,7 @@ ghost use mathlib.Core.Bool.{cond};
 ghost use Prim.Native.Nat.{_≤_, _<_};
 ghost use lib.ListN.{length};
 ghost use lib.Dec.{eqb};
-ghost use Rattle.laws.specs.Below.{allBelow};
+ghost use Rattle.laws.specs.Basic.{allBelow};
 ghost use Rattle.bits.specs.Places.{has, within};
 ghost use Rattle.rules.specs.Day.{isInner};
 ghost use Rattle.board.specs.Board.{legNode, board, stateWith};

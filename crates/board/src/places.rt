@@ -5,7 +5,7 @@ ghost use Prim.Native.Nat.{_≤_};
 ghost use lib.ListN.{length};
 ghost use Rattle.board.specs.Board.{placesOf};
 ghost use Rattle.board.specs.Change.{heir, strike};
-ghost use Rattle.board.specs.Ends.{Ends};
+ghost use Rattle.board.specs.Held.{Ends};
 use rules::Node;
 
 fn heir_of(w: u64, p: usize, x: usize) -> u64

@@ -20,8 +20,8 @@ sum-low (negsuc a) v g h = go (ltb v (suc a))
     go false = omega arith
 
 -- a number near 0 is read back
-pub back : (z : ℤ) → mag z < 2147483648 → toZ w32 (ofZ w32 z) ≡ z
-back z h = toZ-ofZ (record { sfits = h })
+pub back-32 : (z : ℤ) → mag z < 2147483648 → toZ w32 (ofZ w32 z) ≡ z
+back-32 z h = toZ-ofZ (record { sfits = h })
 
 -- v is what was read of the entry w
 module _ {v w : ℕ} (h : w ≤ 1000000) (r : v ≡ w) where

@@ -21,8 +21,7 @@ stepsWith count = count ▸ 5 ▸ 0 ▸ 0 ▸ 6 ▸ 0 ▸ 0 ▸ 1 ▸ 0 ▸ 2 �
 
 -- the sheet with its limits, the latest of nodes 2 and 3, and what stands behind the nodes
 abbrev pub sheetOf : ℕ → ℕ → ℕ → ℕ → List ℕ → List ℕ
-sheetOf capacity limit latest2 latest3 r =
-    2 ▸ capacity ▸ limit ▸ 4 ▸ 0 ▸ 0 ▸ 0 ▸ 0 ▸ 100 ▸ 5 ▸ 0 ▸ latest2 ▸ 5 ▸ 0 ▸ latest3 ▸ 0 ▸ r
+sheetOf capacity limit latest2 latest3 r = 2 ▸ capacity ▸ limit ▸ 4 ▸ 0 ▸ 0 ▸ 0 ▸ 0 ▸ 100 ▸ 5 ▸ 0 ▸ latest2 ▸ 5 ▸ 0 ▸ latest3 ▸ 0 ▸ r
 
 -- the numbers that P1 to P12 alter: capacity, metre limit, latest of node 2, latest of node 3. The paper's are 2, 60, 25, 100
 abbrev pub sheetWith : ℕ → ℕ → ℕ → ℕ → List ℕ

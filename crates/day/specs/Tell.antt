@@ -1,23 +1,70 @@
--- The day and the van of the rules that the bytes of a sheet tell.
+-- What the bytes of a sheet tell: its jobs, by cases; its tables, "row by row"; the day and the van of the rules; its steps.
 use Prim.Native.Nat.{ℕ, _+_, _*_, _≤_}
 use mathlib.Core.Path.{_≡_}
-use mathlib.Core.List.{List}
-use Rattle.laws.specs.Table.{tab}
-use Rattle.sheet.specs.Word.{nodeWords, stepWords, wordAt}
-use Rattle.sheet.specs.Section.{nOf, mOf, vansFrom, nodesFrom, stepsFrom}
-use Rattle.rules.specs.Day.{Day}
+use mathlib.Core.List.{List, [], _∷_}
+use mathlib.Core.Bool.{Bool, cond, _&&_, not}
+use lib.Dec.{leb, eqb}
+use Rattle.laws.specs.Basic.{tab}
+use Rattle.sheet.specs.Word.{size, wordAt}
+use Rattle.sheet.specs.Section.{nOf, mOf, vansAt, nodesAt, stepsAt, secondsAt, metresAt, jobsAt}
+use Rattle.rules.specs.Day.{Day, isInner}
 use Rattle.rules.specs.declared.Van.{Van}
 use Rattle.rules.specs.declared.Step.{Step}
-use Rattle.day.specs.Jobs.{jobIn}
-use Rattle.day.specs.Tables.{secondsOf, metresOf}
+use Rattle.rules.specs.declared.Job.{Job}
+use Rattle.rules.specs.declared.Job.the-variants.{Clean, Soiled, Transfer}
+
+-- 01's number of each case: "Kinds are 1, 2, 3"
+abbrev pub kindOf : Job → ℕ
+kindOf (Clean a w) = 1
+kindOf (Soiled a w) = 2
+kindOf (Transfer a b w) = 3
+
+-- a job as the sheet writes it: "kind, a, b, load"; "For kinds 1 and 2, b is 0"
+abbrev pub wordsOf : Job → List ℕ
+wordsOf (Clean a w) = kindOf (Clean a w) ∷ a ∷ 0 ∷ w ∷ []
+wordsOf (Soiled a w) = kindOf (Soiled a w) ∷ a ∷ 0 ∷ w ∷ []
+wordsOf (Transfer a b w) = kindOf (Transfer a b w) ∷ a ∷ b ∷ w ∷ []
+
+-- the job that four words say
+abbrev pub jobOf : ℕ → ℕ → ℕ → ℕ → Job
+jobOf kind a b load = cond (eqb kind 1) (Clean a load) (cond (eqb kind 2) (Soiled a load) (Transfer a b load))
+
+-- the i-th job of a section whose entries begin at word `from`
+unfoldable pub jobAt : List ℕ → ℕ → ℕ → Job
+jobAt s from i = let p = from + size.job * i in jobOf (wordAt s p) (wordAt s (p + 1)) (wordAt s (p + 2)) (wordAt s (p + 3))
+
+-- the i-th job of the sheet
+abbrev pub jobIn : List ℕ → ℕ → Job
+jobIn s = jobAt s (jobsAt s + 1)
+
+-- what the rules of the sheet's words make of a job, by cases
+abbrev pub loadOk : ℕ → Bool
+loadOk w = leb 1 w && leb w 1000
+
+abbrev pub jobFine : ℕ → Job → Bool
+jobFine n (Clean a w) = isInner n a && loadOk w
+jobFine n (Soiled a w) = isInner n a && loadOk w
+jobFine n (Transfer a b w) = isInner n a && isInner n b && not (eqb a b) && loadOk w
+
+-- row i, column j of a table of n rows whose entries begin at word `from`
+unfoldable pub cell : List ℕ → ℕ → ℕ → ℕ → ℕ → ℕ
+cell s from n i j = wordAt s (from + i * n + j)
+
+-- section 4: the seconds from i to j
+abbrev pub secondsOf : List ℕ → ℕ → ℕ → ℕ
+secondsOf s = cell s (secondsAt s + 1) (nOf s)
+
+-- section 5: the metres from i to j
+abbrev pub metresOf : List ℕ → ℕ → ℕ → ℕ
+metresOf s = cell s (metresAt s + 1) (nOf s)
 
 -- "limits: capacity, metre limit"
 abbrev pub vanOf : List ℕ → Van
-vanOf s = record { capacity = wordAt s vansFrom; limit = wordAt s (vansFrom + 1) }
+vanOf s = record { capacity = wordAt s (vansAt + 1); limit = wordAt s (vansAt + 2) }
 
 -- the first word of the x-th node
 abbrev pub nodeAt : List ℕ → ℕ → ℕ
-nodeAt s x = nodesFrom s + nodeWords * x
+nodeAt s x = nodesAt s + 1 + size.node * x
 
 -- "nodes: each: earliest, latest, service"; the jobs; the tables
 abbrev pub dayOf : List ℕ → Day
@@ -33,7 +80,7 @@ dayOf s = record {
 
 -- word k of the i-th step: "each three words"
 abbrev pub stepWord : List ℕ → ℕ → ℕ → ℕ
-stepWord s i k = wordAt s (stepsFrom s + stepWords * i + k)
+stepWord s i k = wordAt s (stepsAt s + 1 + size.step * i + k)
 
 -- the i-th step
 abbrev pub stepIn : List ℕ → ℕ → Step

@@ -1,18 +1,18 @@
 // The jobs of a sheet, and whether two of them are one too many for a node.
 ghost use mathlib.Core.Path.{_≡_};
 ghost use Prim.Native.Nat.{_+_, _*_, _<_, _≤_};
-ghost use Rattle.sheet.specs.Word.{jobWords, words};
+ghost use Rattle.sheet.specs.Word.{size, words};
 ghost use Rattle.sheet.specs.Place.{Laid};
-ghost use Rattle.day.specs.Jobs.{jobAt, jobIn};
-ghost use Rattle.day.specs.Twice.{apart};
-ghost use Rattle.day.specs.Seen.{taken, seeing};
+ghost use Rattle.day.specs.Tell.{jobAt, jobIn};
+ghost use Rattle.day.specs.Refuse.{apart};
+ghost use Rattle.day.specs.Seen.{Placed, seeing};
 use rules::Job;
 use sheet::Layout;
 use sheet::word;
 
 // The i-th job of a section whose entries begin at word `from`.
 fn job_at(s: &[u8], from: usize, i: usize) -> Job
-    requires { ⌜ from + jobWords * i + jobWords ≤ words (now s) ⌝ }
+    requires { ⌜ from + size.job * i + size.job ≤ words (now s) ⌝ }
     ensures { λ r. ⌜ r ≡ jobAt (now (s .entry)) from i ⌝ }
 {
     let p = from + Layout::JOB * i;
@@ -48,42 +48,37 @@ pub fn job(s: &[u8], l: Layout, i: usize) -> Job
     job_at(s, from, i)
 }
 
-// The nodes at which a clean job, a soiled job or a transfer end was met, each a word.
+// The nodes at which a clean job, a soiled job or a transfer end was met, each a word, and whether the last job met one of them again.
 pub struct Seen {
     pub clean: u64,
     pub soiled: u64,
     pub ends: u64,
+    pub twice: bool,
 }
 
-fn is_taken(seen: Seen, job: Job) -> bool
-    ensures { λ r. ⌜ r ≡ taken seen job ⌝ }
-{
-    match job {
-        Job::Clean { node, load: _ } => bits::has(seen.clean, node),
-        Job::Soiled { node, load: _ } => bits::has(seen.soiled, node),
-        Job::Transfer { from, to, load: _ } => bits::has(seen.ends, from)
-            | bits::has(seen.ends, to),
-    }
-}
-
+// One job more. It is told apart once: what it meets and whether that is met again come from one match.
 fn see(seen: Seen, job: Job) -> Seen
+    requires { ⌜ Placed job ⌝ }
     ensures { λ r. ⌜ r ≡ seeing seen job ⌝ }
 {
     match job {
         Job::Clean { node, load: _ } => Seen {
-            clean: bits::with(seen.clean, node),
+            clean: bits::put(seen.clean, node),
             soiled: seen.soiled,
             ends: seen.ends,
+            twice: bits::holds(seen.clean, node),
         },
         Job::Soiled { node, load: _ } => Seen {
             clean: seen.clean,
-            soiled: bits::with(seen.soiled, node),
+            soiled: bits::put(seen.soiled, node),
             ends: seen.ends,
+            twice: bits::holds(seen.soiled, node),
         },
         Job::Transfer { from, to, load: _ } => Seen {
             clean: seen.clean,
             soiled: seen.soiled,
-            ends: bits::with(bits::with(seen.ends, from), to),
+            ends: bits::put(bits::put(seen.ends, from), to),
+            twice: bits::holds(seen.ends, from) | bits::holds(seen.ends, to),
         },
     }
 }
@@ -97,15 +92,15 @@ pub fn all_apart(s: &[u8], l: Layout) -> bool
         clean: 0,
         soiled: 0,
         ends: 0,
+        twice: false,
     };
     let m = l.jobs;
     let mut i = 0;
     while i < m {
-        let next = job(s, l, i);
-        if is_taken(seen, next) {
+        seen = see(seen, job(s, l, i));
+        if seen.twice {
             return false;
         }
-        seen = see(seen, next);
         i += 1;
     }
     true

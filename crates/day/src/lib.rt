@@ -7,7 +7,7 @@ ghost use mathlib.Core.Path.{_≡_};
 ghost use Prim.Native.Nat.{_+_, _*_, _≤_};
 ghost use Rattle.sheet.specs.Place.{found};
 ghost use Rattle.day.specs.Refuse.{callRefusal, openRefusal};
-ghost use Rattle.day.specs.Section.{spanOf, sectionOf};
+ghost use Rattle.day.specs.Section.{sectionIn, SpanIn};
 use rules::Refusal;
 use sheet::Found;
 use sheet::Layout;
@@ -47,7 +47,7 @@ pub struct Span {
 // The words of a section.
 fn span_of(l: Layout, number: usize) -> Span
     requires { ⌜ (l .nodes ≤ 64) × (l .jobs ≤ 155) × (l .steps ≤ 2000) ⌝ }
-    ensures { λ r. ⌜ r ≡ spanOf l number ⌝ }
+    ensures { λ r. ⌜ SpanIn l number r ⌝ }
 {
     match number {
         1 => Span {
@@ -81,7 +81,7 @@ fn span_of(l: Layout, number: usize) -> Span
 // The stretch of the sheet that holds a section's entries, without their count; empty for a sheet that a call refuses and for a number that
 // names no section.
 pub fn section(s: &[u8], number: usize) -> &[u8]
-    ensures { λ r. ⌜ now r ≡ sectionOf (now (s .entry)) number ⌝ }
+    ensures { λ r. ⌜ (r .ptr, now r) ≡ sectionIn (s .entry .ptr) (now (s .entry)) number ⌝ }
 {
     let call = checked(s);
     if call.answer != 0 {

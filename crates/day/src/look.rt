@@ -1,11 +1,10 @@
 // Every number of an accepted sheet, one word read each.
 ghost use mathlib.Core.Path.{_≡_};
 ghost use Prim.Native.Nat.{_+_, _*_, _<_, _≤_};
-ghost use Rattle.sheet.specs.Word.{stepWords, words, wordAt, Reads};
+ghost use Rattle.sheet.specs.Word.{size, words, wordAt, Reads};
 ghost use Rattle.sheet.specs.Place.{Laid};
-ghost use Rattle.day.specs.Tables.{cell};
+ghost use Rattle.day.specs.Tell.{cell, vanOf, dayOf, stepWord, stepIn, Told};
 ghost use Rattle.day.specs.Row.{Table};
-ghost use Rattle.day.specs.Tell.{vanOf, dayOf, stepWord, stepIn, Told};
 use rules::Step;
 use rules::Van;
 use sheet::Layout;
@@ -54,7 +53,7 @@ pub fn service(s: &[u8], l: Layout, x: usize) -> usize
 
 // Word k of the i-th step.
 fn step_word(s: &[u8], l: Layout, i: usize, k: usize) -> usize
-    requires { ⌜ Laid (now s) l × (i < l .steps) × (k < stepWords) ⌝ }
+    requires { ⌜ Laid (now s) l × (i < l .steps) × (k < size.step) ⌝ }
     ensures { λ r. ⌜ Told (stepWord (now (s .entry)) i k) 4294967295 r ⌝ }
 {
     entry_word(s, l.step, Layout::STEP, i, k)

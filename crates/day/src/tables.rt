@@ -5,12 +5,10 @@ ghost use Prim.Native.Nat.{_+_, _*_, _<_, _≤_};
 ghost use lib.ListN.{length};
 ghost use lib.IntN.{pos};
 ghost use lib.Signed.{mag};
-ghost use Rattle.laws.specs.Below.{allBelow};
-ghost use Rattle.laws.specs.Table.{Filled};
-ghost use Rattle.sheet.specs.Word.{words};
-ghost use Rattle.sheet.specs.Rule.{entryOk};
-ghost use Rattle.rules.specs.Asked.{shortestRow, triangle};
-ghost use Rattle.day.specs.Tables.{cell};
+ghost use Rattle.laws.specs.Basic.{allBelow, Filled};
+ghost use Rattle.sheet.specs.Word.{words, entryOk};
+ghost use Rattle.rules.specs.Day.{shortestRow, triangle};
+ghost use Rattle.day.specs.Tell.{cell};
 ghost use Rattle.day.specs.Row.{rowAt, lineOk, Table};
 use rules::Node;
 use sheet::word;
@@ -49,18 +47,20 @@ fn line_ok(s: &[u8], at: usize, n: usize, row: &[i32; Node::MOST], first: i32) -
     ok
 }
 
-// Row i against every other; `row` is room for it, which the rows of a table share.
+// Row i against every other; `row` is room for it, which the rows of a table share. Row j begins at word `at`, which goes on row by row.
 fn row_ok(s: &[u8], from: usize, n: usize, i: usize, row: &mut [i32; Node::MOST]) -> bool
     requires { ⌜ Table (now s) from n × (i < n) × (length (now row) ≡ 64) ⌝ }
     ensures { λ r. ⌜ (r ≡ shortestRow n (cell (now (s .entry)) from n) i) × (length (now (row .exit)) ≡ 64) ⌝ }
 {
     read_row(s, from + i * n, n, i, row);
     let mut ok = true;
+    let mut at = from;
     let mut j = 0;
     while j < n {
         let first = row[j];
-        let line = line_ok(s, from + j * n, n, row, first);
+        let line = line_ok(s, at, n, row, first);
         ok = ok & line;
+        at += n;
         j += 1;
     }
     ok

@@ -10,12 +10,12 @@ use Rattle.day.specs.Refuse.{callRefusal, openRefusal}
 use Rattle.board.specs.Board.{boardOf, routeOf}
 use Rattle.board.specs.declared.State.{State}
 use Rattle.trail.specs.Steps.{Ran, acted}
-use Rattle.listing.specs.Put.{Put, put-then}
+use Rattle.listing.specs.Put.{Put}
+use Rattle.listing.proofs.PutLaws.{put-then}
 use Rattle.listing.specs.Text.{stepLine, routeLine, refusedLine}
 use Rattle.planner.specs.Face.{freshOf}
 use Rattle.dock.specs.declared.Told.{Told}
-use Rattle.dock.specs.Line.{toldOf, lineOf, Reached}
-use Rattle.dock.specs.Listing.{stepAt, comeTo, linesOf, wholeOf, listingOf}
+use Rattle.dock.specs.Listing.{stepAt, comeTo, linesOf, wholeOf, listingOf, toldOf, lineOf, Reached}
 use Rattle.dock.proofs.Reach.{begun, goes-on}
 
 -- before the first step: the fresh state, no line

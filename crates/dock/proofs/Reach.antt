@@ -6,34 +6,35 @@ use mathlib.Core.Path.{_≡_, sym, ap, _∙_, subst}
 use native.Mathlib.Omega.{arith}
 use lib.Dec.{eqb}
 use borrow.Author.Tests.{eqb-true, eqb-false}
-use Rattle.laws.specs.Logic.{decided}
-use Rattle.laws.specs.Choice.{orElse}
+use Rattle.laws.proofs.Logic.{decided}
+use Rattle.laws.specs.Basic.{orElse}
 use Rattle.sheet.specs.Section.{nOf}
 use Rattle.sheet.specs.Place.{Laid}
 use Rattle.sheet.specs.declared.Layout.{Layout}
-use Rattle.day.specs.Refuse.{callRefusal, call-fine}
+use Rattle.day.specs.Refuse.{callRefusal}
+use Rattle.day.proofs.RefuseLaws.{call-fine}
 use Rattle.day.specs.Tell.{dayOf, vanOf}
 use Rattle.rules.specs.Verdict.{alive}
 use Rattle.board.specs.Board.{Board, boardOf, placesOf}
 use Rattle.board.specs.Form.{inForm, formWith}
-use Rattle.board.specs.FormLaws.{in-form-of}
+use Rattle.board.proofs.FormLaws.{in-form-of}
 use Rattle.board.specs.Held.{Held}
 use Rattle.board.specs.declared.State.{State}
 use Rattle.trail.specs.Trail.{roomOf}
 use Rattle.trail.specs.Steps.{Ran, acted}
-use Rattle.trail.specs.Bound.{reached}
-use Rattle.trail.specs.Still.{move-still}
+use Rattle.trail.proofs.Bound.{reached}
+use Rattle.trail.proofs.Still.{move-still}
 use Rattle.along.specs.Ready.{Ready}
 use Rattle.stands.specs.Stands.{planOf}
-use Rattle.planner.specs.Face.{freshOf, planIn, askRefusal, countOf, judgeOf, stepOf, actOf}
+use Rattle.planner.specs.Face.{freshOf, askRefusal, countOf, judgeOf, stepOf}
 use Rattle.planner.specs.Promises.{Took, none, then}
-use Rattle.planner.specs.Known.{Known}
-use Rattle.planner.proofs.FaceReady.{ready}
-use Rattle.planner.proofs.Answers.{unchanged}
-use Rattle.planner.proofs.Moves.{moved}
+use Rattle.planner.proofs.Answers.{unchanged, moved}
 use Rattle.planner.proofs.Courses.{steps-runs}
 use Rattle.planner.proofs.Kept.{form-made, step-acts}
-use Rattle.dock.specs.Line.{toldOf, Reached}
+use Rattle.dock.specs.Listing.{toldOf, Reached}
+use Rattle.van.specs.Act.{planIn, actOf}
+use Rattle.van.specs.Known.{Known}
+use Rattle.van.proofs.Ready.{ready}
 
 -- what a line tells of a state in form hangs on its board
 pub told-is : (sheet : List ℕ) (s : State) → callRefusal sheet ≡ 0 → inForm (nOf sheet) s ≡ true

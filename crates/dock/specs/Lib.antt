@@ -1,3 +1,2 @@
--- Line: the line of a step. Listing: the whole listing of a sheet.
-pub mod Line
+-- Listing: the line of a step, and the whole listing of a sheet.
 pub mod Listing

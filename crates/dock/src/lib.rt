@@ -15,8 +15,7 @@ ghost use Rattle.listing.specs.Put.{Put};
 ghost use Rattle.listing.specs.Text.{stepLine};
 ghost use Rattle.trail.specs.Steps.{ran};
 ghost use Rattle.planner.specs.Face.{freshOf, stepOf};
-ghost use Rattle.dock.specs.Line.{toldOf, Reached};
-ghost use Rattle.dock.specs.Listing.{comeTo, linesOf, wholeOf, listingOf};
+ghost use Rattle.dock.specs.Listing.{toldOf, Reached, comeTo, linesOf, wholeOf, listingOf};
 use board::Figures;
 use board::State;
 use board::places::count;
@@ -55,7 +54,7 @@ fn tell<'a>(
         → r ≡ toldOf (now (sheet .entry)) (stateWith (now (route .entry)) (now (sets .entry)) levels f)) ⌝ }
 {
     let places = count(sets, at.nodes);
-    let alive = planner::known::alive(sheet, at, van, route, sets, f);
+    let alive = van::alive(sheet, at, van, route, sets, f);
     Told {
         places: places,
         alive: alive,
@@ -103,7 +102,7 @@ pub fn step_at(
         ≡ ran r (now (route .exit)) (now (sets .exit)) (now (levels .exit)) (now (trail .exit)) ⌝ }
 {
     let step = day::look::step(sheet, at, i);
-    planner::known::act(sheet, at, van, route, sets, levels, f, trail, step)
+    van::act(sheet, at, van, route, sets, levels, f, trail, step)
 }
 
 fn one_if(b: bool) -> u64

@@ -1,13 +1,2 @@
--- What the proofs lean on, with no planner in it.
--- Logic: tests put together and taken apart. Lists: membership, all, any, subsequences. Choice: a value by a test, the first refusal.
--- Below: a test of every number below one. Sum: a sum over them. Table: a list by its entries. Sweep: a list rewritten place by place. Once: lists with every entry once.
--- Or: the or of many numbers.
-pub mod Logic
-pub mod Lists
-pub mod Choice
-pub mod Below
-pub mod Table
-pub mod Sweep
-pub mod Once
-pub mod Sum
-pub mod Or
+-- Basic: the few functions on lists and numbers that the definitions of all crates are made of.
+pub mod Basic

@@ -1,5 +1,3 @@
--- Text: numbers and lines as bytes. Put: bytes put into a buffer. Laws: the digits' laws.
+-- Text: numbers and lines as bytes. Put: bytes put into a buffer.
 pub mod Text
 pub mod Put
-pub mod Laws
-pub mod Examples

@@ -1,6 +1,8 @@
 -- Every promise, kept.
-use mathlib.Core.Path.{sym, _∙_}
+use Rattle.day.specs.Section.{sectionIn}
+use Rattle.planner.specs.Face.{openOf, stepOf, countOf, judgeOf}
 use Rattle.planner.specs.Promises.{Promised}
+use Rattle.planner.proofs.One.{equated, equating, jobs-read}
 use Rattle.planner.proofs.Answers.{unchanged}
 use Rattle.planner.proofs.Kept as kept
 use Rattle.planner.proofs.Courses.{steps-back, records-bounded}
@@ -9,7 +11,12 @@ use Rattle.planner.proofs.Worked.{worked-out, alike}
 
 pub promised : Promised
 promised = record {
-  one-outcome = λ A answer first second p q. sym p ∙ q;
+  one-opening = λ sheet. equated (openOf sheet);
+  one-section = λ at sheet number. equated (sectionIn at sheet number);
+  one-step = λ sheet s t kind a b. equating (stepOf sheet s t kind a b);
+  one-count = λ sheet s. equated (countOf sheet s);
+  one-verdict = λ sheet s. equated (judgeOf sheet s);
+  jobs-read = jobs-read;
   unchanged = unchanged;
   form-kept = kept.form-kept;
   placing-keeps = kept.placing-keeps;
@@ -17,6 +24,9 @@ promised = record {
   excluding-keeps = kept.excluding-keeps;
   requiring-keeps = kept.requiring-keeps;
   settling-strikes = kept.settling-strikes;
+  settling-rests = kept.settling-rests;
+  settling-exact = kept.settling-exact;
+  settling-largest = kept.settling-largest;
   settling-loses-none = kept.settling-loses-none;
   no-gap-alive = kept.gap-free;
   dead-none = kept.dead;

@@ -1,34 +1,35 @@
 -- Accepted steps one after another: stepping back, and the bound on records.
-use Prim.Native.Nat.{ℕ, _+_, _-_, _≤_, _<_}
+use Prim.Native.Nat.{ℕ, _+_, _≤_, _<_}
 use mathlib.Core.Path.{_≡_, sym, ap, _∙_}
 use mathlib.Core.List.{List}
 use native.Mathlib.Omega.{arith}
 use lib.Dec.{ltb}
-use Rattle.laws.specs.Choice.{unless}
+use Rattle.laws.specs.Basic.{unless}
 use Rattle.sheet.specs.Section.{nOf}
-use Rattle.day.specs.Refuse.{callRefusal, call-fine}
+use Rattle.day.specs.Refuse.{callRefusal}
+use Rattle.day.proofs.RefuseLaws.{call-fine}
 use Rattle.board.specs.Board.{Board, boardOf}
-use Rattle.board.specs.FormLaws as board
-use Rattle.board.specs.Held.{Held, Words}
+use Rattle.board.proofs.FormLaws as board
+use Rattle.board.specs.Held.{Held, Words, InForm, Sound}
 use Rattle.board.specs.declared.State.{State}
 use Rattle.trail.specs.Trail.{roomOf}
 use Rattle.trail.specs.Steps as trail
 use Rattle.trail.specs.Run as run
-use Rattle.rules.specs.Refusal as Refusal
-use Rattle.trail.specs.Since.{Since, accepted, move-since}
-use Rattle.trail.specs.StepBack.{here-since, step-back, step-back-below}
-use Rattle.trail.specs.Bound.{reached, records-bound}
-use Rattle.rules.specs.Step.{LEVEL, BACK}
-use Rattle.planner.specs.Face.{freshOf, actOf, stepRefusal}
+use Rattle.trail.proofs.Since.{Since, accepted, move-since}
+use Rattle.trail.proofs.StepBack.{here-since, step-back, step-back-below}
+use Rattle.trail.proofs.Bound.{reached, records-bound}
+use Rattle.planner.specs.Face.{freshOf, stepRefusal}
 use Rattle.planner.specs.Promises.{Took, Steps, none, then, StepsBack, RecordsBounded}
-use Rattle.planner.proofs.Answers.{Called, acting, call-yes, call-made}
-use Rattle.planner.proofs.Moves.{moved}
+use Rattle.planner.proofs.Answers.{acting, call-yes, call-made, moved}
 use Rattle.planner.proofs.Kept.{form-made}
+use Rattle.van.specs.Act.{actOf}
+use Rattle.van.proofs.Called.{Called}
+use Rattle.rules.specs.Numbers.{refusal, kinds}
 
 -- steps since a level, as the trail has them
-module _ (sheet : List ℕ) (b : Board) (k d : ℕ) (levels t₀ : List ℕ) (f : board.Sound (nOf sheet) b) (w : Words b) where
+module _ (sheet : List ℕ) (b : Board) (k d : ℕ) (levels t₀ : List ℕ) (f : Sound (nOf sheet) b) (w : Words b) where
   pub steps-run : {m : ℕ} {s s′ : State} {t t′ : List ℕ} → d < m → Since (nOf sheet) b k d levels t₀ s t → Steps sheet m s t s′ t′
-      → run.Run (nOf sheet) d s t s′ t′ × Since (nOf sheet) b k d levels t₀ s′ t′
+      → run.RunAbove (nOf sheet) d s t s′ t′ × Since (nOf sheet) b k d levels t₀ s′ t′
   steps-run l h none = (run.none, h)
   steps-run {m} l h (then {s′ = q} {s″ = r} {t′ = v} {t″ = u} kind a c j p e deep) =
       let i = steps-run l h p in
@@ -39,13 +40,13 @@ module _ (sheet : List ℕ) (s : State) (t : List ℕ) (held : Held s) (c : Call
   small : nOf sheet ≤ 64
   small = c .fine .n-high
 
-  form : board.InForm (nOf sheet) s
+  form : InForm (nOf sheet) s
   form = board.in-form (nOf sheet) s small (held .wide) (c .form)
 
   room : s .records ≤ roomOf t
   room = board.form-with (nOf sheet) s (roomOf t) (c .room) .1
 
-  pub sound : board.Sound (nOf sheet) (boardOf s)
+  pub sound : Sound (nOf sheet) (boardOf s)
   sound = record { small = small; wide = held .wide; form = form .board }
 
   pub here : Since (nOf sheet) (boardOf s) (s .records) (s .depth) (s .levels) t s t
@@ -53,19 +54,19 @@ module _ (sheet : List ℕ) (s : State) (t : List ℕ) (held : Held s) (c : Call
 
 opened : {k : ℕ} (s s₁ : State) (t t₁ : List ℕ) → trail.levelStep s t ≡ trail.acted 0 k s₁ t₁ → s₁ .depth ≡ s .depth + 1
 unfolding trail.levelStep
-opened s s₁ t t₁ e = sym (ap (λ (r : trail.Ran). r .0 .state .depth) (accepted (unless (ltb (s .depth) 64) Refusal.DEPTH) s t _ s₁ t₁ e .1))
+opened s s₁ t t₁ e = sym (ap (λ (r : trail.Ran). r .0 .state .depth) (accepted (unless (ltb (s .depth) 64) refusal.DEPTH) s t _ s₁ t₁ e .1))
 
-acted-level : (sheet : List ℕ) (s s₁ : State) (t t₁ : List ℕ) (a b k : ℕ) → Took sheet s t LEVEL a b k s₁ t₁ → trail.levelStep s t ≡ trail.acted 0 k s₁ t₁
+acted-level : (sheet : List ℕ) (s s₁ : State) (t t₁ : List ℕ) (a b k : ℕ) → Took sheet s t kinds.LEVEL a b k s₁ t₁ → trail.levelStep s t ≡ trail.acted 0 k s₁ t₁
 unfolding actOf
-acted-level sheet s s₁ t t₁ a b k e = acting sheet s t LEVEL a b e .1
+acted-level sheet s s₁ t t₁ a b k e = acting sheet s t kinds.LEVEL a b e .1
 
-took-back : (sheet : List ℕ) (s s′ : State) (t : List ℕ) (a b : ℕ) → stepRefusal sheet s t ≡ 0 → trail.backStep (nOf sheet) s t ≡ trail.answered 0 s′ t → Took sheet s t BACK a b 0 s′ t
+took-back : (sheet : List ℕ) (s s′ : State) (t : List ℕ) (a b : ℕ) → stepRefusal sheet s t ≡ 0 → trail.backStep (nOf sheet) s t ≡ trail.answered 0 s′ t → Took sheet s t kinds.BACK a b 0 s′ t
 unfolding actOf
-took-back sheet s s′ t a b z e = call-yes sheet s t BACK a b z ∙ e
+took-back sheet s s′ t a b z e = call-yes sheet s t kinds.BACK a b z ∙ e
 
 pub steps-back : StepsBack
 steps-back sheet s s₁ s₂ t t₁ t₂ a b k c d held e steps last =
-    let u = acting sheet s t LEVEL a b e .0 in
+    let u = acting sheet s t kinds.LEVEL a b e .0 in
     let n = nOf sheet in
     let open-level = acted-level sheet s s₁ t t₁ a b k e in
     let up = opened s s₁ t t₁ open-level in

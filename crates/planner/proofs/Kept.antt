@@ -1,5 +1,5 @@
 -- The promises, kept.
-use Prim.Native.Nat.{ℕ, _-_, _≤_, _<_}
+use Prim.Native.Nat.{ℕ, _≤_, _<_}
 use mathlib.Core.Path.{_≡_, sym, ap, subst, _∙_}
 use mathlib.Core.Bool.{true, false, not}
 use mathlib.Core.List.{List}
@@ -9,40 +9,44 @@ use lib.Dec.{T, ltb}
 use lib.Count.{ones}
 use lib.ListN.{getD, List·getD-eq-default}
 use borrow.Author.Tests.{le-leb, ltb-true, ltb-false}
-use Rattle.laws.specs.Logic.{decided, true→T, false→N}
-use Rattle.laws.specs.Lists.{mem}
-use Rattle.laws.specs.Sum.{sum-lt}
+use Rattle.laws.proofs.Logic.{decided, true→T, false→N}
+use Rattle.laws.specs.Basic.{mem}
+use Rattle.laws.proofs.Sum.{sum-lt}
 use Rattle.sheet.specs.Section.{nOf}
 use Rattle.day.specs.Refuse.{callRefusal}
 use Rattle.day.specs.Tell.{dayOf, vanOf}
-use Rattle.day.specs.Asked.{proper, one-end, short-tables}
+use Rattle.day.proofs.Asked.{proper, one-end, short-tables}
 use Rattle.bits.specs.Places.{has}
-use Rattle.bits.specs.Members.{false-true, has-none, has-low, within-none}
-use Rattle.bits.specs.Number.{ones-members, members-fewer}
-use Rattle.rules.specs.Plan.{Plan}
+use Rattle.rules.specs.Plan.{Plan, Places}
 use Rattle.rules.specs.Rounds.{Belongs}
 use Rattle.rules.specs.Steps as step
+use Rattle.rules.specs.Settle.{strikes, settle}
 use Rattle.rules.specs.Verdict.{alive}
 use Rattle.rules.proofs.StepRounds.{placed-rounds, closed-rounds, excluded-rounds, required-rounds}
 use Rattle.rules.proofs.Twice.{at-most-two}
+use Rattle.rules.proofs.Left.{round-left}
+use Rattle.rules.proofs.Fixpoint.{settle-rests, settle-exact, settle-greatest}
+use Rattle.rules.proofs.Forms.{formed-seen}
 use Rattle.rules.proofs.NoneLost.{settling-keeps}
 use Rattle.rules.proofs.Complete.{no-gap-alive, dead-none}
 use Rattle.board.specs.Board.{boardOf, setOf, openAt, placesOf}
 use Rattle.board.specs.Form.{inForm, formWith}
-use Rattle.board.specs.FormLaws as board
+use Rattle.board.proofs.FormLaws as board
 use Rattle.board.specs.Held.{Held}
 use Rattle.board.specs.declared.State.{State}
 use Rattle.trail.specs.Trail.{roomOf}
-use Rattle.trail.specs.StepBack.{move-keeps}
-use Rattle.rules.specs.Step.{PLACE, SETTLE}
-use Rattle.planner.specs.Face.{planIn, actOf, stepOf, countOf, judgeOf}
-use Rattle.planner.specs.Promises.{FormKept, PlacingKeeps, ClosingKeeps, ExcludingKeeps, RequiringKeeps, SettlingStrikes, SettlingLosesNone, NoGapAlive, DeadNone}
+use Rattle.trail.proofs.StepBack.{move-keeps}
+use Rattle.rules.specs.Numbers.{kinds}
+use Rattle.planner.specs.Face.{stepOf, countOf, judgeOf}
+use Rattle.planner.specs.Promises.{Took, Passes, FormKept, PlacingKeeps, ClosingKeeps, ExcludingKeeps, RequiringKeeps, SettlingStrikes, SettlingRests, SettlingExact, SettlingLargest, SettlingLosesNone, NoGapAlive, DeadNone}
 use Rattle.planner.specs.declared.Counted.{Counted}
 use Rattle.planner.specs.declared.Judged.{Judged}
-use Rattle.planner.proofs.Answers.{call-made, call-yes, acting}
+use Rattle.planner.proofs.Answers.{call-made, call-yes, acting, moved, closing, excluding, placing, requiring, settling-plan}
 use Rattle.planner.proofs.FaceLaws.{asked}
-use Rattle.planner.proofs.Plans.{state-formed, plan-formed, placed-plan, closed-plan, excluded-plan, required-plan, settled-plan}
-use Rattle.planner.proofs.Moves.{moved}
+use Rattle.bits.proofs.Members.{false-true, has-none, has-low, within-none}
+use Rattle.bits.proofs.Number.{ones-members, members-fewer}
+use Rattle.van.specs.Act.{planIn, actOf, owedOf}
+use Rattle.van.proofs.Plans.{state-formed, plan-formed, placed-plan, closed-plan, excluded-plan, required-plan}
 
 -- ---- demand 1
 
@@ -67,33 +71,60 @@ step-acts sheet s t kind a b z e = call-yes sheet s t kind a b (call-made sheet 
 
 pub placing-keeps : PlacingKeeps
 placing-keeps sheet s s′ t t′ p x k held e R =
-    let u = placed-plan sheet s t held p x e in
+    let a = placing p x e in
+    let u = placed-plan sheet s t held (a .0) p x (a .1) in
     subst (λ (a : Plan). Belongs (dayOf sheet) a R ↔ (Belongs (dayOf sheet) (planIn s) R × T (step.uses p x (planIn s .route) R))) (sym (u .0))
-    (placed-rounds (dayOf sheet) (planIn s) R p x (plan-formed held (acting sheet s t PLACE p x e .0)) (u .1))
+    (placed-rounds (dayOf sheet) (planIn s) R p x (plan-formed held (a .0)) (u .1))
 
 pub closing-keeps : ClosingKeeps
 closing-keeps sheet s s′ t t′ p x k held e R =
-    subst (λ (a : Plan). Belongs (dayOf sheet) a R ↔ (Belongs (dayOf sheet) (planIn s) R × T (not (step.uses p x (planIn s .route) R)))) (sym (closed-plan sheet s t held p x e))
+    subst (λ (a : Plan). Belongs (dayOf sheet) a R ↔ (Belongs (dayOf sheet) (planIn s) R × T (not (step.uses p x (planIn s .route) R)))) (sym (let a = closing p x e in closed-plan sheet s t held (a .0) p x (a .1)))
     (closed-rounds (dayOf sheet) (planIn s) R p x)
 
 pub excluding-keeps : ExcludingKeeps
 excluding-keeps sheet s s′ t t′ x b k held e R =
-    let u = excluded-plan sheet s t held x b e in
+    let a = excluding x b e in
+    let u = excluded-plan sheet s t held (a .0) (owedOf (dayOf sheet) s x) x (a .1) in
     subst (λ (a : Plan). Belongs (dayOf sheet) a R ↔ (Belongs (dayOf sheet) (planIn s) R × T (not (mem x R)))) (sym (u .0)) (excluded-rounds (dayOf sheet) (planIn s) R x (u .1))
 
 pub requiring-keeps : RequiringKeeps
 requiring-keeps sheet s s′ t t′ x b k held e R =
-    subst (λ (a : Plan). Belongs (dayOf sheet) a R ↔ (Belongs (dayOf sheet) (planIn s) R × T (mem x R))) (sym (required-plan sheet s t held x b e .0)) (required-rounds (dayOf sheet) (planIn s) R x)
+    subst (λ (a : Plan). Belongs (dayOf sheet) a R ↔ (Belongs (dayOf sheet) (planIn s) R × T (mem x R))) (sym (let a = requiring x b e in required-plan sheet s t held (a .0) x (a .1) .0)) (required-rounds (dayOf sheet) (planIn s) R x)
 
 pub settling-strikes : SettlingStrikes
 settling-strikes sheet s s′ t t′ a b k held e =
-    let c = acting sheet s t SETTLE a b e .0 in
-    let u = settled-plan sheet s t held a b e in
+    let c = acting sheet s t kinds.SETTLE a b e .0 in
+    let u = settling-plan sheet s t held a b e in
     (u .0, u .1, rw (u .1) (at-most-two (vanOf sheet) (dayOf sheet) (one-end sheet (c .read)) (planIn s .route) (plan-formed held c .nodes) (planIn s .places)))
+
+-- the places after settling are those that the rules' settling leaves
+left : (sheet : List ℕ) (s s′ : State) (t t′ : List ℕ) (a b k : ℕ) → Held s → Took sheet s t kinds.SETTLE a b k s′ t′
+    → planIn s′ .places ≡ settle (vanOf sheet) (dayOf sheet) (planIn s .route) (planIn s .places)
+left sheet s s′ t t′ a b k held e = ap (λ (p : Plan). p .places) (settling-plan sheet s t held a b e .0)
+
+pub settling-rests : SettlingRests
+settling-rests sheet s s′ t t′ a b k held e =
+    let c = acting sheet s t kinds.SETTLE a b e .0 in
+    let f = plan-formed held c in
+    ap (λ (p : Plan). strikes (vanOf sheet) (dayOf sheet) (p .route) (p .places)) (settling-plan sheet s t held a b e .0)
+    ∙ settle-rests (vanOf sheet) (dayOf sheet) (one-end sheet (c .read)) (planIn s .route) (f .nodes) (planIn s .places) (formed-seen f)
+
+pub settling-exact : SettlingExact
+settling-exact sheet s s′ t t′ a b k held e x p =
+    let c = acting sheet s t kinds.SETTLE a b e .0 in
+    let f = plan-formed held c in
+    subst (λ (o : Places). T (o x p) ↔ (T (planIn s .places x p) × Passes sheet (planIn s .route) o x p)) (sym (left sheet s s′ t t′ a b k held e))
+    (settle-exact (vanOf sheet) (dayOf sheet) (one-end sheet (c .read)) (planIn s .route) (f .nodes) (planIn s .places) (formed-seen f) x p)
+
+pub settling-largest : SettlingLargest
+settling-largest sheet s s′ t t′ a b k held e o stay x p h =
+    subst (λ (q : Places). T (q x p)) (sym (left sheet s s′ t t′ a b k held e))
+    (settle-greatest (vanOf sheet) (dayOf sheet) (planIn s .route) o (planIn s .places) (λ y q u. stay y q u .0)
+    (λ y q u. round-left (vanOf sheet) (dayOf sheet) (planIn s .route) o y q u (stay y q u .1)) x p h)
 
 pub settling-loses-none : SettlingLosesNone
 settling-loses-none sheet s s′ t t′ a b k z held e R rule in-set =
-    subst (λ (p : Plan). Belongs (dayOf sheet) p R) (sym (settled-plan sheet s t held a b e .0)) (settling-keeps (vanOf sheet) (dayOf sheet) (planIn s) R (short-tables sheet z) rule in-set)
+    subst (λ (p : Plan). Belongs (dayOf sheet) p R) (sym (settling-plan sheet s t held a b e .0)) (settling-keeps (vanOf sheet) (dayOf sheet) (planIn s) R (short-tables sheet z) rule in-set)
 
 -- ---- no gap left, and dead
 

@@ -6,32 +6,35 @@ use mathlib.Core.List.{List}
 use native.Mathlib.Omega.{arith}
 use lib.Dec.{eqb, leb, ltb}
 use borrow.Author.Tests.{eqb-true, eqb-false, ltb-true}
-use Rattle.laws.specs.Logic.{decided}
-use Rattle.laws.specs.Choice.{orElse, unless, or-else-first}
+use Rattle.laws.proofs.Logic.{decided}
+use Rattle.laws.proofs.Choice.{or-else-first}
+use Rattle.laws.specs.Basic.{orElse, unless}
 use Rattle.rules.specs.Day.{isInner}
 use Rattle.sheet.specs.Section.{nOf}
-use Rattle.day.specs.Refuse.{callRefusal, call-fine}
+use Rattle.day.specs.Refuse.{callRefusal}
+use Rattle.day.proofs.RefuseLaws.{call-fine}
 use Rattle.day.specs.Tell.{dayOf, vanOf}
 use Rattle.bits.specs.Places.{has}
 use Rattle.board.specs.Board.{Board, boardOf, setOf, openAt, onRoute, legNode}
-use Rattle.board.specs.FormLaws as board
+use Rattle.board.proofs.FormLaws as board
 use Rattle.board.specs.declared.State.{State}
 use Rattle.trail.specs.Trail.{roomOf, shrunk}
 use Rattle.trail.specs.Refusals.{placeRefusal, excludeRefusal, requireRefusal}
 use Rattle.trail.specs.Steps.{Ran}
 use Rattle.trail.specs.Steps as trail
-use Rattle.trail.specs.StepLaws.{step-yes, step-no}
+use Rattle.trail.proofs.StepLaws.{step-yes, step-no}
 use Rattle.trail.specs.Run as run
-use Rattle.trail.specs.Bound.{reached}
-use Rattle.trail.specs.Never.{records-room, place-roomy, exclude-roomy, require-roomy, settle-roomy, back-fitting}
-use Rattle.rules.specs.Step as step
-use Rattle.rules.specs.Refusal.{KIND, NODE, PLACED, UNPLACED, SHUT, OWED, ROOM, DEPTH, FORM, MISFIT}
-use Rattle.planner.specs.Face.{freshOf, stepOf, actOf, stepRefusal, owedOf, settledSets}
+use Rattle.trail.proofs.Bound.{reached}
+use Rattle.trail.proofs.Never.{records-room, place-roomy, exclude-roomy, require-roomy, settle-roomy, back-fitting}
+use Rattle.rules.specs.Numbers.{refusal, kinds}
+use Rattle.planner.specs.Face.{freshOf, stepOf, stepRefusal}
 use Rattle.planner.specs.Promises.{Steps, NeverShort}
-use Rattle.planner.proofs.Answers.{called, call-made, call-yes, either, zero-both}
-use Rattle.planner.proofs.Moves.{settled-smaller}
+use Rattle.planner.proofs.Answers.{call-clear, call-made, call-yes}
 use Rattle.planner.proofs.Kept.{form-made}
 use Rattle.planner.proofs.Courses.{steps-runs}
+use Rattle.van.specs.Act.{actOf, owedOf, settledSets}
+use Rattle.van.proofs.Leaves.{either, zero-both}
+use Rattle.van.proofs.Moves.{settled-smaller}
 
 abbrev Avoids : ℕ → Ran → Type 0
 Avoids m r = r .0 .answer ≡ m → ⊥
@@ -54,46 +57,46 @@ end : (b : Bool) (k m : ℕ) → (0 ≡ m → ⊥) → (k ≡ m → ⊥) → unl
 end true k m z n e = z e
 end false k m z n e = n e
 
-module _ (m : ℕ) (high : DEPTH < m) where
+module _ (m : ℕ) (high : refusal.DEPTH < m) where
   place-high : (n : ℕ) (b : Board) (records room p x : ℕ) → placeRefusal n b records room p x ≡ m → ⊥
   unfolding placeRefusal
   place-high n b records room p x e =
-      end (ltb records room) ROOM m (λ z. omega arith) (λ z. omega arith)
-      (next (openAt b x p) SHUT _ m refl (λ z. omega arith) (next (onRoute b p) UNPLACED _ m refl (λ z. omega arith)
-      (next (not (onRoute b x)) PLACED _ m refl (λ z. omega arith) (next (isInner n x && legNode n p) NODE _ m refl (λ z. omega arith) e))))
+      end (ltb records room) refusal.ROOM m (λ z. omega arith) (λ z. omega arith)
+      (next (openAt b x p) refusal.SHUT _ m refl (λ z. omega arith) (next (onRoute b p) refusal.UNPLACED _ m refl (λ z. omega arith)
+      (next (not (onRoute b x)) refusal.PLACED _ m refl (λ z. omega arith) (next (isInner n x && legNode n p) refusal.NODE _ m refl (λ z. omega arith) e))))
 
   exclude-high : (n : ℕ) (b : Board) (records room : ℕ) (owed : Bool) (x : ℕ) → excludeRefusal n b records room owed x ≡ m → ⊥
   unfolding excludeRefusal
   exclude-high n b records room owed x e =
-      end (eqb (setOf b x) 0 || ltb records room) ROOM m (λ z. omega arith) (λ z. omega arith)
-      (next (not owed) OWED _ m refl (λ z. omega arith) (next (not (onRoute b x)) PLACED _ m refl (λ z. omega arith) (next (isInner n x) NODE _ m refl (λ z. omega arith) e)))
+      end (eqb (setOf b x) 0 || ltb records room) refusal.ROOM m (λ z. omega arith) (λ z. omega arith)
+      (next (not owed) refusal.OWED _ m refl (λ z. omega arith) (next (not (onRoute b x)) refusal.PLACED _ m refl (λ z. omega arith) (next (isInner n x) refusal.NODE _ m refl (λ z. omega arith) e)))
 
   require-high : (n : ℕ) (b : Board) (records room x : ℕ) → requireRefusal n b records room x ≡ m → ⊥
   unfolding requireRefusal
   require-high n b records room x e =
-      end (has (b .marks) x || ltb records room) ROOM m (λ z. omega arith) (λ z. omega arith)
-      (next (not (onRoute b x)) PLACED _ m refl (λ z. omega arith) (next (isInner n x) NODE _ m refl (λ z. omega arith) e))
+      end (has (b .marks) x || ltb records room) refusal.ROOM m (λ z. omega arith) (λ z. omega arith)
+      (next (not (onRoute b x)) refusal.PLACED _ m refl (λ z. omega arith) (next (isInner n x) refusal.NODE _ m refl (λ z. omega arith) e))
 
 -- what each kind of step must avoid
 pub record Avoided (sheet : List ℕ) (s : State) (t : List ℕ) (m : ℕ) : Type 0 where
   pub place : (p x : ℕ) → placeRefusal (nOf sheet) (boardOf s) (s .records) (roomOf t) p x ≡ m → ⊥
   pub exclude : (x : ℕ) → excludeRefusal (nOf sheet) (boardOf s) (s .records) (roomOf t) (owedOf (dayOf sheet) s x) x ≡ m → ⊥
   pub require : (x : ℕ) → requireRefusal (nOf sheet) (boardOf s) (s .records) (roomOf t) x ≡ m → ⊥
-  pub settle : unless (leb (s .records + shrunk (s .sets) (settledSets (vanOf sheet) (dayOf sheet) s) 64) (roomOf t)) ROOM ≡ m → ⊥
-  pub level : unless (ltb (s .depth) 64) DEPTH ≡ m → ⊥
-  pub back : orElse (unless (ltb 0 (s .depth)) DEPTH) (unless (trail.undoLevel (nOf sheet) s t .0) MISFIT) ≡ m → ⊥
-  pub kind : KIND ≡ m → ⊥
+  pub settle : unless (leb (s .records + shrunk (s .sets) (settledSets (vanOf sheet) (dayOf sheet) s) 64) (roomOf t)) refusal.ROOM ≡ m → ⊥
+  pub level : unless (ltb (s .depth) 64) refusal.DEPTH ≡ m → ⊥
+  pub back : orElse (unless (ltb 0 (s .depth)) refusal.DEPTH) (unless (trail.undoLevel (nOf sheet) s t .0) refusal.MISFIT) ≡ m → ⊥
+  pub kind : refusal.KIND ≡ m → ⊥
 
 act-avoids : (sheet : List ℕ) (s : State) (t : List ℕ) (kind a b m : ℕ) → Avoided sheet s t m → Avoids m (actOf (vanOf sheet) (dayOf sheet) s t kind a b)
 unfolding actOf trail.placeStep trail.closeStep trail.excludeStep trail.requireStep trail.settleStep trail.levelStep trail.backStep trail.recorded
 act-avoids sheet s t kind a b m h =
-    either (Avoids m) (eqb kind step.PLACE) (stepping m _ s t _ refl (h .place a b))
-    (either (Avoids m) (eqb kind step.CLOSE) (stepping m _ s t _ refl (h .place a b))
-    (either (Avoids m) (eqb kind step.EXCLUDE) (stepping m _ s t _ (zero-both (eqb (setOf (boardOf s) a) 0) _ _ refl refl) (h .exclude a))
-    (either (Avoids m) (eqb kind step.REQUIRE) (stepping m _ s t _ (zero-both (has (s .marks) a) _ _ refl refl) (h .require a))
-    (either (Avoids m) (eqb kind step.SETTLE) (stepping m _ s t _ refl (h .settle))
-    (either (Avoids m) (eqb kind step.LEVEL) (stepping m _ s t _ refl (h .level))
-    (either (Avoids m) (eqb kind step.BACK) (stepping m _ s t _ refl (h .back)) (h .kind)))))))
+    either (Avoids m) (eqb kind kinds.PLACE) (stepping m _ s t _ refl (h .place a b))
+    (either (Avoids m) (eqb kind kinds.CLOSE) (stepping m _ s t _ refl (h .place a b))
+    (either (Avoids m) (eqb kind kinds.EXCLUDE) (stepping m _ s t _ (zero-both (eqb (setOf (boardOf s) a) 0) _ _ refl refl) (h .exclude a))
+    (either (Avoids m) (eqb kind kinds.REQUIRE) (stepping m _ s t _ (zero-both (has (s .marks) a) _ _ refl refl) (h .require a))
+    (either (Avoids m) (eqb kind kinds.SETTLE) (stepping m _ s t _ refl (h .settle))
+    (either (Avoids m) (eqb kind kinds.LEVEL) (stepping m _ s t _ refl (h .level))
+    (either (Avoids m) (eqb kind kinds.BACK) (stepping m _ s t _ refl (h .back)) (h .kind)))))))
 
 -- ---- the three numbers
 
@@ -112,45 +115,45 @@ module _ (sheet : List ℕ) (s : State) (t t′ : List ℕ) (z : callRefusal she
       let h = reached (nOf sheet) two small t s t′ runs in
       call-made sheet s t′ z (form-made (nOf sheet) s (roomOf t′) (board.in-form-of (nOf sheet) s small (h .held .wide) (h .form)) (records-room (nOf sheet) two small t s t′ runs space))
 
-  avoided-room : Avoided sheet s t′ ROOM
+  avoided-room : Avoided sheet s t′ refusal.ROOM
   avoided-room = record {
     place = place-roomy (nOf sheet) two small t s t′ runs space;
     exclude = λ x. exclude-roomy (nOf sheet) two small t s t′ runs space (owedOf (dayOf sheet) s x) x;
     require = require-roomy (nOf sheet) two small t s t′ runs space;
-    settle = settle-roomy (nOf sheet) two small t s t′ runs space (settledSets (vanOf sheet) (dayOf sheet) s) (settled-smaller sheet s t′ (reached (nOf sheet) two small t s t′ runs .held) (called sheet s t′ call));
-    level = end (ltb (s .depth) 64) DEPTH ROOM (λ e. omega arith) (λ e. omega arith);
-    back = λ e. end (trail.undoLevel (nOf sheet) s t′ .0) MISFIT ROOM (λ e. omega arith) (λ e. omega arith) (next (ltb 0 (s .depth)) DEPTH _ ROOM refl (λ e. omega arith) e);
+    settle = settle-roomy (nOf sheet) two small t s t′ runs space (settledSets (vanOf sheet) (dayOf sheet) s) (settled-smaller (vanOf sheet) sheet s t′ (reached (nOf sheet) two small t s t′ runs .held) (call-clear sheet s t′ call));
+    level = end (ltb (s .depth) 64) refusal.DEPTH refusal.ROOM (λ e. omega arith) (λ e. omega arith);
+    back = λ e. end (trail.undoLevel (nOf sheet) s t′ .0) refusal.MISFIT refusal.ROOM (λ e. omega arith) (λ e. omega arith) (next (ltb 0 (s .depth)) refusal.DEPTH _ refusal.ROOM refl (λ e. omega arith) e);
     kind = λ e. omega arith;
   }
 
-  avoided-high : (m : ℕ) → DEPTH < m → (orElse (unless (ltb 0 (s .depth)) DEPTH) (unless (trail.undoLevel (nOf sheet) s t′ .0) MISFIT) ≡ m → ⊥) → Avoided sheet s t′ m
+  avoided-high : (m : ℕ) → refusal.DEPTH < m → (orElse (unless (ltb 0 (s .depth)) refusal.DEPTH) (unless (trail.undoLevel (nOf sheet) s t′ .0) refusal.MISFIT) ≡ m → ⊥) → Avoided sheet s t′ m
   avoided-high m high back = record {
     place = place-high m high (nOf sheet) (boardOf s) (s .records) (roomOf t′);
     exclude = λ x. exclude-high m high (nOf sheet) (boardOf s) (s .records) (roomOf t′) (owedOf (dayOf sheet) s x) x;
     require = require-high m high (nOf sheet) (boardOf s) (s .records) (roomOf t′);
-    settle = end (leb (s .records + shrunk (s .sets) (settledSets (vanOf sheet) (dayOf sheet) s) 64) (roomOf t′)) ROOM m (λ e. omega arith) (λ e. omega arith);
-    level = end (ltb (s .depth) 64) DEPTH m (λ e. omega arith) (λ e. omega arith);
+    settle = end (leb (s .records + shrunk (s .sets) (settledSets (vanOf sheet) (dayOf sheet) s) 64) (roomOf t′)) refusal.ROOM m (λ e. omega arith) (λ e. omega arith);
+    level = end (ltb (s .depth) 64) refusal.DEPTH m (λ e. omega arith) (λ e. omega arith);
     back = back;
     kind = λ e. omega arith;
   }
 
-  back-formed : orElse (unless (ltb 0 (s .depth)) DEPTH) (unless (trail.undoLevel (nOf sheet) s t′ .0) MISFIT) ≡ FORM → ⊥
-  back-formed e = end (trail.undoLevel (nOf sheet) s t′ .0) MISFIT FORM (λ e. omega arith) (λ e. omega arith) (next (ltb 0 (s .depth)) DEPTH _ FORM refl (λ e. omega arith) e)
+  back-formed : orElse (unless (ltb 0 (s .depth)) refusal.DEPTH) (unless (trail.undoLevel (nOf sheet) s t′ .0) refusal.MISFIT) ≡ refusal.FORM → ⊥
+  back-formed e = end (trail.undoLevel (nOf sheet) s t′ .0) refusal.MISFIT refusal.FORM (λ e. omega arith) (λ e. omega arith) (next (ltb 0 (s .depth)) refusal.DEPTH _ refusal.FORM refl (λ e. omega arith) e)
 
-  back-fits : orElse (unless (ltb 0 (s .depth)) DEPTH) (unless (trail.undoLevel (nOf sheet) s t′ .0) MISFIT) ≡ MISFIT → ⊥
+  back-fits : orElse (unless (ltb 0 (s .depth)) refusal.DEPTH) (unless (trail.undoLevel (nOf sheet) s t′ .0) refusal.MISFIT) ≡ refusal.MISFIT → ⊥
   unfolding orElse
   back-fits e =
       decided (ltb 0 (s .depth))
       (λ q. let b = back-fitting (nOf sheet) two small t s t′ runs space (ltb-true 0 (s .depth) q) in
-      let f : unless (trail.undoLevel (nOf sheet) s t′ .0) MISFIT ≡ MISFIT = rw q at e in omega (arith, sym b ∙ f))
-      (λ q. let f : _≡_ {A = ℕ} DEPTH MISFIT = rw q at e in omega arith)
+      let f : unless (trail.undoLevel (nOf sheet) s t′ .0) refusal.MISFIT ≡ refusal.MISFIT = rw q at e in omega (arith, sym b ∙ f))
+      (λ q. let f : _≡_ {A = ℕ} refusal.DEPTH refusal.MISFIT = rw q at e in omega arith)
 
   avoids : (kind a b m : ℕ) → Avoided sheet s t′ m → stepOf sheet s t′ kind a b .0 .answer ≡ m → ⊥
   avoids kind a b m h e = act-avoids sheet s t′ kind a b m h (sym (ap (λ (r : Ran). r .0 .answer) (call-yes sheet s t′ kind a b call)) ∙ e)
 
 pub never-short : NeverShort
 never-short sheet s t t′ kind a b z space steps = (
-  avoids sheet s t t′ z space steps kind a b ROOM (avoided-room sheet s t t′ z space steps),
-  avoids sheet s t t′ z space steps kind a b FORM (avoided-high sheet s t t′ z space steps FORM (omega arith) (back-formed sheet s t t′ z space steps)),
-  avoids sheet s t t′ z space steps kind a b MISFIT (avoided-high sheet s t t′ z space steps MISFIT (omega arith) (back-fits sheet s t t′ z space steps)),
+  avoids sheet s t t′ z space steps kind a b refusal.ROOM (avoided-room sheet s t t′ z space steps),
+  avoids sheet s t t′ z space steps kind a b refusal.FORM (avoided-high sheet s t t′ z space steps refusal.FORM (omega arith) (back-formed sheet s t t′ z space steps)),
+  avoids sheet s t t′ z space steps kind a b refusal.MISFIT (avoided-high sheet s t t′ z space steps refusal.MISFIT (omega arith) (back-fits sheet s t t′ z space steps)),
 )

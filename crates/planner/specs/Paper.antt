@@ -1,72 +1,62 @@
--- P1 to P12 of document 01, on the bytes of its sheet with one number altered, through the planner's own answers.
-use mathlib.Core.Path.{_≡_, refl}
+-- P1 to P12 of document 01, on the bytes of its sheet with one number altered.
+-- P4 to P10, and that P11 is dead, are the planner's own answers: `stepOf`, `countOf` and `judgeOf`, which the contracts of `step`, `open_places`
+-- and `verdict` equate. The others ask for what no entry point answers, and rest on the rules' definitions by which those answers are stated:
+-- * P1, E(3): `startAt`. P2, L(2), P3, L(0), and P11's L(0): `lastAt`. They are the window test's own E and L, `start` and `lastStart`, at a stop of
+--   a route; the verdict asks by the same E.
+-- * P12: the rounds of the day, `everyRound`, filtered by `belongs`, and by `keeps` too. `everyRound` has each round of the day (`every-round`), and
+--   each once (`every-once`), in rules/proofs/EveryRound.antt; the test `belongs` says of such a round what `Belongs` says, by which the promises
+--   speak (`belongs-is`), every round that belongs is one of the day (`belongs-round`), and so the count is that of the rounds that belong and pass
+--   (`counts-rounds`), in rules/proofs/Counted.antt. They ask for a plan in form; a state in form stands for one (`state-formed` in proofs/Plans.antt).
+use mathlib.Core.Path.{_≡_}
 use Prim.Native.Nat.{ℕ}
 use mathlib.Core.Bool.{Bool, true, false, cond, _&&_}
 use mathlib.Core.List.{List, [], _∷_}
 use lib.ListN.{replicate}
 use lib.IntN.{pos, negsuc}
-use lib.Count.{ones, onesIn}
-use Rattle.laws.specs.Below.{allBelow}
-use Rattle.laws.specs.Choice.{orElse}
-use Rattle.laws.specs.Sum.{sumBelow}
-use Rattle.laws.specs.Table.{tab}
-use Rattle.sheet.specs.Word.{wordAt}
-use Rattle.sheet.specs.Section.{headRefusal, limitsRefusal, nodesRefusal, jobsRefusal, tableRefusal, stepsRefusal, laterRefusal, readRefusal}
-use Rattle.day.specs.Jobs.{jobAt}
-use Rattle.day.specs.Twice.{clash, apart}
-use Rattle.day.specs.Tables.{cell}
-use Rattle.day.specs.Refuse.{callRefusal}
 use Rattle.day.specs.Tell.{dayOf, vanOf}
 use Rattle.day.specs.Example.{sheetWith}
-use Rattle.bits.specs.Places.{digit, has, with, within}
-use Rattle.rules.specs.Step.{PLACE, SETTLE}
+use Rattle.rules.specs.Numbers.{kinds}
 use Rattle.rules.specs.Along.{startAt, lastAt}
 use Rattle.rules.specs.Rounds.{keeps}
-use Rattle.rules.specs.Day.{Day, isInner}
+use Rattle.rules.specs.Day.{Day}
 use Rattle.rules.specs.declared.Van.{Van}
 use Rattle.rules.specs.Plan.{Plan}
 use Rattle.rules.specs.Every.{everyRound, belongs, count}
-use Rattle.rules.specs.Verdict as rules
-use Rattle.rules.specs.Verdict.{owed}
-use Rattle.rules.specs.Tests.{stays}
-use Rattle.rules.specs.Settle.{round, strikes, settleIn, roundsIn}
-use Rattle.board.specs.Route.{wordOf, indexOf, insertIn}
-use Rattle.board.specs.Change.{heir, placed}
 use Rattle.board.specs.declared.State.{State}
-use Rattle.board.specs.Board.{boardOf, routeOf, onRoute, legsOf, setOf, openAt, legNode, placesOf}
-use Rattle.board.specs.Fresh.{freshState, freshSets, freshSet}
-use Rattle.board.specs.Form.{stopOk, setOk, markOk, nodeFits, boardOk, levelOk, levelsOk, inForm, formWith}
-use Rattle.trail.specs.Trail.{roomOf, shrunk, noteBelow, noteOne, pushed}
-use Rattle.trail.specs.Refusals.{placeRefusal}
-use Rattle.trail.specs.Steps as trail
-use Rattle.along.specs.Sets.{wordFrom, setsOf}
-use Rattle.planner.specs.Face.{planIn, stepOf, actOf, stepRefusal, askRefusal, countOf, judgeOf}
+use Rattle.board.specs.Board.{boardOf, openAt}
+use Rattle.board.specs.Fresh.{freshState}
+use Rattle.planner.specs.Face.{stepOf, countOf, judgeOf}
+use Rattle.van.specs.Act.{planIn}
 
 -- a trail of four records, as good as any here
 abbrev none : List ℕ
 none = replicate 8 0
 
--- the fresh state, and the state with node 2 placed after 0
+-- the fresh state
 abbrev fresh : State
 fresh = freshState 4
 
+-- the state with node 2 placed after 0
 abbrev two : List ℕ → State
-two sheet = stepOf sheet fresh none PLACE 0 2 .0 .state
+two sheet = stepOf sheet fresh none kinds.PLACE 0 2 .0 .state
 
--- what settling gives, and the state after it
+-- the state after settling
 abbrev after : List ℕ → State → State
-after sheet s = stepOf sheet s none SETTLE 0 0 .0 .state
+after sheet s = stepOf sheet s none kinds.SETTLE 0 0 .0 .state
 
+-- the rounds that settling tells
 abbrev rounds : List ℕ → State → ℕ
-rounds sheet s = stepOf sheet s none SETTLE 0 0 .0 .rounds
+rounds sheet s = stepOf sheet s none kinds.SETTLE 0 0 .0 .rounds
 
--- the open places in all, and the verdict
+-- the open places in all
 abbrev places : List ℕ → State → ℕ
 places sheet s = countOf sheet s .places
 
+-- the verdict
 abbrev alive : List ℕ → State → Bool
 alive sheet s = judgeOf sheet s .alive
 
+-- the sheet of document 01
 abbrev paper : List ℕ
 paper = sheetWith 2 60 25 100
 
@@ -78,6 +68,7 @@ kept d v a = filter (λ R. belongs d a R && keeps v d R) (everyRound d)
     filter f [] = []
     filter f (R ∷ l) = cond (f R) (R ∷ filter f l) (filter f l)
 
+-- the table, each case an equation that computes
 pub record Paper : Type 0 where
   -- route 0 2 3: E(3), L(2), L(0)
   pub p1 : startAt (dayOf paper) (0 ∷ 2 ∷ 3 ∷ []) 2 ≡ 35
@@ -105,7 +96,3 @@ pub record Paper : Type 0 where
   -- fresh: 5 rounds belong, 2 keep the rules, 0 3 and 0 1 2 3
   pub p12 : count (belongs (dayOf paper) (planIn fresh)) (everyRound (dayOf paper)) ≡ 5
   pub p12-kept : kept (dayOf paper) (vanOf paper) (planIn fresh) ≡ (0 ∷ 3 ∷ []) ∷ (0 ∷ 1 ∷ 2 ∷ 3 ∷ []) ∷ []
-
-paper-cases : Paper
-unfolding allBelow orElse sumBelow tab wordAt headRefusal limitsRefusal nodesRefusal jobsRefusal tableRefusal stepsRefusal laterRefusal readRefusal jobAt clash apart cell callRefusal digit has with within stays round strikes settleIn roundsIn keeps owed rules.alive everyRound wordOf indexOf insertIn routeOf onRoute legsOf setOf openAt isInner legNode placesOf ones onesIn heir placed freshState freshSets freshSet stopOk setOk markOk nodeFits boardOk levelOk levelsOk inForm formWith roomOf shrunk noteBelow noteOne pushed placeRefusal trail.placeStep trail.recorded trail.settleStep trail.unlessRefused setsOf wordFrom stepOf actOf stepRefusal askRefusal countOf judgeOf
-paper-cases = record { p1 = refl; p2 = refl; p3 = refl; p4 = refl; p5 = refl; p6 = refl; p7 = refl; p8 = refl; p8-dead = refl; p9 = refl; p9-rounds = refl; p9-alive = refl; p10 = refl; p10-none = refl; p10-alive = refl; p11 = refl; p11-dead = refl; p12 = refl; p12-kept = refl }

@@ -1,19 +1,18 @@
 // The planner's five entry points. Each is total: any bytes, any state, any trail, any numbers.
-pub mod known;
-
 ghost use mathlib.Core.Path.{_≡_};
+ghost use mathlib.Core.List.{List};
+ghost use Prim.Native.Nat.{ℕ, _≤_};
 ghost use lib.ListN.{length};
 ghost use Rattle.board.specs.Board.{stateWith};
 ghost use Rattle.board.specs.Held.{Held};
 ghost use Rattle.sheet.specs.Place.{found};
-ghost use Rattle.day.specs.Section.{sectionOf};
+ghost use Rattle.day.specs.Refuse.{callRefusal};
 ghost use Rattle.trail.specs.Steps.{ran};
-ghost use Rattle.planner.specs.Face.{openOf, askRefusal, stepRefusal, countOf, judgeOf, stepOf};
+ghost use Rattle.planner.specs.Face.{askRefusal, stepRefusal, stepOf, Opens, Sections, Stepping, Counts, Judges};
 use board::Figures;
 use board::State;
 use board::form::in_form;
 use board::places::count;
-use known::act;
 use rules::Node;
 use rules::Refusal;
 use rules::Step;
@@ -42,7 +41,7 @@ pub struct Judged {
 
 // Opens a sheet.
 pub fn open(sheet: &[u8]) -> Opened
-    ensures { λ r. ⌜ r ≡ openOf (now (sheet .entry)) ⌝ }
+    ensures { λ r. ⌜ Opens (now (sheet .entry)) r ⌝ }
 {
     let found = day::opening(sheet);
     let at = found.layout;
@@ -59,7 +58,7 @@ pub fn open(sheet: &[u8]) -> Opened
 
 // The stretch of the sheet that holds a section's entries.
 pub fn section(sheet: &[u8], number: usize) -> &[u8]
-    ensures { λ r. ⌜ now r ≡ sectionOf (now (sheet .entry)) number ⌝ }
+    ensures { λ r. ⌜ Sections (sheet .entry .ptr) (now (sheet .entry)) number (r .ptr, now r) ⌝ }
 {
     day::section(sheet, number)
 }
@@ -76,44 +75,48 @@ fn figures(stops: usize, marks: u64, depth: usize, records: usize) -> Figures
     }
 }
 
-// Why a call on a sheet and a state is refused, the trail's room apart, or 0 and the sheet's layout.
+// Why a call on a state is refused, the trail's room apart, or 0: `read` is what checking the sheet found.
 fn asked<'a>(
-    sheet: &[u8],
+    read: Found,
     route: &'a [usize; Node::MOST],
     sets: &'a [u64; Node::MOST],
     levels: &'a [usize; State::LEVELS],
     f: Figures,
-) -> Found
-    requires { ⌜ length (now route) ≡ 64 ⌝ }
-    ensures { λ r. ⌜ r ≡ found (λ s. askRefusal s (stateWith (now (route .entry)) (now (sets .entry)) (now (levels .entry)) f)) (now (sheet .entry)) ⌝ }
+) -> usize
+    requires { ⌜ (read .answer ≡ 0 → read .layout .nodes ≤ 64) × (length (now route) ≡ 64) ⌝ }
+    ensures { λ r. ⌜ ((sheet : List ℕ) → read ≡ found callRefusal sheet →
+        r ≡ askRefusal sheet (stateWith (now (route .entry)) (now (sets .entry)) (now (levels .entry)) f)) ⌝ }
 {
-    let found = day::checked(sheet);
-    if found.answer != 0 {
-        return found;
+    if read.answer != 0 {
+        return read.answer;
     }
-    let at = found.layout;
+    let at = read.layout;
     let form = in_form(route, sets, levels, f, at.nodes);
-    found.judged(form, Refusal::FORM)
+    if form { 0 } else { Refusal::FORM }
 }
 
 // The same of a step, whatever its kind: it lends a trail.
 fn called<'a>(
-    sheet: &[u8],
+    read: Found,
     route: &'a [usize; Node::MOST],
     sets: &'a [u64; Node::MOST],
     levels: &'a [usize; State::LEVELS],
     f: Figures,
     trail: &[u64],
-) -> Found
-    requires { ⌜ length (now route) ≡ 64 ⌝ }
-    ensures { λ r. ⌜ r ≡ found (λ s. stepRefusal s (stateWith (now (route .entry)) (now (sets .entry)) (now (levels .entry)) f) (now (trail .entry)))
-        (now (sheet .entry)) ⌝ }
+) -> usize
+    requires { ⌜ (read .answer ≡ 0 → read .layout .nodes ≤ 64) × (length (now route) ≡ 64) ⌝ }
+    ensures { λ r. ⌜ ((sheet : List ℕ) → read ≡ found callRefusal sheet →
+        r ≡ stepRefusal sheet (stateWith (now (route .entry)) (now (sets .entry)) (now (levels .entry)) f) (now (trail .entry))) ⌝ }
 {
-    let found = asked(sheet, route, sets, levels, f);
-    if found.answer != 0 {
-        return found;
+    let answer = asked(read, route, sets, levels, f);
+    if answer != 0 {
+        return answer;
     }
-    found.judged(f.records <= trail.len() / 2, Refusal::FORM)
+    if f.records <= trail.len() / 2 {
+        0
+    } else {
+        Refusal::FORM
+    }
 }
 
 // One step on a state in arrays: refused whatever its kind, or done in place.
@@ -131,13 +134,14 @@ fn step_in(
         (now (trail .entry)) (step .kind) (step .first) (step .second)
         ≡ ran r (now (route .exit)) (now (sets .exit)) (now (levels .exit)) (now (trail .exit)) ⌝ }
 {
-    let found = called(sheet, route, sets, levels, f, trail);
-    if found.answer != 0 {
-        return same(found.answer, f);
+    let read = day::checked(sheet);
+    let answer = called(read, route, sets, levels, f, trail);
+    if answer != 0 {
+        return same(answer, f);
     }
-    let at = found.layout;
+    let at = read.layout;
     let van = day::look::van(sheet, at);
-    act(sheet, at, van, route, sets, levels, f, trail, step)
+    van::act(sheet, at, van, route, sets, levels, f, trail, step)
 }
 
 // One step: the outcome, and the trail.
@@ -149,7 +153,7 @@ pub fn step(
     first: usize,
     second: usize,
 ) -> Stepped
-    ensures { λ r. ⌜ stepOf (now (sheet .entry)) state (now (trail .entry)) kind first second ≡ (r, now (trail .exit)) ⌝ }
+    ensures { λ r. ⌜ Stepping (now (sheet .entry)) state (now (trail .entry)) kind first second (r, now (trail .exit)) ⌝ }
 {
     let f = figures(state.stops, state.marks, state.depth, state.records);
     let asked = Step {
@@ -179,17 +183,18 @@ pub fn step(
 
 // The open places of a state in all.
 pub fn open_places(sheet: &[u8], state: State) -> Counted
-    ensures { λ r. ⌜ r ≡ countOf (now (sheet .entry)) state ⌝ }
+    ensures { λ r. ⌜ Counts (now (sheet .entry)) state r ⌝ }
 {
     let f = figures(state.stops, state.marks, state.depth, state.records);
-    let found = asked(sheet, &state.route, &state.sets, &state.levels, f);
-    if found.answer != 0 {
+    let read = day::checked(sheet);
+    let answer = asked(read, &state.route, &state.sets, &state.levels, f);
+    if answer != 0 {
         return Counted {
-            answer: found.answer,
+            answer: answer,
             places: 0,
         };
     }
-    let at = found.layout;
+    let at = read.layout;
     Counted {
         answer: 0,
         places: count(&state.sets, at.nodes),
@@ -198,20 +203,21 @@ pub fn open_places(sheet: &[u8], state: State) -> Counted
 
 // The verdict of a state.
 pub fn verdict(sheet: &[u8], state: State) -> Judged
-    ensures { λ r. ⌜ r ≡ judgeOf (now (sheet .entry)) state ⌝ }
+    ensures { λ r. ⌜ Judges (now (sheet .entry)) state r ⌝ }
 {
     let f = figures(state.stops, state.marks, state.depth, state.records);
-    let found = asked(sheet, &state.route, &state.sets, &state.levels, f);
-    if found.answer != 0 {
+    let read = day::checked(sheet);
+    let answer = asked(read, &state.route, &state.sets, &state.levels, f);
+    if answer != 0 {
         return Judged {
-            answer: found.answer,
+            answer: answer,
             alive: false,
         };
     }
-    let at = found.layout;
+    let at = read.layout;
     let van = day::look::van(sheet, at);
     Judged {
         answer: 0,
-        alive: known::alive(sheet, at, van, &state.route, &state.sets, f),
+        alive: van::alive(sheet, at, van, &state.route, &state.sets, f),
     }
 }

@@ -6,15 +6,15 @@ use native.Mathlib.Omega.{arith}
 use mathlib.Core.Bool.{Bool, not, _&&_, and-true}
 use mathlib.Core.List.{List, [], _∷_}
 use lib.Dec.{T}
-use Rattle.laws.specs.Logic.{T→true, T-ext, and-i, and-l, and-r}
-use Rattle.laws.specs.Lists.{mem, hd}
+use Rattle.laws.proofs.Logic.{T→true, T-ext, and-i, and-l, and-r}
+use Rattle.laws.specs.Basic.{mem, hd}
 use Rattle.rules.specs.Day.{Day}
 use Rattle.rules.specs.declared.Van.{Van}
 use Rattle.rules.specs.Leg.{legStops}
-use Rattle.rules.specs.Plan.{Plan, Places, Marks}
+use Rattle.rules.specs.Plan.{Plan, Places}
 use Rattle.rules.specs.Settle.{round, settle, settled}
 use Rattle.rules.specs.Verdict.{alive}
-use Rattle.rules.specs.Worked.{Run, origin, workedPlaces, worked}
+use Rattle.rules.specs.Worked.{PlanRun, origin, workedPlaces, worked}
 use Rattle.rules.specs.Asked.{Triangle, OneEnd, Formed}
 use Rattle.rules.proofs.Cuts.{Cut}
 use Rattle.rules.proofs.Inner.{inner-low}
@@ -44,7 +44,7 @@ worked-same : (a : Plan) {e e′ : List ℕ} (X X′ : List ℕ) → e ≡ e′ 
 unfolding workedPlaces
 worked-same a X X′ e x = λ i y q. mem q (legStops (e i)) && not (x y i) && not (mem y (e i)) && a .places y (origin (a .route) (hd (e i)) (e i) q)
 
-module _ (v : Van) (d : Day) (tri : Triangle d) (one : OneEnd (d .jobs)) (z : ℕ) (r₀ : List ℕ) (o₀ : Places) (m₀ : Marks) (l₀ : LaidOut d z r₀ o₀)
+module _ (v : Van) (d : Day) (tri : Triangle d) (one : OneEnd (d .jobs)) (z : ℕ) (r₀ : List ℕ) (o₀ : Places) (m₀ : ℕ → Bool) (l₀ : LaidOut d z r₀ o₀)
     (e X : List ℕ) (o : Places) (c : Course v d z r₀ o₀ e o X) where
   abbrev outset : Plan
   outset = record { route = z ∷ r₀; places = o₀; marks = m₀ }
@@ -105,7 +105,7 @@ pub record EndAlike (v : Van) (d : Day) (a b : Plan) : Type 0 where
   pub verdict : alive v d a ≡ alive v d b
 
 module _ (v : Van) (d : Day) (tri : Triangle d) (one : OneEnd (d .jobs)) (a : Plan) (f : Formed d a) where
-  end-places : {b : Plan} {X : List ℕ} → Run v d a b X → (y q : ℕ) → settle v d (b .route) (b .places) y q ≡ settle v d (b .route) (workedPlaces a (b .route) X) y q
+  end-places : {b : Plan} {X : List ℕ} → PlanRun v d a b X → (y q : ℕ) → settle v d (b .route) (b .places) y q ≡ settle v d (b .route) (workedPlaces a (b .route) X) y q
   end-places {b} {X} run y q = let u = coursed (f .starts) (formed-laid f) run in
       subst (λ (rt : List ℕ). settle v d rt (b .places) y q ≡ settle v d rt (workedPlaces a rt X) y q) (sym (u .is))
       (course-alike v d tri one 0 (f .tail) (a .places) (a .marks) (formed-laid f) (u .rest) X (b .places) (u .course) y q
@@ -115,7 +115,7 @@ module _ (v : Van) (d : Day) (tri : Triangle d) (one : OneEnd (d .jobs)) (a : Pl
       front = λ i. record { route = f .starts i; places = a .places; marks = a .marks }
 
   -- the end of a run, settled, and the plan worked out, settled
-  pub run-alike : {b : Plan} {X : List ℕ} → Run v d a b X → EndAlike v d (settled v d b) (settled v d (worked a (b .route) X (b .marks)))
+  pub run-alike : {b : Plan} {X : List ℕ} → PlanRun v d a b X → EndAlike v d (settled v d b) (settled v d (worked a (b .route) X (b .marks)))
   run-alike {b} {X} run = record {
     places = end-places run;
     verdict = alive-same v d (settled v d b) (settled v d (worked a (b .route) X (b .marks))) refl (end-places run)
@@ -123,7 +123,7 @@ module _ (v : Van) (d : Day) (tri : Triangle d) (one : OneEnd (d .jobs)) (a : Pl
   }
 
   -- two runs with the same end route, the same excluded nodes and the same marks on unplaced nodes
-  pub runs-alike : {b b′ : Plan} {X X′ : List ℕ} → Run v d a b X → Run v d a b′ X′ → b .route ≡ b′ .route → ((y : ℕ) → mem y X ≡ mem y X′)
+  pub runs-alike : {b b′ : Plan} {X X′ : List ℕ} → PlanRun v d a b X → PlanRun v d a b′ X′ → b .route ≡ b′ .route → ((y : ℕ) → mem y X ≡ mem y X′)
       → ((y : ℕ) → T (not (mem y (b .route))) → b .marks y ≡ b′ .marks y) → EndAlike v d (settled v d b) (settled v d b′)
   runs-alike {b} {b′} {X} {X′} run run′ e shut marks = record { places = same-places; verdict = alive-same v d (settled v d b) (settled v d b′) e same-places marks }
     where

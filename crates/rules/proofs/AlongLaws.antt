@@ -12,14 +12,13 @@ use lib.IntN.{pos, _-ℤ_}
 use lib.Signed.{leZ}
 use lib.ListN.{getD, drop, take, length, drop-of-length-le}
 use lib.Seq.{drop-cons, drop-length, take-suc, getD-take}
-use Rattle.laws.specs.Logic.{T-ext, or-l, or-r, or-e, decided}
-use Rattle.laws.specs.Below.{allBelow, below-all}
-use Rattle.laws.specs.Lists.{mem, hd, all}
+use Rattle.laws.proofs.Logic.{T-ext, or-l, or-r, or-e, decided}
+use Rattle.laws.proofs.Below.{below-all}
+use Rattle.laws.specs.Basic.{allBelow, mem, hd, all}
 use Rattle.rules.specs.Day.{Day, downFrom}
 use Rattle.rules.specs.declared.Van.{Van}
 use Rattle.rules.specs.Leg.{OfLeg, legsAhead, legsBehind, everyLeg, legFrom, onLeg, legStops}
-use Rattle.rules.specs.Time.{lastMoment, inTime, minZ, lastStart, onTime}
-use Rattle.rules.specs.Metres.{driven}
+use Rattle.rules.specs.Time.{lastMoment, inTime, minZ, lastStart, onTime, driven}
 use Rattle.rules.specs.Load.{room, reachAhead, reachBack}
 use Rattle.rules.specs.Plan.{Places}
 use Rattle.rules.specs.Tests.{window, short}

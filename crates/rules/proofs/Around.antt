@@ -5,8 +5,9 @@ use mathlib.Core.Bool.{not, _&&_}
 use mathlib.Core.List.{List, [], _∷_}
 use mathlib.Core.Logic.{_⊎_, inl, inr}
 use lib.Dec.{T, T-not, eqb, eqb→eq}
-use Rattle.laws.specs.Logic.{and-l, and-r, and-mono, or-l, or-r, tf, not-or-l, not-or-r, cond-yes, cond-no}
-use Rattle.laws.specs.Lists.{mem, any, Sub, nil, keep, skip, mem-sub, mem-tl, mem-rest}
+use Rattle.laws.proofs.Logic.{and-l, and-r, and-mono, or-l, or-r, tf, not-or-l, not-or-r, cond-yes, cond-no}
+use Rattle.laws.proofs.Lists.{Sub, nil, keep, skip, mem-sub, mem-tl, mem-rest}
+use Rattle.laws.specs.Basic.{mem, any}
 use Rattle.rules.specs.Day.{Day}
 use Rattle.rules.specs.Time.{start, inTime, onTime}
 use Rattle.rules.specs.Plan.{Places}

@@ -7,14 +7,14 @@ use mathlib.Core.Bool.{Bool, not, _&&_, _||_}
 use mathlib.Core.List.{List, [], _∷_}
 use mathlib.Core.Logic.{_⊎_, inl, inr, ⊎-elim, _≢_}
 use lib.Dec.{T, T-not, not-T, eqb, eqb→eq, eqb-refl, le→leb}
-use Rattle.laws.specs.Logic.{and-i, and-l, and-r, and-mono, or-l, or-r, or-e, tf, imp-i, imp-e, not-or-l, not-or-r, contra, cond-yes-i, cond-no-i}
-use Rattle.laws.specs.Lists.{mem, any, In, Each, end, also, each-in, Sub, nil, keep, mem-sub, all-in, all-i, any-i, any-none, any-e, mem-tl, mem-rest}
+use Rattle.laws.proofs.Logic.{and-i, and-l, and-r, and-mono, or-l, or-r, or-e, tf, imp-i, imp-e, not-or-l, not-or-r, contra, cond-yes-i, cond-no-i}
+use Rattle.laws.proofs.Lists.{Each, end, also, each-in, Sub, nil, keep, mem-sub, all-in, all-i, any-i, any-none, any-e, mem-tl, mem-rest}
+use Rattle.laws.specs.Basic.{mem, any, In}
 use Rattle.rules.specs.Day.{Day, inner}
 use Rattle.rules.specs.declared.Van.{Van}
-use Rattle.rules.specs.Time.{start, inTime, onTime}
-use Rattle.rules.specs.Metres.{driven}
+use Rattle.rules.specs.Time.{start, inTime, onTime, driven}
 use Rattle.rules.specs.Load.{carries}
-use Rattle.rules.specs.Plan.{Plan, Places, Marks}
+use Rattle.rules.specs.Plan.{Plan, Places}
 use Rattle.rules.specs.Rounds.{Distinct, Within, done, stop, Inside, both, Belongs, ordered, inOrder, Rule, windowRule, metreRule, transferRule, loadRule, rules, keeps}
 use Rattle.rules.specs.Verdict.{partnered, owed, hasPlace, wrong, wrongWay, Check, owedOpen, ofRoute, noneWrong, checks, alive}
 use Rattle.rules.specs.Asked.{Triangle, Proper, Formed}
@@ -115,10 +115,10 @@ no-gap-alive v d a proper form shut h = (
 -- the law, of a check: it is fair, passed by every plan with a round that keeps the rules, on a triangle day
 abbrev pub Fair : Check → Type 0
 Fair c =
-    (v : Van) (d : Day) (o : Places) (marks : Marks) (z : ℕ) (r R : List ℕ) → Triangle d → Distinct (d .n) (z ∷ R) → Within o z r R
+    (v : Van) (d : Day) (o : Places) (marks : ℕ → Bool) (z : ℕ) (r R : List ℕ) → Triangle d → Distinct (d .n) (z ∷ R) → Within o z r R
     → ((x : ℕ) → T (marks x) → T (mem x (z ∷ R))) → T (keeps v d (z ∷ R)) → T (c v d (record { route = z ∷ r; places = o; marks = marks }))
 
-module _ (v : Van) (d : Day) (o : Places) (marks : Marks) (z : ℕ) (r R : List ℕ) (tri : Triangle d) (nodes : Distinct (d .n) (z ∷ R)) (w : Within o z r R)
+module _ (v : Van) (d : Day) (o : Places) (marks : ℕ → Bool) (z : ℕ) (r R : List ℕ) (tri : Triangle d) (nodes : Distinct (d .n) (z ∷ R)) (w : Within o z r R)
     (needed : (x : ℕ) → T (marks x) → T (mem x (z ∷ R))) (h : T (keeps v d (z ∷ R))) where
   whole : Sub (z ∷ r) (z ∷ R)
   whole = keep (within-sub w)

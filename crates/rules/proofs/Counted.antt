@@ -7,9 +7,10 @@ use mathlib.Core.List.{List, [], _∷_}
 use mathlib.Core.Logic.{_⊎_, inl, inr, _↔_}
 use lib.Dec.{T, eqb, eqb→eq, eqb-refl}
 use lib.ListN.{length}
-use Rattle.laws.specs.Logic.{and-i, and-l, and-r, tf, imp-i, imp-e, cond-yes, cond-no, cond-yes-i, cond-no-i}
-use Rattle.laws.specs.Lists.{mem, hd, all, In, all-in, all-i}
-use Rattle.laws.specs.Once.{Once, once-length, only, only-in, in-only, once-only}
+use Rattle.laws.proofs.Logic.{and-i, and-l, and-r, tf, imp-i, imp-e, cond-yes, cond-no, cond-yes-i, cond-no-i}
+use Rattle.laws.proofs.Lists.{all-in, all-i}
+use Rattle.laws.specs.Basic.{mem, hd, all, In}
+use Rattle.laws.proofs.Once.{Once, once-length, only, only-in, in-only, once-only}
 use Rattle.rules.specs.Day.{Day, inner}
 use Rattle.rules.specs.Plan.{Plan, Places}
 use Rattle.rules.specs.Rounds.{Distinct, Within, done, stop, extra, Inside, both, Belongs}

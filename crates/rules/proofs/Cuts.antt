@@ -6,8 +6,9 @@ use mathlib.Core.Bool.{Bool, true, false, cond}
 use mathlib.Core.List.{List, [], _∷_, head-eq-of-cons-eq, tail-eq-of-cons-eq, nil≢cons}
 use mathlib.Core.Logic.{_⊎_, inl, inr, ⊎-elim}
 use lib.Dec.{T, eqb, eqb→eq, eqb-refl}
-use Rattle.laws.specs.Logic.{and-i, and-l, and-r, or-l, or-e, T→true, N→false}
-use Rattle.laws.specs.Lists.{mem, hd, mem-hd, mem-tl, mem-ne}
+use Rattle.laws.proofs.Logic.{and-i, and-l, and-r, or-l, or-e, T→true, N→false}
+use Rattle.laws.proofs.Lists.{mem-hd, mem-tl, mem-ne}
+use Rattle.laws.specs.Basic.{mem, hd}
 use Rattle.rules.specs.Leg.{OfLeg, legsAhead, legsBehind, legFrom}
 use Rattle.rules.specs.Rounds.{Distinct, more}
 

@@ -3,7 +3,8 @@
 use Prim.Native.Nat.{ℕ}
 use mathlib.Core.List.{List}
 use lib.Dec.{T}
-use Rattle.laws.specs.Lists.{In, here, there, all-in, all-i}
+use Rattle.laws.proofs.Lists.{all-in, all-i}
+use Rattle.laws.specs.Basic.{In, here, there}
 use Rattle.rules.specs.Day.{Day}
 use Rattle.rules.specs.declared.Van.{Van}
 use Rattle.rules.specs.Plan.{Plan, Places}

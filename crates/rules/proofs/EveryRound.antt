@@ -7,9 +7,10 @@ use mathlib.Core.List.{List, [], _∷_, map, head-eq-of-cons-eq, tail-eq-of-cons
 use mathlib.Core.Logic.{_⊎_, inl, inr, ⊎-elim, _↔_, _≢_}
 use lib.Dec.{T, T-not, not-T, eqb, eqb→eq, eqb-refl}
 use lib.ListN.{length}
-use Rattle.laws.specs.Logic.{T→true, N→false, or-l, or-e, tf, not-or-i, neqb}
-use Rattle.laws.specs.Lists.{mem, In, here, there, mem-in, in-mem, Sub, nil, keep, skip, sub-refl, mem-sub, mem-hd, mem-tl, mem-ne, mem-rest}
-use Rattle.laws.specs.Once.{Once, clear, new, in-none, in-cons, append-in, in-append-l, in-append-r, once-append, Image, in-map, map-in, once-map}
+use Rattle.laws.proofs.Logic.{T→true, N→false, or-l, or-e, tf, not-or-i, neqb}
+use Rattle.laws.proofs.Lists.{mem-in, in-mem, Sub, nil, keep, skip, sub-refl, mem-sub, mem-hd, mem-tl, mem-ne, mem-rest}
+use Rattle.laws.specs.Basic.{mem, In, here, there}
+use Rattle.laws.proofs.Once.{Once, clear, new, in-none, in-cons, append-in, in-append-l, in-append-r, once-append, Image, in-map, map-in, once-map}
 use Rattle.rules.specs.Day.{Day, downFrom, inner}
 use Rattle.rules.specs.Rounds.{Distinct, none, more}
 use Rattle.rules.specs.Asked.{endsWith}

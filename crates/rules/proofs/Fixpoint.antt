@@ -7,8 +7,9 @@ use mathlib.Core.Bool.{Bool, true, false, cond, not, _&&_, _||_}
 use mathlib.Core.List.{List, [], _∷_}
 use mathlib.Core.Logic.{⊎-elim, _↔_}
 use lib.Dec.{T, not-T, eqb, eqb→eq, eqb-refl}
-use Rattle.laws.specs.Logic.{T-ext, tf, N→false, and-i, and-l, and-r, or-l, or-r, or-e}
-use Rattle.laws.specs.Lists.{mem, hd, any, In, each-in, mem-in, any-i}
+use Rattle.laws.proofs.Logic.{T-ext, tf, N→false, and-i, and-l, and-r, or-l, or-r, or-e}
+use Rattle.laws.proofs.Lists.{each-in, mem-in, any-i}
+use Rattle.laws.specs.Basic.{mem, hd, any, In}
 use Rattle.rules.specs.Day.{Day, inner}
 use Rattle.rules.specs.declared.Van.{Van}
 use Rattle.rules.specs.Leg.{OfLeg, legFrom, onLeg}

@@ -6,8 +6,9 @@ use mathlib.Core.Bool.{false, not, _&&_}
 use mathlib.Core.List.{List, [], _∷_}
 use mathlib.Core.Logic.{⊎-elim}
 use lib.Dec.{T, not-T, eqb, eqb→eq, eqb-refl}
-use Rattle.laws.specs.Logic.{tf, and-l, and-r, or-e, or-mono, not-or-i, not-or-l, not-or-r, ne-sym}
-use Rattle.laws.specs.Lists.{mem, In, mem-in, mem-hd, mem-tl}
+use Rattle.laws.proofs.Logic.{tf, and-l, and-r, or-e, or-mono, not-or-i, not-or-l, not-or-r, ne-sym}
+use Rattle.laws.proofs.Lists.{mem-in, mem-hd, mem-tl}
+use Rattle.laws.specs.Basic.{mem, In}
 use Rattle.rules.specs.Day.{Day, inner}
 use Rattle.rules.specs.declared.Van.{Van}
 use Rattle.rules.specs.Leg.{legStops}
@@ -19,7 +20,7 @@ use Rattle.rules.specs.Asked.{endsWith, Formed}
 use Rattle.rules.proofs.Inner.{inner-low}
 use Rattle.rules.proofs.Longer.{leg-mem}
 use Rattle.rules.proofs.Left.{_⊆_}
-use Rattle.rules.proofs.Placing.{Ins, at, on, PutIn, put-ins, split-ne, split-e, split-half}
+use Rattle.rules.proofs.Placing.{Ins, at, on, PutIn, put-ins, split-ne, split-e, split-old}
 use Rattle.rules.proofs.Fixpoint.{Seen, settle-less}
 
 -- the route z ∷ r and the places o are in form
@@ -86,19 +87,15 @@ ins-leg-new {x = x} {c = c} (on {k = k} {r′ = r′} i) = mem-tl x c (legStops 
 pub laid-placed : {d : Day} {z p x : ℕ} {r r′ : List ℕ} {o : Places} → Ins p x z r r′ → T (o x p) → LaidOut d z r o → LaidOut d z r′ (split p x o)
 laid-placed {d} {z} {p} {x} {r} {r′} {o} i t l = record {
   nodes = ins-distinct (on {c = z} i) (omega (arith, inner-low d (l .inside x p t))) (l .off x p t) (l .nodes);
-  inside = λ y q h. let u = old y q h in l .inside y (u .0) (u .1);
-  off = λ y q h. let u = old y q h in ins-off y (on {c = z} i) (ne-sym y x (split-ne p x o y q h)) (l .off y (u .0) (u .1));
+  inside = λ y q h. let u = split-old p x o y q h in l .inside y (u .0) (u .1);
+  off = λ y q h. let u = split-old p x o y q h in ins-off y (on {c = z} i) (ne-sym y x (split-ne p x o y q h)) (l .off y (u .0) (u .1));
   leg = λ y q h. ⊎-elim (λ e. rw (eqb→eq q x e) (ins-leg-new i)) (λ n. ins-leg q i (l .leg y q (split-e p x o y q n h))) (tf (eqb q x));
 }
-  where
-    -- the place that an open place was split from
-    old : (y q : ℕ) → T (split p x o y q) → (q′ : ℕ) × T (o y q′)
-    old y q h = ⊎-elim (λ e. (p, split-half p x o y (rw (eqb→eq q x e) at h))) (λ n. (q, split-e p x o y q n h)) (tf (eqb q x))
 
 -- ---- fresh is in form, and each step keeps the form
 
-pub fresh-in-form : (d : Day) → 2 ≤ d .n → Formed d (fresh d)
-fresh-in-form d h = record {
+pub fresh-plan-formed : (d : Day) → 2 ≤ d .n → Formed d (fresh d)
+fresh-plan-formed d h = record {
   tail = (d .n - 1) ∷ [];
   starts = refl;
   ends = eqb-refl (d .n - 1);

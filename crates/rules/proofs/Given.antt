@@ -8,16 +8,17 @@ use mathlib.Core.Logic.{_⊎_, inl, inr, ⊎-elim, _≢_}
 use lib.Dec.{T, ltb, eqb, eqb→eq, eqb-refl, ltb→lt}
 use borrow.Author.Tests.{leb-true, ne-eqb}
 use lib.ListN.{length, getD}
-use Rattle.laws.specs.Logic.{T→true, true→T, and-l, and-r, or-e, imp-e, neqb}
-use Rattle.laws.specs.Below.{allBelow, below-at}
-use Rattle.laws.specs.Lists.{mem, hd, all, In, mem-in, all-in}
-use Rattle.laws.specs.Once.{in-none, in-cons}
-use Rattle.rules.specs.Day.{Day, inner}
+use Rattle.laws.proofs.Logic.{T→true, true→T, and-l, and-r, or-e, imp-e, neqb}
+use Rattle.laws.proofs.Below.{below-at}
+use Rattle.laws.specs.Basic.{allBelow, mem, hd, all, In}
+use Rattle.laws.proofs.Lists.{mem-in, all-in}
+use Rattle.laws.proofs.Once.{in-none, in-cons}
+use Rattle.rules.specs.Day.{Day, inner, shortestAt, shortestLine, shortestRow, triangle}
 use Rattle.rules.specs.Leg.{legStops}
 use Rattle.rules.specs.Plan.{Plan, fresh}
 use Rattle.rules.specs.Rounds.{Distinct, none, more}
-use Rattle.rules.specs.Asked.{Shortest, Triangle, OneEnd, Proper, Formed, endsWith, shortestAt, shortestLine, shortestRow, triangle, triangleTest, noClash, oneEndTest, properJob, properTest, distinctTest, placeTest, formedTest}
-use Rattle.rules.specs.Examples.{day}
+use Rattle.rules.specs.Asked.{Shortest, Triangle, OneEnd, Proper, Formed, endsWith, triangleTest, noClash, oneEndTest, properJob, properTest, distinctTest, placeTest, formedTest}
+use Rattle.rules.proofs.Examples.{day}
 use Rattle.rules.specs.declared.Job.{Job}
 use Rattle.rules.specs.declared.Job.the-variants.{Transfer}
 

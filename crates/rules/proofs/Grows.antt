@@ -6,13 +6,13 @@ use mathlib.Core.Bool.{_&&_, _||_}
 use mathlib.Core.List.{List, [], _∷_}
 use mathlib.Core.Logic.{_≢_, _↔_}
 use lib.Dec.{T, eqb, leb→le, le→leb}
-use Rattle.laws.specs.Logic.{and-l, and-r, and-mono, not-or-l, not-or-r, neqb, cond-mono}
-use Rattle.laws.specs.Lists.{mem, In, here, there, Sub, nil, keep, skip, mem-sub}
+use Rattle.laws.proofs.Logic.{and-l, and-r, and-mono, not-or-l, not-or-r, neqb, cond-mono}
+use Rattle.laws.proofs.Lists.{Sub, nil, keep, skip, mem-sub}
+use Rattle.laws.specs.Basic.{mem, In, here, there}
 use Rattle.rules.specs.Day.{Day}
 use Rattle.rules.specs.declared.Van.{Van}
 use Rattle.rules.specs.Leg.{OfLeg, legsAhead, legsBehind}
-use Rattle.rules.specs.Time.{start, inTime}
-use Rattle.rules.specs.Metres.{driven}
+use Rattle.rules.specs.Time.{start, inTime, driven}
 use Rattle.rules.specs.Load.{aboard, sum, load, carries, room}
 use Rattle.rules.specs.Plan.{Places}
 use Rattle.rules.specs.Rounds.{Distinct, more}

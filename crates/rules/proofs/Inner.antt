@@ -6,8 +6,9 @@ use mathlib.Core.Path.{_≡_}
 use mathlib.Core.Bool.{true}
 use lib.Dec.{T, eqb, eqb→eq, leb, ltb}
 use borrow.Author.Tests.{leb-true, ltb-true}
-use Rattle.laws.specs.Logic.{tf, or-l, or-r, or-e, neqb, and-true}
-use Rattle.laws.specs.Lists.{mem, In, in-mem, mem-in}
+use Rattle.laws.proofs.Logic.{tf, or-l, or-r, or-e, neqb, and-true}
+use Rattle.laws.proofs.Lists.{in-mem, mem-in}
+use Rattle.laws.specs.Basic.{mem, In}
 use Rattle.rules.specs.Day.{Day, downFrom, inner, isInner}
 
 pub down-mem : (m y : ℕ) → T (mem y (downFrom m)) → (1 ≤ y) × (y ≤ m)

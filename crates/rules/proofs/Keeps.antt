@@ -4,13 +4,13 @@ use mathlib.Core.Bool.{not, _&&_}
 use mathlib.Core.List.{List, [], _∷_}
 use mathlib.Core.Logic.{_⊎_, inl, inr, ⊎-elim}
 use lib.Dec.{T, T-not, eqb, eqb-refl, leb→le}
-use Rattle.laws.specs.Logic.{and-l, and-r, or-l, tf, cond-yes, cond-no}
-use Rattle.laws.specs.Lists.{mem, In, all-in, mem-tl}
+use Rattle.laws.proofs.Logic.{and-l, and-r, or-l, tf, cond-yes, cond-no}
+use Rattle.laws.proofs.Lists.{all-in, mem-tl}
+use Rattle.laws.specs.Basic.{mem, In}
 use Rattle.rules.specs.Day.{Day}
 use Rattle.rules.specs.declared.Van.{Van}
 use Rattle.rules.specs.Leg.{everyLeg}
-use Rattle.rules.specs.Time.{onTime}
-use Rattle.rules.specs.Metres.{driven}
+use Rattle.rules.specs.Time.{onTime, driven}
 use Rattle.rules.specs.Load.{carries}
 use Rattle.rules.specs.Rounds.{ordered, inOrder, windowRule, metreRule, transferRule, loadRule, keeps}
 use Rattle.rules.specs.declared.Job.the-variants.{Transfer}

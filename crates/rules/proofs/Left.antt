@@ -4,8 +4,8 @@ use Prim.Native.Nat.{ℕ}
 use mathlib.Core.Bool.{Bool}
 use mathlib.Core.List.{List, [], _∷_}
 use lib.Dec.{T}
-use Rattle.laws.specs.Logic.{and-i, and-l, and-r}
-use Rattle.laws.specs.Lists.{hd}
+use Rattle.laws.proofs.Logic.{and-i, and-l, and-r}
+use Rattle.laws.specs.Basic.{hd}
 use Rattle.rules.specs.Day.{Day}
 use Rattle.rules.specs.declared.Van.{Van}
 use Rattle.rules.specs.Leg.{onLeg}

@@ -17,6 +17,18 @@
 -- * The end of a run, settled, has the open places and the verdict of the plan worked out from the start, settled: Alike `run-alike`.
 -- * Two runs with the same end route, excluded nodes and marks on unplaced nodes, settled, have the same places and verdict: `runs-alike`.
 --
+-- Several vans (02, No. 1): the same over sets of one round per van, van by van.
+-- * Placing keeps the sets whose round of the van uses the place, and no others: FleetRounds `placed-sets`. A step of one van keeps of the
+--   sets what it keeps of that van's rounds: `in-van-sets`, so `closed-sets`, `excluded-sets`, `required-sets`. The mark "must go somewhere"
+--   keeps the sets that hold the ward: `obliged-sets`.
+-- * On a triangle day settling a van loses no set of rounds that keep the rules, `settling-keeps-all`, and adds none, `settled-sets`.
+-- * No place open and alive: the routes keep the rules and are a set of the fleet: FleetVerdict `no-gap-alive-all`. On a triangle day a dead
+--   fleet has no set of rounds that keep the rules: `dead-none-all`.
+-- * The ends of a run in each van, settled, have in every van the open places, and for the fleet the verdict, of the plans worked out from the
+--   start, settled: FleetAlike `run-alike-all`. Two such families that end alike settle alike: `runs-alike-all`. What the fleet's verdict
+--   reads: `alive-all-same`.
+-- * The fresh fleet is in form, and the steps keep it: FleetForms.
+--
 -- The tests of settling, the rules of rounds and the checks of the verdict are three lists, and the theorems know them by laws over the lists.
 -- A further entry is its definition, its place in the list, the name of its being there (Entries), and one line in each value below:
 -- * a test: Sound `each-sound` (no place is struck that a rule-keeping round uses), Monotone `each-monotone` (struck stays struck on every
@@ -63,3 +75,10 @@ pub mod Runs
 pub mod Origin
 pub mod Verdicts
 pub mod Alike
+-- several vans
+pub mod FleetRounds
+pub mod FleetVerdict
+pub mod FleetAlike
+pub mod FleetForms
+-- small days, computed
+pub mod Examples

@@ -6,8 +6,9 @@ use mathlib.Core.Bool.{false, not}
 use mathlib.Core.List.{List, [], _∷_}
 use mathlib.Core.Logic.{_⊎_, inl, inr, ⊎-elim}
 use lib.Dec.{T, T-not, eqb, eqb→eq}
-use Rattle.laws.specs.Logic.{or-l, or-e, not-or-i, not-or-l, not-or-r}
-use Rattle.laws.specs.Lists.{mem, hd, Sub, nil, keep, skip, sub-refl, sub-trans, mem-sub, mem-hd, mem-tl}
+use Rattle.laws.proofs.Logic.{or-l, or-e, not-or-i, not-or-l, not-or-r}
+use Rattle.laws.proofs.Lists.{Sub, nil, keep, skip, sub-refl, sub-trans, mem-sub, mem-hd, mem-tl}
+use Rattle.laws.specs.Basic.{mem, hd}
 use Rattle.rules.specs.Leg.{legStops}
 use Rattle.rules.specs.Plan.{Places}
 use Rattle.rules.specs.Rounds.{Distinct, Within, done, stop, extra}

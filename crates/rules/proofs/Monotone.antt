@@ -7,8 +7,9 @@ use mathlib.Core.Bool.{Bool, not}
 use mathlib.Core.List.{List, [], _∷_}
 use mathlib.Core.Logic.{⊎-elim, _⊎_, inl, inr}
 use lib.Dec.{T, T-not, eqb, eqb→eq}
-use Rattle.laws.specs.Logic.{tf, or-mono}
-use Rattle.laws.specs.Lists.{mem, hd, In, Each, end, also, each-in, all-mono, Sub, keep, skip, mem-sub}
+use Rattle.laws.proofs.Logic.{tf, or-mono}
+use Rattle.laws.proofs.Lists.{Each, end, also, each-in, all-mono, Sub, keep, skip, mem-sub}
+use Rattle.laws.specs.Basic.{mem, hd, In}
 use Rattle.rules.specs.Day.{Day}
 use Rattle.rules.specs.declared.Van.{Van}
 use Rattle.rules.specs.Leg.{legsAhead, legsBehind}

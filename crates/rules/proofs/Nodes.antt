@@ -3,8 +3,9 @@ use Prim.Native.Nat.{ℕ}
 use mathlib.Core.Bool.{false, not}
 use mathlib.Core.List.{List, [], _∷_}
 use lib.Dec.{T, eqb}
-use Rattle.laws.specs.Logic.{not-or-r, contra, not-or-i}
-use Rattle.laws.specs.Lists.{mem, Sub, nil, keep, skip, mem-sub, mem-hd, mem-tl, mem-ne}
+use Rattle.laws.proofs.Logic.{not-or-r, contra, not-or-i}
+use Rattle.laws.proofs.Lists.{Sub, nil, keep, skip, mem-sub, mem-hd, mem-tl, mem-ne}
+use Rattle.laws.specs.Basic.{mem}
 use Rattle.rules.specs.Plan.{Places}
 use Rattle.rules.specs.Rounds.{Distinct, more, Within, done, stop, extra, none}
 use Rattle.rules.proofs.Cuts.{Cut, same, move}

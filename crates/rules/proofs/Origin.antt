@@ -4,8 +4,9 @@ use Prim.Native.Nat.{ℕ}
 use mathlib.Core.Bool.{Bool, cond, not}
 use mathlib.Core.List.{List, [], _∷_}
 use lib.Dec.{T, eqb, eqb-refl}
-use Rattle.laws.specs.Logic.{T→true, N→false}
-use Rattle.laws.specs.Lists.{mem, Sub, nil, keep, skip, mem-hd, mem-ne}
+use Rattle.laws.proofs.Logic.{T→true, N→false}
+use Rattle.laws.proofs.Lists.{Sub, nil, keep, skip, mem-hd, mem-ne}
+use Rattle.laws.specs.Basic.{mem}
 use Rattle.rules.specs.Plan.{Places}
 use Rattle.rules.specs.Rounds.{Distinct, more, Within, stop, extra}
 use Rattle.rules.specs.Worked.{origin}

@@ -3,10 +3,11 @@ use mathlib.Core.Path.{_≡_, subst, sym, ap, _∙_}
 use Prim.Native.Nat.{ℕ}
 use mathlib.Core.Bool.{Bool, cond, not}
 use mathlib.Core.List.{List, [], _∷_}
-use mathlib.Core.Logic.{_⊎_, inl, inr}
+use mathlib.Core.Logic.{_⊎_, inl, inr, ⊎-elim}
 use lib.Dec.{T, eqb, eqb→eq, eqb-refl}
-use Rattle.laws.specs.Logic.{and-i, and-l, and-r, tf, T→true, N→false, cond-yes, cond-no, cond-yes-i, cond-no-i}
-use Rattle.laws.specs.Lists.{mem, mem-hd, mem-tl, mem-rest}
+use Rattle.laws.proofs.Logic.{and-i, and-l, and-r, tf, T→true, N→false, cond-yes, cond-no, cond-yes-i, cond-no-i}
+use Rattle.laws.proofs.Lists.{mem-hd, mem-tl, mem-rest}
+use Rattle.laws.specs.Basic.{mem}
 use Rattle.rules.specs.Leg.{legStops}
 use Rattle.rules.specs.Plan.{Places}
 use Rattle.rules.specs.Steps.{putAfter, split}
@@ -64,3 +65,7 @@ module _ (p x : ℕ) (o : Places) where
 
   pub split-half-i : (y : ℕ) → T (not (eqb y x)) → T (o y p) → T (split p x o y x)
   split-half-i y m h = and-i (not (eqb y x)) (cond (eqb x x) (o y p) (o y x)) m (cond-yes-i (eqb x x) (o y p) (o y x) (eqb-refl x) h)
+
+  -- the place that an open place was split from
+  pub split-old : (y q : ℕ) → T (split p x o y q) → (q′ : ℕ) × T (o y q′)
+  split-old y q h = ⊎-elim (λ e. (p, split-half y (rw (eqb→eq q x e) at h))) (λ n. (q, split-e y q n h)) (tf (eqb q x))

@@ -5,8 +5,9 @@ use mathlib.Core.Bool.{Bool, true, false, not, _&&_}
 use mathlib.Core.List.{List, [], _∷_}
 use mathlib.Core.Logic.{_⊎_, inl, inr, ⊎-elim}
 use lib.Dec.{T, eqb, eqb→eq, eqb-refl}
-use Rattle.laws.specs.Logic.{tf, and-i, and-l, and-r, not-or-i, not-or-l, not-or-r, ne-sym}
-use Rattle.laws.specs.Lists.{mem, hd, mem-sub, mem-tl, mem-ne}
+use Rattle.laws.proofs.Logic.{tf, and-i, and-l, and-r, not-or-i, not-or-l, not-or-r, ne-sym}
+use Rattle.laws.proofs.Lists.{mem-sub, mem-tl, mem-ne}
+use Rattle.laws.specs.Basic.{mem, hd}
 use Rattle.rules.specs.Day.{Day}
 use Rattle.rules.specs.declared.Van.{Van}
 use Rattle.rules.specs.Plan.{Plan, Places}
@@ -14,7 +15,7 @@ use Rattle.rules.specs.Rounds.{Distinct, Within, stop, extra}
 use Rattle.rules.specs.Steps.{putAfter, split}
 use Rattle.rules.specs.Settle.{round, strikes, settleIn, settle}
 use Rattle.rules.specs.Asked.{Triangle}
-use Rattle.rules.specs.Worked.{Run, begin, place, exclude, require, settling}
+use Rattle.rules.specs.Worked.{PlanRun, begin, place, exclude, require, settling}
 use Rattle.rules.proofs.Left.{_⊆_, round-less, round-stays, round-i}
 use Rattle.rules.proofs.Placing.{Ins, at, on, put-ins, split-e, split-i, split-half, split-half-i}
 use Rattle.rules.proofs.StepRounds.{place-old}
@@ -56,7 +57,7 @@ pub record Coursed (v : Van) (d : Day) (z : ℕ) (r₀ : List ℕ) (o₀ : Place
   pub is : b .route ≡ z ∷ rest
   pub course : Course v d z r₀ o₀ rest (b .places) X
 
-pub coursed : {v : Van} {d : Day} {z : ℕ} {r₀ X : List ℕ} {a b : Plan} → a .route ≡ z ∷ r₀ → LaidOut d z r₀ (a .places) → Run v d a b X
+pub coursed : {v : Van} {d : Day} {z : ℕ} {r₀ X : List ℕ} {a b : Plan} → a .route ≡ z ∷ r₀ → LaidOut d z r₀ (a .places) → PlanRun v d a b X
     → Coursed v d z r₀ (a .places) b X
 coursed {r₀ = r₀} e l begin = record { rest = r₀; is = e; course = outset }
 coursed e l (place p x run off open′) =

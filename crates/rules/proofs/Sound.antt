@@ -7,8 +7,9 @@ use mathlib.Core.Bool.{not, _&&_, _||_}
 use mathlib.Core.List.{List, [], _∷_}
 use mathlib.Core.Logic.{_⊎_, inl, inr, ⊎-elim}
 use lib.Dec.{T, T-not, eqb, eqb→eq}
-use Rattle.laws.specs.Logic.{and-i, and-l, and-r, or-l, or-r, or-mono, tf, not-or-i, not-or-l, not-or-r, contra, imp-i, cond-new}
-use Rattle.laws.specs.Lists.{mem, hd, In, Each, end, also, Sub, nil, keep, skip, mem-sub, all-i, mem-hd, mem-tl, mem-rest}
+use Rattle.laws.proofs.Logic.{and-i, and-l, and-r, or-l, or-r, or-mono, tf, not-or-i, not-or-l, not-or-r, contra, imp-i, cond-new}
+use Rattle.laws.proofs.Lists.{Each, end, also, Sub, nil, keep, skip, mem-sub, all-i, mem-hd, mem-tl, mem-rest}
+use Rattle.laws.specs.Basic.{mem, hd, In}
 use Rattle.rules.specs.Day.{Day}
 use Rattle.rules.specs.declared.Van.{Van}
 use Rattle.rules.specs.Leg.{legsAhead, legsBehind}
@@ -41,8 +42,8 @@ pub record Uses (v : Van) (d : Day) (o : Places) (z : ℕ) (r R : List ℕ) (x p
   pub ahead : Within o p (k ∷ B) B′
 
 -- on a triangle day the test passes wherever a rule-keeping round of the plan uses a place
-abbrev pub Sound : Test → Type 0
-Sound t = (v : Van) (d : Day) → Triangle d → (o : Places) (z x p k : ℕ) (r R A B : List ℕ) → Uses v d o z r R x p A k B → T (t v d (z ∷ r) o x (p ∷ A) (k ∷ B))
+abbrev pub SoundTest : Test → Type 0
+SoundTest t = (v : Van) (d : Day) → Triangle d → (o : Places) (z x p k : ℕ) (r R A B : List ℕ) → Uses v d o z r R x p A k B → T (t v d (z ∷ r) o x (p ∷ A) (k ∷ B))
 
 -- ---- the load that a job of x needs fits along the route where it fits along the round
 
@@ -192,18 +193,18 @@ module _ {v : Van} {d : Day} {o : Places} {z x p k : ℕ} {r R A B : List ℕ} (
   first : (a w : ℕ) → In (Transfer a x w) (d .jobs) → T (mem a (u .q ∷ u .A′))
   first a w i = first-behind x (move (u .at)) (distinct-off freshBehind) (distinct-off freshAhead) a (keeps-order v d (z ∷ R) (u .rules) a x w i)
 
-pub window-sound : Sound window
+pub window-sound : SoundTest window
 window-sound v d tri o z x p k r R A B u =
     window-fits v d (z ∷ r) o x (p ∷ A) (k ∷ B) .1
     (fits-sooner d x (k ∷ B) (start-grows d tri (subBehind u) (freshBehind u))
     (fits-grows d tri (start d (u .q ∷ u .A′) x) (subAhead u) (freshAhead u) (time-fits d (u .q ∷ u .A′) x (u .B′) (time-cut d (move (u .at)) (keeps-time v d (z ∷ R) (u .rules))))))
 
-pub short-sound : Sound short
+pub short-sound : SoundTest short
 short-sound v d tri o z x p k r R A B u =
     short-around v d o x (u .leg) .1
     (omega (arith, keeps-metres v d (z ∷ R) (u .rules), cut-driven d (u .at), around-grows d tri (subBehind u) (subAhead u) (freshBehind u) (freshAhead u)))
 
-pub clean-sound : Sound clean
+pub clean-sound : SoundTest clean
 clean-sound v d tri o z x p k r R A B u = all-i (cleanFits v d x (p ∷ A) (k ∷ B)) (d .jobs) job
   where
     job : (j : Job) → In j (d .jobs) → T (cleanFits v d x (p ∷ A) (k ∷ B) j)
@@ -212,7 +213,7 @@ clean-sound v d tri o z x p k r R A B u = all-i (cleanFits v d x (p ∷ A) (k �
     job (Soiled a w) i = tt
     job (Transfer a b w) i = tt
 
-pub soiled-sound : Sound soiled
+pub soiled-sound : SoundTest soiled
 soiled-sound v d tri o z x p k r R A B u = all-i (soiledFits v d x (p ∷ A) (k ∷ B)) (d .jobs) job
   where
     job : (j : Job) → In j (d .jobs) → T (soiledFits v d x (p ∷ A) (k ∷ B) j)
@@ -221,13 +222,13 @@ soiled-sound v d tri o z x p k r R A B u = all-i (soiledFits v d x (p ∷ A) (k 
         (λ e. soiled-ahead v d (subst (λ (c : ℕ). In (Soiled c w) (d .jobs)) (eqb→eq a x e) i) (skip (subBehind u)) (subAhead u) (mem-hd x (u .q ∷ u .A′)) (offBehind u) (distinct-off (freshAhead u)) (loadsAhead u))
     job (Transfer a b w) i = tt
 
-pub partnerPlaced-sound : Sound partnerPlaced
+pub partnerPlaced-sound : SoundTest partnerPlaced
 partnerPlaced-sound v d tri o z x p k r R A B u = meets-i v d (z ∷ r) o x (p ∷ A) (k ∷ B) (record {
   first = λ b w i m. placed-ahead v d i (skip (subBehind u)) (subAhead u) (mem-hd x (u .q ∷ u .A′)) (offBehind u) (distinct-off (freshAhead u)) (onAhead u b m (second u b w i)) (loadsAhead u);
   second = λ a w i m. placed-back v d i (subBehind u) (skip (subAhead u)) (mem-hd x (u .B′)) (offAhead u) (distinct-off (freshBehind u)) (onBehind u a m (first u a w i)) (loadsBehind u);
 })
 
-pub neitherPlaced-sound : Sound neitherPlaced
+pub neitherPlaced-sound : SoundTest neitherPlaced
 neitherPlaced-sound v d tri o z x p k r R A B u = supports-i v d (z ∷ r) o x (p ∷ A) (k ∷ B) (record {
   first = λ b w i n. open-ahead v d i (skip (subBehind u)) (u .ahead) (mem-hd x (u .q ∷ u .A′)) (offBehind u) (distinct-off (freshAhead u))
       (contra (mem b (k ∷ B)) (mem b (z ∷ r)) (cut-ahead b (move (u .leg))) n) (second u b w i) (loadsAhead u);
@@ -237,7 +238,7 @@ neitherPlaced-sound v d tri o z x p k r R A B u = supports-i v d (z ∷ r) o x (
 
 -- ---- the law, of every test
 
-pub each-sound : Each Sound tests
+pub each-sound : Each SoundTest tests
 each-sound =
     also window-sound
     (also short-sound

@@ -6,8 +6,9 @@ use mathlib.Core.Bool.{not, _&&_}
 use mathlib.Core.List.{List, _∷_}
 use mathlib.Core.Logic.{_⊎_, inl, inr, ⊎-elim, _↔_}
 use lib.Dec.{T, T-not, not-T, eqb, eqb→eq, eqb-refl}
-use Rattle.laws.specs.Logic.{and-i, and-l, and-r, or-l, or-r, or-e, tf, not-or-i, not-or-l, not-or-r, contra}
-use Rattle.laws.specs.Lists.{mem, keep, mem-sub, mem-hd, mem-tl, mem-ne}
+use Rattle.laws.proofs.Logic.{and-i, and-l, and-r, or-l, or-r, or-e, tf, not-or-i, not-or-l, not-or-r, contra}
+use Rattle.laws.proofs.Lists.{keep, mem-sub, mem-hd, mem-tl, mem-ne}
+use Rattle.laws.specs.Basic.{mem}
 use Rattle.rules.specs.Day.{Day}
 use Rattle.rules.specs.Leg.{legStops}
 use Rattle.rules.specs.Plan.{Plan, Places}

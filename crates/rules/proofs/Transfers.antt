@@ -3,8 +3,9 @@ use Prim.Native.Nat.{ℕ}
 use mathlib.Core.Bool.{Bool, not, _||_}
 use mathlib.Core.List.{List}
 use lib.Dec.{T, eqb, eqb→eq, eqb-refl}
-use Rattle.laws.specs.Logic.{and-i, and-l, and-r, imp-or-i, imp-or-e, imp-imp-i, imp-imp-e}
-use Rattle.laws.specs.Lists.{mem, In, all-in, all-i}
+use Rattle.laws.proofs.Logic.{and-i, and-l, and-r, imp-or-i, imp-or-e, imp-imp-i, imp-imp-e}
+use Rattle.laws.proofs.Lists.{all-in, all-i}
+use Rattle.laws.specs.Basic.{mem, In}
 use Rattle.rules.specs.Day.{Day}
 use Rattle.rules.specs.declared.Van.{Van}
 use Rattle.rules.specs.Load.{reachAhead, reachBack}

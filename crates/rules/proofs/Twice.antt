@@ -7,8 +7,9 @@ use native.Mathlib.Omega.{arith}
 use mathlib.Core.Bool.{Bool, true, false, not, _&&_}
 use mathlib.Core.List.{List, [], _∷_}
 use lib.Dec.{T, T-not}
-use Rattle.laws.specs.Logic.{and-l, and-r}
-use Rattle.laws.specs.Lists.{hd, any, In, Each, end, also, each-in, any-none}
+use Rattle.laws.proofs.Logic.{and-l, and-r}
+use Rattle.laws.proofs.Lists.{Each, end, also, each-in, any-none}
+use Rattle.laws.specs.Basic.{hd, any, In}
 use Rattle.rules.specs.Day.{Day, inner}
 use Rattle.rules.specs.declared.Van.{Van}
 use Rattle.rules.specs.Plan.{Places}

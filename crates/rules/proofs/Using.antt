@@ -5,8 +5,9 @@ use mathlib.Core.Bool.{Bool, cond, not}
 use mathlib.Core.List.{List, _∷_}
 use mathlib.Core.Logic.{_⊎_, inl, inr, _↔_}
 use lib.Dec.{T, T-not, eqb, eqb→eq, eqb-refl}
-use Rattle.laws.specs.Logic.{or-l, tf, not-or-l, not-or-r, cond-yes, cond-no, cond-yes-i, cond-no-i}
-use Rattle.laws.specs.Lists.{mem, Sub, mem-sub, mem-hd, mem-tl, mem-ne}
+use Rattle.laws.proofs.Logic.{or-l, tf, not-or-l, not-or-r, cond-yes, cond-no, cond-yes-i, cond-no-i}
+use Rattle.laws.proofs.Lists.{Sub, mem-sub, mem-hd, mem-tl, mem-ne}
+use Rattle.laws.specs.Basic.{mem}
 use Rattle.rules.specs.Plan.{Places}
 use Rattle.rules.specs.Rounds.{Distinct, Within, done, stop, extra, Inside, both}
 use Rattle.rules.specs.Steps.{usesAfter}

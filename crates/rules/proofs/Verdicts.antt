@@ -4,16 +4,17 @@ use Prim.Native.Nat.{ℕ}
 use mathlib.Core.Bool.{Bool, not, _&&_, _||_, or-true}
 use mathlib.Core.List.{List}
 use lib.Dec.{T}
-use Rattle.laws.specs.Logic.{T-ext, false→N, decided}
-use Rattle.laws.specs.Lists.{mem, all, any, In, Each, end, also, each-in}
+use Rattle.laws.proofs.Logic.{T-ext, false→N, decided}
+use Rattle.laws.proofs.Lists.{Each, end, also, each-in}
+use Rattle.laws.specs.Basic.{mem, all, any, In}
 use Rattle.rules.specs.Day.{Day, inner}
 use Rattle.rules.specs.declared.Van.{Van}
-use Rattle.rules.specs.Plan.{Plan, Marks}
+use Rattle.rules.specs.Plan.{Plan}
 use Rattle.rules.specs.Rounds.{Rule, windowRule, metreRule, loadRule}
 use Rattle.rules.specs.Verdict.{partnered, owed, Check, owedOpen, ofRoute, noneWrong, checks, alive}
 use Rattle.rules.proofs.Entries.{alive-e, alive-i}
 
-module _ (d : Day) (rt : List ℕ) (m m′ : Marks) (agree : (y : ℕ) → T (not (mem y rt)) → m y ≡ m′ y) where
+module _ (d : Day) (rt : List ℕ) (m m′ : ℕ → Bool) (agree : (y : ℕ) → T (not (mem y rt)) → m y ≡ m′ y) where
   called-same : (y : ℕ) → (m y || mem y rt) ≡ (m′ y || mem y rt)
   called-same y = decided (mem y rt) (λ e. rw e (or-true (m y) ∙ sym (or-true (m′ y)))) (λ e. ap (λ (b : Bool). b || mem y rt) (agree y (false→N (mem y rt) e)))
 

@@ -4,8 +4,8 @@ use mathlib.Core.Bool.{Bool, _||_}
 use mathlib.Core.List.{List, [], _∷_}
 use mathlib.Core.Logic.{_⊎_, inl, inr}
 use lib.Dec.{T}
-use Rattle.laws.specs.Logic.{and-i, and-l, and-r, or-l, or-r, or-e}
-use Rattle.laws.specs.Lists.{hd}
+use Rattle.laws.proofs.Logic.{and-i, and-l, and-r, or-l, or-r, or-e}
+use Rattle.laws.specs.Basic.{hd}
 use Rattle.rules.specs.Day.{Day}
 use Rattle.rules.specs.declared.Van.{Van}
 use Rattle.rules.specs.Load.{room, reachAhead, reachBack}

@@ -9,7 +9,7 @@ use mathlib.Core.Logic.{_↔_}
 use lib.Dec.{T, leb, ltb, leb→le, le→leb, ltb→lt, nltb→le, nleb→lt}
 use lib.IntN.{ℤ, pos, negsuc, subℕ, _-ℤ_}
 use lib.Signed.{leZ}
-use Rattle.laws.specs.Logic.{and-i, and-l, and-r, and-mono}
+use Rattle.laws.proofs.Logic.{and-i, and-l, and-r, and-mono}
 use Rattle.rules.specs.Day.{Day}
 use Rattle.rules.specs.declared.Van.{Van}
 use Rattle.rules.specs.Time.{start, lastMoment, inTime, minZ, lastStart, onTime}

@@ -4,10 +4,9 @@ use mathlib.Core.Path.{_≡_}
 use mathlib.Core.Bool.{Bool, true, false, not, _&&_, _||_}
 use mathlib.Core.List.{List, [], _∷_}
 use mathlib.Core.Logic.{_≢_}
-use lib.Dec.{T, leb, ltb, eqb}
-use Rattle.laws.specs.Below.{allBelow}
-use Rattle.laws.specs.Lists.{In, mem, hd, all}
-use Rattle.rules.specs.Day.{Day, inner}
+use lib.Dec.{T, ltb, eqb}
+use Rattle.laws.specs.Basic.{allBelow, In, mem, hd, all}
+use Rattle.rules.specs.Day.{Day, inner, triangle}
 use Rattle.rules.specs.Leg.{legStops}
 use Rattle.rules.specs.Plan.{Plan}
 use Rattle.rules.specs.Rounds.{Distinct}
@@ -53,20 +52,6 @@ pub record Formed (d : Day) (a : Plan) : Type 0 where
   pub marked : (y : ℕ) → T (a .marks y) → In y (inner d)
 
 -- ---- the same as tests that compute
-
--- i, j, k are not three different, or (i, k) is at most (i, j) + (j, k)
-abbrev pub shortestAt : (ℕ → ℕ → ℕ) → ℕ → ℕ → ℕ → Bool
-shortestAt t i j k = eqb i j || eqb j k || eqb i k || leb (t i k) (t i j + t j k)
-
--- of every k; of every j and k; of every i, j and k
-unfoldable pub shortestLine : ℕ → (ℕ → ℕ → ℕ) → ℕ → ℕ → Bool
-shortestLine n t i j = allBelow n (shortestAt t i j)
-
-unfoldable pub shortestRow : ℕ → (ℕ → ℕ → ℕ) → ℕ → Bool
-shortestRow n t i = allBelow n (shortestLine n t i)
-
-unfoldable pub triangle : ℕ → (ℕ → ℕ → ℕ) → Bool
-triangle n t = allBelow n (shortestRow n t)
 
 abbrev pub triangleTest : Day → Bool
 triangleTest d = triangle (d .n) (d .seconds) && triangle (d .n) (d .metres)

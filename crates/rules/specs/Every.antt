@@ -4,7 +4,7 @@ use mathlib.Core.Bool.{Bool, true, false, cond, not, _&&_, _||_}
 use mathlib.Core.List.{List, [], _∷_, _++_, map}
 use mathlib.Core.Path.{_≡_}
 use lib.Dec.{T, eqb}
-use Rattle.laws.specs.Lists.{mem, hd, all}
+use Rattle.laws.specs.Basic.{mem, hd, all}
 use Rattle.rules.specs.Day.{Day, inner}
 use Rattle.rules.specs.Plan.{Plan, Places}
 use Rattle.rules.specs.Rounds.{Distinct}
@@ -21,6 +21,7 @@ abbrev pub less : ℕ → List ℕ → List ℕ
 less x [] = []
 less x (y ∷ l) = cond (eqb y x) l (y ∷ less x l)
 
+-- f of every entry, one list after another
 abbrev pub concatMap : (ℕ → List (List ℕ)) → List ℕ → List (List ℕ)
 concatMap f [] = []
 concatMap f (x ∷ l) = f x ++ concatMap f l
@@ -34,6 +35,7 @@ tails (suc f) e l = (e ∷ []) ∷ concatMap (λ x. map (λ t. x ∷ t) (tails f
 unfoldable pub everyRound : Day → List (List ℕ)
 everyRound d = map (λ t. 0 ∷ t) (tails (d .n - 2) (d .n - 1) (inner d))
 
+-- how many entries pass f
 abbrev pub count : (List ℕ → Bool) → List (List ℕ) → ℕ
 count f [] = 0
 count f (x ∷ l) = cond (f x) 1 0 + count f l

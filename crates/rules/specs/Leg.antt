@@ -4,7 +4,7 @@ use Prim.Native.Nat.{ℕ}
 use mathlib.Core.Bool.{Bool, true, false, cond, _&&_}
 use mathlib.Core.List.{List, [], _∷_}
 use lib.Dec.{eqb}
-use Rattle.laws.specs.Lists.{hd}
+use Rattle.laws.specs.Basic.{hd}
 
 -- what is asked of a leg
 abbrev pub OfLeg : Type 0

@@ -3,7 +3,7 @@ use Prim.Native.Nat.{ℕ, _+_}
 use mathlib.Core.Bool.{Bool, false, cond, _&&_, _||_}
 use mathlib.Core.List.{List, [], _∷_}
 use lib.Dec.{leb}
-use Rattle.laws.specs.Lists.{mem, hd}
+use Rattle.laws.specs.Basic.{mem, hd}
 use Rattle.rules.specs.Day.{Day}
 use Rattle.rules.specs.declared.Van.{Van}
 use Rattle.rules.specs.Leg.{OfLeg}
@@ -17,6 +17,7 @@ aboard A B (Clean a w) = cond (mem a B) w 0
 aboard A B (Soiled a w) = cond (mem a A) w 0
 aboard A B (Transfer a b w) = cond (mem a A && mem b B) w 0
 
+-- f of every job, summed
 abbrev pub sum : (Job → ℕ) → List Job → ℕ
 sum f [] = 0
 sum f (j ∷ js) = f j + sum f js

@@ -3,21 +3,18 @@ use Prim.Native.Nat.{ℕ, _-_}
 use mathlib.Core.Bool.{Bool, false, _&&_}
 use mathlib.Core.List.{List, [], _∷_}
 use lib.Dec.{eqb}
-use Rattle.laws.specs.Lists.{mem}
+use Rattle.laws.specs.Basic.{mem}
 use Rattle.rules.specs.Day.{Day, inner}
 
 -- the open places: `o x p` says that node x is open in the leg that leaves p
 abbrev pub Places : Type 0
 Places = ℕ → ℕ → Bool
 
--- nodes that are marked
-abbrev pub Marks : Type 0
-Marks = ℕ → Bool
-
+-- a state as the rules see it: its route, its open places, its marks
 pub record Plan : Type 0 where
   pub route : List ℕ
   pub places : Places
-  pub marks : Marks
+  pub marks : ℕ → Bool
 
 -- fresh: route 0, n − 1; every other node open in leg 0; no marks
 abbrev pub fresh : Day → Plan

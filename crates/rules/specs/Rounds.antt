@@ -3,12 +3,11 @@ use Prim.Native.Nat.{ℕ, _<_}
 use mathlib.Core.Bool.{Bool, true, cond, not, _&&_}
 use mathlib.Core.List.{List, [], _∷_}
 use lib.Dec.{T, leb, eqb}
-use Rattle.laws.specs.Lists.{mem, all}
+use Rattle.laws.specs.Basic.{mem, all}
 use Rattle.rules.specs.Day.{Day}
 use Rattle.rules.specs.declared.Van.{Van}
 use Rattle.rules.specs.Leg.{everyLeg}
-use Rattle.rules.specs.Time.{onTime}
-use Rattle.rules.specs.Metres.{driven}
+use Rattle.rules.specs.Time.{onTime, driven}
 use Rattle.rules.specs.Load.{carries}
 use Rattle.rules.specs.Plan.{Plan, Places}
 use Rattle.rules.specs.declared.Job.{Job}
@@ -43,9 +42,7 @@ ordered a b (x ∷ R) = cond (eqb x a) (mem b R) (not (eqb x b) && ordered a b R
 
 -- the same of a job: only a transfer has an order
 abbrev pub inOrder : List ℕ → Job → Bool
-inOrder R (Clean a w) = true
-inOrder R (Soiled a w) = true
-inOrder R (Transfer a b w) = ordered a b R
+inOrder R = elim [ Clean a w ↦ true | Soiled a w ↦ true | Transfer a b w ↦ ordered a b R ]
 
 -- ---- the rules
 

@@ -2,7 +2,7 @@
 use Prim.Native.Nat.{ℕ, zero, suc, _*_}
 use mathlib.Core.Bool.{Bool, true, false, not, _&&_}
 use mathlib.Core.List.{List}
-use Rattle.laws.specs.Lists.{any}
+use Rattle.laws.specs.Basic.{any}
 use Rattle.rules.specs.Day.{Day, inner}
 use Rattle.rules.specs.declared.Van.{Van}
 use Rattle.rules.specs.Leg.{onLeg}
@@ -27,10 +27,11 @@ unfoldable pub roundsIn : ℕ → Van → Day → List ℕ → Places → ℕ
 roundsIn zero v d rt o = 0
 roundsIn (suc f) v d rt o = elim (strikes v d rt o) [ true ↦ suc (roundsIn f v d rt (round v d rt o)) | false ↦ 0 ]
 
--- each striking round closes a place, and a plan of n nodes has fewer than n · n of them
+-- settling: each striking round closes a place, and a plan of n nodes has fewer than n · n of them
 abbrev pub settle : Van → Day → List ℕ → Places → Places
 settle v d = settleIn (d .n * d .n) v d
 
+-- "the number of rounds that struck something"
 abbrev pub rounds : Van → Day → List ℕ → Places → ℕ
 rounds v d = roundsIn (d .n * d .n) v d
 

@@ -6,12 +6,11 @@ use mathlib.Core.List.{List, [], _∷_}
 use lib.Dec.{leb, eqb}
 use lib.IntN.{pos}
 use lib.Signed.{leZ}
-use Rattle.laws.specs.Lists.{mem, hd, all}
+use Rattle.laws.specs.Basic.{mem, hd, all}
 use Rattle.rules.specs.Day.{Day}
 use Rattle.rules.specs.declared.Van.{Van}
 use Rattle.rules.specs.Leg.{legsAhead, legsBehind}
-use Rattle.rules.specs.Time.{start, inTime, lastStart}
-use Rattle.rules.specs.Metres.{driven}
+use Rattle.rules.specs.Time.{start, inTime, lastStart, driven}
 use Rattle.rules.specs.Load.{room, reachAhead, reachBack}
 use Rattle.rules.specs.Plan.{Places}
 use Rattle.rules.specs.declared.Job.{Job}
@@ -30,21 +29,19 @@ window v d rt o x A (k ∷ B) = inTime d x (start d A x) && leZ (pos (start d A 
 abbrev pub short : Test
 short v d rt o x A B = leb (driven d rt + d .metres (hd A) x + d .metres x (hd B) - d .metres (hd A) (hd B)) (v .limit)
 
--- Clean at x: H + load is within capacity on every leg from 0 to p
+-- a clean job at x: H + load is within capacity on every leg from 0 to p
 abbrev pub cleanFits : Van → Day → ℕ → List ℕ → List ℕ → Job → Bool
-cleanFits v d x A B (Clean a w) = not (eqb a x) || legsBehind (room v d w) A B
-cleanFits v d x A B (Soiled a w) = true
-cleanFits v d x A B (Transfer a b w) = true
+cleanFits v d x A B = elim [ Clean a w ↦ not (eqb a x) || legsBehind (room v d w) A B | Soiled a w ↦ true | Transfer a b w ↦ true ]
 
+-- Clean: every clean job at x fits
 abbrev pub clean : Test
 clean v d rt o x A B = all (cleanFits v d x A B) (d .jobs)
 
--- Soiled at x: on every leg from p to the last
+-- a soiled job at x: H + load is within capacity on every leg from p to the last
 abbrev pub soiledFits : Van → Day → ℕ → List ℕ → List ℕ → Job → Bool
-soiledFits v d x A B (Clean a w) = true
-soiledFits v d x A B (Soiled a w) = not (eqb a x) || legsAhead (room v d w) A B
-soiledFits v d x A B (Transfer a b w) = true
+soiledFits v d x A B = elim [ Clean a w ↦ true | Soiled a w ↦ not (eqb a x) || legsAhead (room v d w) A B | Transfer a b w ↦ true ]
 
+-- Soiled: every soiled job at x fits
 abbrev pub soiled : Test
 soiled v d rt o x A B = all (soiledFits v d x A B) (d .jobs)
 
@@ -56,6 +53,7 @@ meetsPartner v d rt x A B (Transfer a b w) =
     (not (eqb a x) || not (mem b rt) || reachAhead v d (λ p k. eqb k b) w A B)
     && (not (eqb b x) || not (mem a rt) || reachBack v d (λ p k. eqb p a) w A B)
 
+-- Transfer, partner placed: every transfer at x meets its partner
 abbrev pub partnerPlaced : Test
 partnerPlaced v d rt o x A B = all (meetsPartner v d rt x A B) (d .jobs)
 
@@ -68,6 +66,7 @@ hasSupport v d rt o x A B (Transfer a b w) =
     (not (eqb a x) || mem b rt || reachAhead v d (λ p k. o b p) w A B)
     && (not (eqb b x) || mem a rt || reachBack v d (λ p k. o a p) w A B)
 
+-- Transfer, neither placed: every transfer at x has support
 abbrev pub neitherPlaced : Test
 neitherPlaced v d rt o x A B = all (hasSupport v d rt o x A B) (d .jobs)
 

@@ -1,4 +1,4 @@
--- When the van starts at its stops (01's E), and the last moments at which it still may (01's L).
+-- When the van starts at its stops (01's E), the last moments at which it still may (01's L), and how far it drives.
 use Prim.Native.Nat.{ℕ, _+_, max}
 use mathlib.Core.Bool.{Bool, true, cond, _&&_}
 use mathlib.Core.List.{List, [], _∷_}
@@ -19,6 +19,7 @@ lastMoment d x = pos (d .latest x)
 abbrev pub inTime : Day → ℕ → ℕ → Bool
 inTime d x t = leZ (pos t) (lastMoment d x)
 
+-- the smaller of two signed numbers
 abbrev pub minZ : ℤ → ℤ → ℤ
 minZ a b = cond (leZ a b) a b
 
@@ -31,3 +32,9 @@ lastStart d (m ∷ B) k = minZ (lastMoment d k) (lastStart d B m -ℤ pos (d .se
 abbrev pub onTime : Day → List ℕ → List ℕ → Bool
 onTime d A [] = true
 onTime d A (x ∷ B) = inTime d x (start d A x) && onTime d (x ∷ A) B
+
+-- the sum of metres along a list of stops
+abbrev pub driven : Day → List ℕ → ℕ
+driven d [] = 0
+driven d (x ∷ []) = 0
+driven d (x ∷ k ∷ B) = d .metres x k + driven d (k ∷ B)

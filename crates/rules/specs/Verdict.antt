@@ -3,22 +3,20 @@ use Prim.Native.Nat.{ℕ}
 use mathlib.Core.Bool.{Bool, false, cond, not, _&&_, _||_}
 use mathlib.Core.List.{List, [], _∷_}
 use lib.Dec.{eqb}
-use Rattle.laws.specs.Lists.{mem, all, any}
+use Rattle.laws.specs.Basic.{mem, all, any}
 use Rattle.rules.specs.Day.{Day, inner}
 use Rattle.rules.specs.declared.Van.{Van}
-use Rattle.rules.specs.Plan.{Plan, Marks}
+use Rattle.rules.specs.Plan.{Plan}
 use Rattle.rules.specs.Rounds.{Rule, windowRule, metreRule, loadRule}
 use Rattle.rules.specs.declared.Job.{Job}
 use Rattle.rules.specs.declared.Job.the-variants.{Clean, Soiled, Transfer}
 
 -- the job is a transfer with one end at x, and f holds of the other end
 abbrev pub partnered : (ℕ → Bool) → ℕ → Job → Bool
-partnered f x (Clean a w) = false
-partnered f x (Soiled a w) = false
-partnered f x (Transfer a b w) = (eqb a x && f b) || (eqb b x && f a)
+partnered f x = elim [ Clean a w ↦ false | Soiled a w ↦ false | Transfer a b w ↦ (eqb a x && f b) || (eqb b x && f a) ]
 
 -- owed: an unplaced node that is marked, or whose transfer partner is marked or on the route
-unfoldable pub owed : Day → List ℕ → Marks → ℕ → Bool
+unfoldable pub owed : Day → List ℕ → (ℕ → Bool) → ℕ → Bool
 owed d rt m x = not (mem x rt) && (m x || any (partnered (λ y. m y || mem y rt) x) (d .jobs))
 
 -- x has an open place
@@ -32,9 +30,7 @@ wrong a b (x ∷ R) = cond (eqb x b) (mem a R) (not (eqb x a) && wrong a b R)
 
 -- the job is a transfer whose nodes stand in the wrong order
 abbrev pub wrongWay : List ℕ → Job → Bool
-wrongWay R (Clean a w) = false
-wrongWay R (Soiled a w) = false
-wrongWay R (Transfer a b w) = wrong a b R
+wrongWay R = elim [ Clean a w ↦ false | Soiled a w ↦ false | Transfer a b w ↦ wrong a b R ]
 
 -- ---- the checks: 01 says when a state is dead, and a check here is passed exactly where 01's does not find it so
 

@@ -3,7 +3,7 @@ use Prim.Native.Nat.{ℕ}
 use mathlib.Core.Bool.{Bool, cond, not, _&&_}
 use mathlib.Core.List.{List, [], _∷_}
 use lib.Dec.{T, eqb}
-use Rattle.laws.specs.Lists.{mem, hd}
+use Rattle.laws.specs.Basic.{mem, hd}
 use Rattle.rules.specs.Day.{Day}
 use Rattle.rules.specs.declared.Van.{Van}
 use Rattle.rules.specs.Leg.{legStops}
@@ -12,12 +12,12 @@ use Rattle.rules.specs.Steps.{placed, excluded, required}
 use Rattle.rules.specs.Settle.{settled}
 
 -- a run of placing, excluding, requiring and settling, none refused, from the plan a; X are the nodes excluded on the way
-pub data Run (v : Van) (d : Day) (a : Plan) : Plan → List ℕ → Type 0 where
-  begin : Run v d a a []
-  place : {b : Plan} {X : List ℕ} (p x : ℕ) → Run v d a b X → T (not (mem x (b .route))) → T (b .places x p) → Run v d a (placed p x b) X
-  exclude : {b : Plan} {X : List ℕ} (x : ℕ) → Run v d a b X → Run v d a (excluded x b) (x ∷ X)
-  require : {b : Plan} {X : List ℕ} (x : ℕ) → Run v d a b X → Run v d a (required x b) X
-  settling : {b : Plan} {X : List ℕ} → Run v d a b X → Run v d a (settled v d b) X
+pub data PlanRun (v : Van) (d : Day) (a : Plan) : Plan → List ℕ → Type 0 where
+  begin : PlanRun v d a a []
+  place : {b : Plan} {X : List ℕ} (p x : ℕ) → PlanRun v d a b X → T (not (mem x (b .route))) → T (b .places x p) → PlanRun v d a (placed p x b) X
+  exclude : {b : Plan} {X : List ℕ} (x : ℕ) → PlanRun v d a b X → PlanRun v d a (excluded x b) (x ∷ X)
+  require : {b : Plan} {X : List ℕ} (x : ℕ) → PlanRun v d a b X → PlanRun v d a (required x b) X
+  settling : {b : Plan} {X : List ℕ} → PlanRun v d a b X → PlanRun v d a (settled v d b) X
 
 -- the last stop of the starting route r₀ at or before q, on the route e; c is the last one before e
 abbrev pub origin : List ℕ → ℕ → List ℕ → ℕ → ℕ

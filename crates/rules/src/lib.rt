@@ -55,7 +55,7 @@ impl Step {
     pub const BACK: usize = 7;
 }
 
-// Why a sheet or a step is refused: 01's table of numbers. Each is explained in specs/Refusal.antt.
+// Why a sheet or a step is refused: 01's table of numbers. Each is explained in specs/Numbers.antt.
 pub struct Refusal;
 
 impl Refusal {

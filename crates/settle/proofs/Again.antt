@@ -1,34 +1,33 @@
 -- The rounds of settling and its ways out, from a caller that is ready.
-use mathlib.Core.Path.{_≡_, refl, sym, ap, _∙_, subst}
+use mathlib.Core.Path.{_≡_, sym, ap, _∙_, subst}
 use Prim.Native.Nat.{ℕ, _-_}
 use mathlib.Core.Bool.{Bool, true, false}
 use mathlib.Core.List.{List}
 use lib.Dec.{T, eqb, ltb}
 use lib.ListN.{getD, take}
 use borrow.Author.Tests.{eqb-true, ltb-true, ltb-false}
-use Rattle.laws.specs.Logic.{decided}
-use Rattle.laws.specs.Below.{allBelow, below-at}
-use Rattle.laws.specs.Table.{tab, Filled}
+use Rattle.laws.proofs.Logic.{decided}
+use Rattle.laws.proofs.Below.{below-at}
+use Rattle.laws.specs.Basic.{allBelow, tab, Filled}
 use Rattle.bits.specs.Places.{has}
-use Rattle.bits.specs.Members.{has-none}
+use Rattle.bits.proofs.Members.{has-none}
 use Rattle.rules.specs.declared.Van.{Van}
 use Rattle.rules.specs.Settle.{round}
 use Rattle.rules.specs.Along.{loadAt}
 use Rattle.rules.proofs.Left.{_⊆_}
 use Rattle.sheet.specs.declared.Layout.{Layout}
-use Rattle.day.specs.Asked.{one-end}
-use Rattle.day.specs.Jobs.{jobIn}
-use Rattle.day.specs.Tell.{dayOf}
+use Rattle.day.proofs.Asked.{one-end}
+use Rattle.day.specs.Tell.{dayOf, jobIn}
 use Rattle.along.specs.Sets.{placesIn, setsOf}
-use Rattle.along.specs.Sets.{past}
 use Rattle.settle.specs.declared.strike.Pass.{Pass}
-use Rattle.settle.specs.Round.{Kepts, further, jobLeaves, jobsLeave}
-use Rattle.along.specs.Ready.{Ready, jobs-are}
+use Rattle.settle.specs.Round.{Kepts, pairLeaves, jobsLeave, sameSets}
+use Rattle.along.specs.Ready.{Ready}
+use Rattle.along.proofs.ReadyLaws.{jobs-are}
 use Rattle.settle.specs.Settles.{Settles}
-use Rattle.along.proofs.Facts.{two-stops, few-nodes, some-nodes, places-seen, places-small}
+use Rattle.along.proofs.Facts.{two-stops, few-nodes, some-nodes, past-nodes, places-seen, places-small}
 use Rattle.settle.proofs.Facts.{ready-round}
 use Rattle.settle.proofs.Rounds.{again-sets}
-use Rattle.settle.proofs.Struck.{sameSets, sets-same, round-open, round-still, settle-none, settle-once, settle-again}
+use Rattle.settle.proofs.Struck.{sets-same, round-open, round-still, settle-none, settle-once, settle-again}
 
 module _ {s : List ℕ} {at : Layout} {l : List ℕ} {n : ℕ} {ws : List ℕ} (v : Van) (r : Ready s at l n ws 0) {first : List ℕ}
     (f : first ≡ setsOf (round v (dayOf s) (take n l) (placesIn ws))) where
@@ -43,7 +42,7 @@ module _ {s : List ℕ} {at : Layout} {l : List ℕ} {n : ℕ} {ws : List ℕ} (
 module _ {s : List ℕ} {at : Layout} {l ws first second h : List ℕ} (pass : Pass) (r : Ready s at l (pass .stops) ws 0)
     (f : first ≡ setsOf (round (pass .van) (dayOf s) (take (pass .stops) l) (placesIn ws)))
     (loads : Filled 64 (loadAt (dayOf s) (take (pass .stops) l)) 0 (pass .stops - 1) h)
-    (kept : Kepts l (pass .stops - 1) (jobsLeave (jobLeaves first l h (further pass)) (jobIn s) (at .jobs)) first second) where
+    (kept : Kepts l (pass .stops - 1) (jobsLeave (pairLeaves first l h pass) (jobIn s) (at .jobs)) first second) where
   abbrev v : Van
   v = pass .van
 
@@ -53,12 +52,9 @@ module _ {s : List ℕ} {at : Layout} {l ws first second h : List ℕ} (pass : P
   -- the round after the first
   again-round : second ≡ setsOf (round v (dayOf s) (take n l) (placesIn first))
   again-round =
-      again-sets (further pass) (dayOf s) (jobIn s) (at .jobs) (ap (λ (k : ℕ). tab k (jobIn s)) (sym (jobs-are (r .laid)))) l (r .long) (two-stops r) (r .most) (few-nodes r)
-      (r .form .nodes) h loads first (ready-first v r f .form .off) (ready-first v r f .form .leg) refl (placesIn ws)
+      again-sets pass (dayOf s) (jobIn s) (at .jobs) (ap (λ (k : ℕ). tab k (jobIn s)) (sym (jobs-are (r .laid)))) l (r .long) (two-stops r) (r .most) (few-nodes r)
+      (r .form .nodes) h loads first (ready-first v r f .form .off) (ready-first v r f .form .leg) (placesIn ws)
       (ap placesIn f ∙ round-open v (dayOf s) (one-end s (r .clear)) (take n l) (r .form .nodes) (some-nodes r) ws (r .sized) (places-seen r) (places-small r)) second kept
-
-  pub ready-second : Ready s at l n second 0
-  ready-second = ready-round v (ready-first v r f) again-round
 
   -- one strikes, two strike
   pub one-left : sameSets ws first ≡ false → sameSets first second ≡ true → Settles v (dayOf s) (take n l) ws 1 second
@@ -68,13 +64,14 @@ module _ {s : List ℕ} {at : Layout} {l ws first second h : List ℕ} (pass : P
   two-left = settle-again v (dayOf s) (one-end s (r .clear)) (take n l) (r .form .nodes) (some-nodes r) ws (r .sized) (places-seen r) (places-small r) f again-round
 
 -- no node has a place: no round strikes
-pub none-open : {s : List ℕ} {at : Layout} {l : List ℕ} {n : ℕ} {ws : List ℕ} (v : Van) → Ready s at l n ws 0 → allBelow 64 (λ i. eqb (getD ws i 0) 0) ≡ true
-    → {vs : List ℕ} → vs ≡ ws → Settles v (dayOf s) (take n l) ws 0 vs
+pub none-open : {s : List ℕ} {at : Layout} {l : List ℕ} {n : ℕ} {ws : List ℕ} (v : Van) → Ready s at l n ws 0
+    → allBelow (at .nodes) (λ i. eqb (getD ws i 0) 0) ≡ true → {vs : List ℕ} → vs ≡ ws → Settles v (dayOf s) (take n l) ws 0 vs
 none-open {s} {at} {l} {n} {ws} v r z {vs} e =
     none-left v r (e ∙ round-still v (dayOf s) (one-end s (r .clear)) (take n l) (r .form .nodes) (some-nodes r) ws (r .sized) (places-seen r) (places-small r) none) (sets-same ws vs (sym e))
   where
     empty : (x : ℕ) → getD ws x 0 ≡ 0
-    empty x = decided (ltb x 64) (λ t. eqb-true (getD ws x 0) 0 (below-at 64 x (λ i. eqb (getD ws i 0) 0) z (ltb-true x 64 t))) (λ t. past ws x (r .sized) (ltb-false x 64 t))
+    empty x = decided (ltb x (at .nodes)) (λ t. eqb-true (getD ws x 0) 0 (below-at (at .nodes) x (λ i. eqb (getD ws i 0) 0) z (ltb-true x (at .nodes) t)))
+        (λ t. past-nodes r x (ltb-false x (at .nodes) t))
 
     none : placesIn ws ⊆ round v (dayOf s) (take n l) (placesIn ws)
     none x p t = absurd (subst (λ (b : Bool). T b) (ap (λ (w : ℕ). has w p) (empty x) ∙ has-none p) t)

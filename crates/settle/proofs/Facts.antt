@@ -1,37 +1,43 @@
 -- What a caller that is ready gives the functions of settling.
-use mathlib.Core.Path.{_≡_, sym, ap, _∙_, subst}
+use mathlib.Core.Path.{_≡_, refl, sym, ap, _∙_, subst}
 use Prim.Native.Nat.{ℕ, _-_, _<_}
-use mathlib.Core.Bool.{Bool}
+use mathlib.Core.Bool.{Bool, true, not, _&&_}
 use mathlib.Core.List.{List}
 use native.Mathlib.Omega.{arith}
-use lib.Dec.{T}
+use lib.Dec.{T, eqb}
 use lib.IntN.{ℤ}
 use lib.ListN.{getD, take, length}
 use lib.Seq.{getD-take}
-use borrow.Author.Tests.{eqb-false}
+use Rattle.laws.proofs.Logic.{and-true}
 use Rattle.rules.specs.declared.Van.{Van}
+use Rattle.rules.specs.Day.{isInner}
+use Rattle.rules.specs.Along.{loadAt}
 use Rattle.rules.specs.Settle.{round, settle}
-use Rattle.rules.proofs.AlongLaws.{leg-index, stops-apart}
+use Rattle.rules.proofs.AlongLaws.{leg-index}
 use Rattle.rules.proofs.Left.{_⊆_, round-less}
 use Rattle.rules.proofs.Fixpoint.{settle-less}
 use Rattle.rules.proofs.Forms.{fewer-formed}
-use Rattle.sheet.specs.Section.{mOf}
+use Rattle.sheet.specs.Section.{nOf, mOf}
 use Rattle.sheet.specs.declared.Layout.{Layout}
 use Rattle.rules.specs.declared.Job.{Job}
+use Rattle.rules.specs.declared.Job.the-variants.{Clean, Soiled, Transfer}
 use Rattle.sheet.specs.Place.{Laid}
-use Rattle.day.specs.Jobs.{jobIn}
 use Rattle.day.specs.Seen.{Placed}
-use Rattle.day.specs.Fit.{placed-read}
-use Rattle.day.specs.Tell.{dayOf}
-use Rattle.along.specs.Route.{job-low}
-use Rattle.along.specs.Spots.{Spots, loadOf, spot-in, spot-found}
-use Rattle.along.specs.Loads.{load-at-low}
+use Rattle.day.proofs.Fit.{placed-read, fine-job}
+use Rattle.day.specs.Tell.{dayOf, jobIn, loadOk, jobFine}
+use Rattle.along.proofs.RouteLaws.{job-low}
+use Rattle.along.specs.Spots.{Spots, loadOf}
+use Rattle.along.proofs.SpotLaws.{spot-in, spot-found}
+use Rattle.along.proofs.LoadLaws.{load-at-low, peak-low, peak-most}
 use Rattle.along.specs.Walks.{Legs}
-use Rattle.along.specs.Sets.{placesIn, setsOf, length-sets, places-sets}
+use Rattle.along.specs.Sets.{placesIn, setsOf}
+use Rattle.along.proofs.SetLaws.{length-sets, places-sets}
 use Rattle.along.specs.Ready.{Ready}
+use Rattle.along.proofs.ReadyLaws.{jobs-are}
 use Rattle.along.proofs.Facts.{size, two-stops, near-nodes, places-small}
 use Rattle.settle.specs.declared.strike.Pass.{Pass}
-use Rattle.settle.specs.Round.{Spotted, Named, Walked, walked-load}
+use Rattle.settle.specs.Round.{Kepts, rideOf, nodeOf, twoEnds}
+use Rattle.settle.proofs.RoundLaws.{Spotted, Named, legs-load, placed-node}
 use Rattle.settle.specs.Settles.{Read}
 
 module _ {s : List ℕ} {at : Layout} {l : List ℕ} {n : ℕ} {ws : List ℕ} {marks : ℕ} (r : Ready s at l n ws marks) where
@@ -57,37 +63,57 @@ module _ {s : List ℕ} {at : Layout} {l : List ℕ} {n : ℕ} {ws : List ℕ} {
           (omega (arith, f), ap (λ (i : ℕ). getD l i 0) f ∙ e);
     }
 
-  module _ {z : List ℤ} {h : List ℕ} (read : Read (dayOf s) l n z h) where
-    pub legs : Legs l h (n - 1) 0
-    legs = record {
-      long = r .long;
-      wide = read .loads .long;
-      few = omega (arith, two-stops r, r .most);
-      low = omega arith;
-      loads = λ i k. omega (arith, read .loads .at i k, load-at-low (jobIn s) m (mOf s) i (job-low s) (r .laid .fine .m-high));
-      nodes = λ i k. near-nodes r i (omega arith);
-      apart = λ i j k g e. eqb-false (getD m j 0) (getD m i 0) (stops-apart (r .form .nodes) j i g (omega (arith, size r)))
-          (getD-take n l j 0 (omega arith) ∙ e ∙ sym (getD-take n l i 0 (omega arith)));
-    }
+-- what a walk asks, of a route that is read
+pub legs : {s : List ℕ} {at : Layout} {l : List ℕ} {p : Pass} {ws : List ℕ} {marks : ℕ} {z : List ℤ} {h spots : List ℕ} → Ready s at l (p .stops) ws marks
+    → Read s at l p z h spots → Legs l h (rideOf p 0)
+legs {s} {l = l} {p} r e = record {
+  long = r .long;
+  wide = e .loads .long;
+  few = omega (arith, two-stops r, r .most);
+  low = omega arith;
+  high = rw (e .peaks .highest) (peak-low _ (p .stops - 1) 1099511627776 (omega arith)
+      (λ i k. load-at-low (jobIn s) (take (p .stops) l) (mOf s) i (job-low s) (r .laid .fine .m-high)));
+  loads = λ i k. omega (arith, e .loads .at i k, e .peaks .highest, peak-most (loadAt (dayOf s) (take (p .stops) l)) (p .stops - 1) i k);
+  nodes = λ i k. near-nodes r i (omega arith);
+}
 
--- a job's nodes have words, and its load is far from the end of 64 bits
-pub asked : {s : List ℕ} {at : Layout} → Laid s at → {l heads h : List ℕ} {pass : Pass} → Walked l heads h pass 0 → (i : ℕ) → i < at .jobs → {j : Job}
+-- the node of a job has a word
+pub node-word : {s : List ℕ} {at : Layout} → Laid s at → (i : ℕ) → i < at .jobs → {j : Job} → j ≡ jobIn s i → {x : ℕ} → x ≡ nodeOf j → x < 64
+node-word p i h {j} e z = rw z (placed-node j (placed-read p i h e))
+
+-- a job's nodes have words, its load is far from the end of 64 bits, and the ends of a transfer are two
+pub job-asked : {s : List ℕ} {at : Layout} → Laid s at → {l h : List ℕ} (pass : Pass) → Legs l h (rideOf pass 0) → (i : ℕ) → i < at .jobs → {j : Job}
     → j ≡ jobIn s i
-    → Placed j × Walked l heads h pass (loadOf j)
-asked {s} p w i h e =
-    (placed-read p i h e, walked-load (subst (λ (j : Job). loadOf j < 4294967296) (sym e) (job-low s i)) w)
+    → Placed j × (twoEnds j ≡ true) × Legs l h (rideOf pass (loadOf j))
+job-asked {s} p pass w i h {j} e = (
+  placed-read p i h e,
+  ends j (subst (λ (q : Job). jobFine (nOf s) q ≡ true) (sym e) (fine-job s (p .fine) i (omega (arith, jobs-are p)))),
+  legs-load pass (subst (λ (q : Job). loadOf q < 4294967296) (sym e) (job-low s i)) w,
+)
+  where
+    ends : (q : Job) → jobFine (nOf s) q ≡ true → twoEnds q ≡ true
+    ends (Clean a w) f = refl
+    ends (Soiled a w) f = refl
+    ends (Transfer a b w) f =
+        let q = and-true (isInner (nOf s) a && isInner (nOf s) b && not (eqb a b)) (loadOk w) f .0 in
+        and-true (isInner (nOf s) a && isInner (nOf s) b) (not (eqb a b)) q .1
 
--- the words after a round are as ready as those before
+-- fewer places are as ready
+ready-fewer : {s : List ℕ} {at : Layout} {l : List ℕ} {n : ℕ} {ws : List ℕ} {marks : ℕ} → Ready s at l n ws marks → {vs : List ℕ} → length vs ≡ 64
+    → placesIn vs ⊆ placesIn ws → Ready s at l n vs marks
+ready-fewer r e less = record { laid = r .laid; clear = r .clear; long = r .long; sized = e; most = r .most; form = fewer-formed less (r .form) }
+
+pub kepts-less : {l : List ℕ} {legs : ℕ} {f : ℕ → ℕ → Bool} {ws vs : List ℕ} → Kepts l legs f ws vs → placesIn vs ⊆ placesIn ws
+kepts-less k x p t = k .at x .at p .0 t .0
+
+pub ready-kepts : {s : List ℕ} {at : Layout} {l : List ℕ} {n : ℕ} {ws : List ℕ} {marks legs : ℕ} {f : ℕ → ℕ → Bool} {vs : List ℕ} → Ready s at l n ws marks
+    → Kepts l legs f ws vs → Ready s at l n vs marks
+ready-kepts r k = ready-fewer r (k .long) (kepts-less k)
+
+-- and so are the words after a round
 pub ready-round : {s : List ℕ} {at : Layout} {l : List ℕ} {n : ℕ} {ws : List ℕ} {marks : ℕ} (v : Van) → Ready s at l n ws marks → {vs : List ℕ}
     → vs ≡ setsOf (round v (dayOf s) (take n l) (placesIn ws)) → Ready s at l n vs marks
-ready-round {s} {at} {l} {n} {ws} {marks} v r {vs} e = record {
-  laid = r .laid;
-  clear = r .clear;
-  long = r .long;
-  sized = ap length e ∙ length-sets (round v (dayOf s) (take n l) (placesIn ws));
-  most = r .most;
-  form = fewer-formed less (r .form);
-}
+ready-round {s} {at} {l} {n} {ws} {marks} v r {vs} e = ready-fewer r (ap length e ∙ length-sets (round v (dayOf s) (take n l) (placesIn ws))) less
   where
     less : placesIn vs ⊆ placesIn ws
     less x p t = round-less v (dayOf s) (take n l) (placesIn ws) x p

@@ -1,19 +1,17 @@
 -- The walks along arrays are the rules' recursions over the legs, and so are the tests that they serve.
 use mathlib.Core.Path.{_≡_, refl, sym, ap, _∙_, subst}
 use Prim.Native.Nat.{ℕ, zero, suc, _+_, _-_, _<_, _≤_}
-use mathlib.Core.Bool.{Bool, true, false, not, _&&_, _||_, and-true}
+use mathlib.Core.Bool.{Bool, true, false, not, _&&_, _||_, and-true, or-true}
 use mathlib.Core.List.{List}
 use native.Mathlib.Numerals.{add-one}
 use native.Mathlib.Omega.{arith}
 use lib.Dec.{T, leb, eqb}
-use borrow.Author.Tests.{ne-eqb, eqb-true}
+use borrow.Author.Tests.{eqb-true}
 use lib.ListN.{getD, take, drop, length, length-take}
 use lib.Seq.{getD-take}
-use Rattle.laws.specs.Logic.{decided, true→T}
-use Rattle.laws.specs.Lists.{mem}
-use Rattle.laws.specs.Table.{Filled}
+use Rattle.laws.proofs.Logic.{decided, true→T}
+use Rattle.laws.specs.Basic.{mem, Filled}
 use Rattle.bits.specs.Places.{has}
-use Rattle.bits.specs.Members.{has-none}
 use Rattle.rules.specs.Day.{Day}
 use Rattle.rules.specs.declared.Van.{Van}
 use Rattle.rules.specs.Leg.{legsAhead, legsBehind}
@@ -24,10 +22,11 @@ use Rattle.rules.specs.Along.{behind, loadAt}
 use Rattle.rules.specs.declared.Job.{Job}
 use Rattle.rules.specs.declared.Job.the-variants.{Clean, Soiled, Transfer}
 use Rattle.rules.proofs.AlongLaws.{atLeg, ahead-next, ahead-end, back-first, back-next, reach-ahead-next, reach-ahead-end, reach-back-first, reach-back-next, mem-at}
-use Rattle.along.specs.Walks.{walkUp, walkDown, upFlag, downFlag, fitsAt, metBehind, metAhead, through, between, ridesUp, ridesDown}
+use Rattle.along.specs.Walks.{walkUp, walkDown, fitsAt, metBehind, metAhead, nobody, ridesUp, ridesDown, fromStart, toEnd}
+use Rattle.along.specs.declared.walks.Partner.{Partner}
 use Rattle.along.specs.Sets.{placesIn}
 use Rattle.settle.specs.declared.strike.Pass.{Pass}
-use Rattle.settle.specs.Round.{jobLeaves}
+use Rattle.settle.specs.Round.{rideOf, partnerAt, loadRides, loadLeaves, pairLeaves}
 
 pub and-swap : (a b c e : Bool) → ((a && b) && (c && e)) ≡ ((a && c) && (b && e))
 and-swap true true c e = refl
@@ -53,7 +52,7 @@ down-is f g b n u e s (suc k) i h = ap (λ (t : Bool). f i && (g i || t)) (down-
 -- ---- a day, a route of n stops in l, and its H
 
 module _ (pass : Pass) (d : Day) (l h : List ℕ) (two : 2 ≤ pass .stops) (fits : pass .stops ≤ length l)
-    (near : (i : ℕ) → i < pass .stops → getD l i 0 < 64) (loads : Filled 64 (loadAt d (take (pass .stops) l)) 0 (pass .stops - 1) h) where
+    (loads : Filled 64 (loadAt d (take (pass .stops) l)) 0 (pass .stops - 1) h) where
   abbrev v : Van
   v = pass .van
 
@@ -72,38 +71,34 @@ module _ (pass : Pass) (d : Day) (l h : List ℕ) (two : 2 ≤ pass .stops) (fit
   room-at : (w i : ℕ) → i < n - 1 → atLeg (room v d w) m i ≡ leb (getD h i 0 + w) cap
   room-at w i k = ap (λ (x : ℕ). leb (x + w) cap) (sym (loads .at i k))
 
-  -- nobody is met at 64
-  none-met : (i q : ℕ) → q < n → (eqb (getD l q 0) 64 || has 0 (getD l i 0)) ≡ false
-  none-met i q k = λ u. ne-eqb (getD l q 0) 64 (λ e. absurd (omega (arith, near q k, e))) u || has-none (getD l i 0) u
-
-  -- the flag before the first leg, or behind the last, goes through where nobody is met
-  pub clean-is : (w i : ℕ) → i < n - 1 → ridesUp l h (through cap w) i ≡ atLeg (legsBehind (room v d w)) m i
-  unfolding upFlag
-  clean-is w i k = rw (add-one i) (up-is (fitsAt h (through cap w)) (metBehind l (through cap w)) true (n - 1) (atLeg (legsBehind (room v d w)) m)
-      (λ j. back-first (room v d w) m ∙ room-at w 0 j ∙ sym (and-true (leb (getD h 0 0 + w) cap)) ∙ ap (λ (b : Bool). leb (getD h 0 0 + w) cap && (b || true)) (sym (none-met 0 0 (omega arith))))
-      (λ j g. back-next (room v d w) m j (omega (arith, size)) ∙ (λ u. room-at w (suc j) g u && (sym (none-met (suc j) (suc j) (omega arith)) u || atLeg (legsBehind (room v d w)) m j)))
+  -- leg by leg to the first, or to the last
+  clean-is : (w i : ℕ) → i < n - 1 → fromStart h (rideOf pass w) i ≡ atLeg (legsBehind (room v d w)) m i
+  unfolding fromStart
+  clean-is w i k = rw (add-one i) (up-is (fitsAt h (rideOf pass w)) nobody true (n - 1) (atLeg (legsBehind (room v d w)) m)
+      (λ j. back-first (room v d w) m ∙ room-at w 0 j ∙ sym (and-true (leb (getD h 0 0 + w) cap)))
+      (λ j g. back-next (room v d w) m j (omega (arith, size)) ∙ ap (λ (b : Bool). b && atLeg (legsBehind (room v d w)) m j) (room-at w (suc j) g))
       i k)
 
-  pub soiled-is : (w i : ℕ) → i < n - 1 → ridesDown l h (through cap w) (n - 1) i ≡ atLeg (legsAhead (room v d w)) m i
-  unfolding downFlag
-  soiled-is w i k = down-is (fitsAt h (through cap w)) (metAhead l (through cap w)) true (n - 1) (atLeg (legsAhead (room v d w)) m)
+  soiled-is : (w i : ℕ) → i < n - 1 → toEnd h (rideOf pass w) i ≡ atLeg (legsAhead (room v d w)) m i
+  unfolding toEnd
+  soiled-is w i k = down-is (fitsAt h (rideOf pass w)) nobody true (n - 1) (atLeg (legsAhead (room v d w)) m)
       (ahead-end (room v d w) m (n - 1) (omega (arith, size)))
-      (λ j g. ahead-next (room v d w) m j (omega (arith, size)) ∙ (λ u. room-at w j g u && (sym (none-met j (j + 1) (omega arith)) u || atLeg (legsAhead (room v d w)) m (suc j))))
+      (λ j g. ahead-next (room v d w) m j (omega (arith, size)) ∙ ap (λ (b : Bool). b && atLeg (legsAhead (room v d w)) m (suc j)) (room-at w j g))
       (n - 1 - i) i (omega arith)
 
-  -- a partner y with the places o is met where g holds of the leg's stops
-  pub back-is : (g : ℕ → ℕ → Bool) (w y o : ℕ) → ((i : ℕ) → i < n - 1 → g (getD m i 0) (getD m (suc i) 0) ≡ metBehind l (between cap w y o) i)
-      → (i : ℕ) → i < n - 1 → ridesUp l h (between cap w y o) i ≡ atLeg (reachBack v d g w) m i
-  unfolding upFlag
-  back-is g w y o e i k = rw (add-one i) (up-is (fitsAt h (between cap w y o)) (metBehind l (between cap w y o)) false (n - 1) (atLeg (reachBack v d g w) m)
+  -- a partner is met where g holds of the leg's stops
+  back-is : (g : ℕ → ℕ → Bool) (w : ℕ) (y : Partner) → ((i : ℕ) → i < n - 1 → g (getD m i 0) (getD m (suc i) 0) ≡ metBehind l y i)
+      → (i : ℕ) → i < n - 1 → ridesUp l h (rideOf pass w) y i ≡ atLeg (reachBack v d g w) m i
+  unfolding ridesUp
+  back-is g w y e i k = rw (add-one i) (up-is (fitsAt h (rideOf pass w)) (metBehind l y) false (n - 1) (atLeg (reachBack v d g w) m)
       (λ j. reach-back-first v d g w m (omega (arith, size)) ∙ (λ u. room-at w 0 j u && (e 0 j u || false)))
       (λ j q. reach-back-next v d g w m j (omega (arith, size)) ∙ (λ u. room-at w (suc j) q u && (e (suc j) q u || atLeg (reachBack v d g w) m j)))
       i k)
 
-  pub ahead-is : (g : ℕ → ℕ → Bool) (w y o : ℕ) → ((i : ℕ) → i < n - 1 → g (getD m i 0) (getD m (suc i) 0) ≡ metAhead l (between cap w y o) i)
-      → (i : ℕ) → i < n - 1 → ridesDown l h (between cap w y o) (n - 1) i ≡ atLeg (reachAhead v d g w) m i
-  unfolding downFlag
-  ahead-is g w y o e i k = down-is (fitsAt h (between cap w y o)) (metAhead l (between cap w y o)) false (n - 1) (atLeg (reachAhead v d g w) m)
+  ahead-is : (g : ℕ → ℕ → Bool) (w : ℕ) (y : Partner) → ((i : ℕ) → i < n - 1 → g (getD m i 0) (getD m (suc i) 0) ≡ metAhead l y i)
+      → (i : ℕ) → i < n - 1 → ridesDown l h (rideOf pass w) y i ≡ atLeg (reachAhead v d g w) m i
+  unfolding ridesDown
+  ahead-is g w y e i k = down-is (fitsAt h (rideOf pass w)) (metAhead l y) false (n - 1) (atLeg (reachAhead v d g w) m)
       (reach-ahead-end v d g w m (n - 1) (omega (arith, size)))
       (λ j q. reach-ahead-next v d g w m j (omega (arith, size)) ∙ (λ u. room-at w j q u && (e j q u || atLeg (reachAhead v d g w) m (suc j))))
       (n - 1 - i) i (omega arith)
@@ -148,39 +143,32 @@ module _ (pass : Pass) (d : Day) (l h : List ℕ) (two : 2 ≤ pass .stops) (fit
     abbrev holdA : ℕ → ℕ → ℕ → ℕ → ℕ → Bool
     holdA x a b w i = not (eqb b x) || mem a m || atLeg (reachBack v d (λ p k. o a p) w) m i
 
-    second-is : (x a b w i : ℕ) → i < n - 1 → (not (eqb b x) || ridesUp l h (between cap w a (getD old a 0)) i) ≡ (meetA x a b w i && holdA x a b w i)
+    second-is : (x a b w i : ℕ) → i < n - 1 → (not (eqb b x) || ridesUp l h (rideOf pass w) (partnerAt old a) i) ≡ (meetA x a b w i && holdA x a b w i)
     second-is x a b w i k = halves (eqb b x) (mem a m) _ _ _
-        (λ e. back-is (λ p k. eqb p a) w a (getD old a 0) (λ j q. ap (λ (t : ℕ). eqb t a) (getD-take n l j 0 (omega arith)) ∙ or-none _ _ (shut a (getD l j 0) e)) i k)
-        (λ e. back-is (λ p k. o a p) w a (getD old a 0) (λ j q. ap (λ (t : ℕ). has (getD old a 0) t) (getD-take n l j 0 (omega arith)) ∙ none-or _ _ (ap (λ (t : ℕ). eqb t a) (sym (getD-take n l j 0 (omega arith))) ∙ away a j e (omega arith))) i k)
+        (λ e. back-is (λ p k. eqb p a) w (partnerAt old a) (λ j q. ap (λ (t : ℕ). eqb t a) (getD-take n l j 0 (omega arith)) ∙ or-none _ _ (shut a (getD l j 0) e)) i k)
+        (λ e. back-is (λ p k. o a p) w (partnerAt old a) (λ j q. ap (λ (t : ℕ). has (getD old a 0) t) (getD-take n l j 0 (omega arith)) ∙ none-or _ _ (ap (λ (t : ℕ). eqb t a) (sym (getD-take n l j 0 (omega arith))) ∙ away a j e (omega arith))) i k)
 
     first-is : (x a b w i : ℕ) → i < n - 1
-        → (not (eqb a x) || ridesDown l h (between cap w b (getD old b 0)) (n - 1) i) ≡ (meetB x a b w i && holdB x a b w i)
+        → (not (eqb a x) || ridesDown l h (rideOf pass w) (partnerAt old b) i) ≡ (meetB x a b w i && holdB x a b w i)
     first-is x a b w i k = halves (eqb a x) (mem b m) _ _ _
-        (λ e. ahead-is (λ p k. eqb k b) w b (getD old b 0) (λ j q. ap (λ (t : ℕ). eqb t b) (next j q) ∙ or-none _ _ (shut b (getD l j 0) e)) i k)
-        (λ e. ahead-is (λ p k. o b p) w b (getD old b 0) (λ j q. ap (λ (t : ℕ). has (getD old b 0) t) (getD-take n l j 0 (omega arith)) ∙ none-or _ _ (ap (λ (t : ℕ). eqb t b) (sym (next j q)) ∙ away b (suc j) e (omega arith))) i k)
+        (λ e. ahead-is (λ p k. eqb k b) w (partnerAt old b) (λ j q. ap (λ (t : ℕ). eqb t b) (next j q) ∙ or-none _ _ (shut b (getD l j 0) e)) i k)
+        (λ e. ahead-is (λ p k. o b p) w (partnerAt old b) (λ j q. ap (λ (t : ℕ). has (getD old b 0) t) (getD-take n l j 0 (omega arith)) ∙ none-or _ _ (ap (λ (t : ℕ). eqb t b) (sym (next j q)) ∙ away b (suc j) e (omega arith))) i k)
       where
         next : (j : ℕ) → j < n - 1 → getD m (suc j) 0 ≡ getD l (j + 1) 0
         next j q = rw (add-one j) (getD-take n l (suc j) 0 (omega arith))
 
-    -- a transfer's tests from arrays are the rules' two
-    transfer-is : (x i : ℕ) → i < n - 1 → (a b w : ℕ) → jobLeaves old l h pass (Transfer a b w) x i
-        ≡ (meetsPartner v d m x (behind m (suc i)) (drop (suc i) m) (Transfer a b w) && hasSupport v d m o x (behind m (suc i)) (drop (suc i) m) (Transfer a b w))
-    unfolding jobLeaves
-    transfer-is x i k a b w =
+    -- what a job leaves, from arrays: the rules' two tests of a transfer, and those of a clean and of a soiled load
+    pub pair-is : (x i : ℕ) → i < n - 1 → (j : Job) → pairLeaves old l h pass j x i
+        ≡ (meetsPartner v d m x (behind m (suc i)) (drop (suc i) m) j && hasSupport v d m o x (behind m (suc i)) (drop (suc i) m) j)
+    unfolding pairLeaves
+    pair-is x i k (Clean a w) = refl
+    pair-is x i k (Soiled a w) = refl
+    pair-is x i k (Transfer a b w) =
         (λ u. first-is x a b w i k u && second-is x a b w i k u) ∙ and-swap (meetB x a b w i) (holdB x a b w i) (meetA x a b w i) (holdA x a b w i)
 
-    -- of a further round a job's tests are those two, and of the first the rules' four
-    pub again-is : pass .again ≡ true → (x i : ℕ) → i < n - 1 → (j : Job) → jobLeaves old l h pass j x i
-        ≡ (meetsPartner v d m x (behind m (suc i)) (drop (suc i) m) j && hasSupport v d m o x (behind m (suc i)) (drop (suc i) m) j)
-    unfolding jobLeaves
-    again-is e x i k (Clean a w) = ap (λ (b : Bool). b || (not (eqb a x) || ridesUp l h (through cap w) i)) e
-    again-is e x i k (Soiled a w) = ap (λ (b : Bool). b || (not (eqb a x) || ridesDown l h (through cap w) (n - 1) i)) e
-    again-is e x i k (Transfer a b w) = transfer-is x i k a b w
-
-    pub first-round-is : pass .again ≡ false → (x i : ℕ) → i < n - 1 → (j : Job) → jobLeaves old l h pass j x i
-        ≡ (cleanFits v d x (behind m (suc i)) (drop (suc i) m) j && soiledFits v d x (behind m (suc i)) (drop (suc i) m) j
-        && (meetsPartner v d m x (behind m (suc i)) (drop (suc i) m) j && hasSupport v d m o x (behind m (suc i)) (drop (suc i) m) j))
-    unfolding jobLeaves
-    first-round-is e x i k (Clean a w) = (λ u. e u || (not (eqb a x) || clean-is w i k u)) ∙ sym (and-true _) ∙ sym (and-true _)
-    first-round-is e x i k (Soiled a w) = (λ u. e u || (not (eqb a x) || soiled-is w i k u)) ∙ sym (and-true _)
-    first-round-is e x i k (Transfer a b w) = transfer-is x i k a b w
+  pub load-is : (x i : ℕ) → i < n - 1 → (j : Job) → loadLeaves h pass j x i
+      ≡ (cleanFits v d x (behind m (suc i)) (drop (suc i) m) j && soiledFits v d x (behind m (suc i)) (drop (suc i) m) j)
+  unfolding loadRides
+  load-is x i k (Clean a w) = (λ u. not (eqb a x) || clean-is w i k u) ∙ sym (and-true _)
+  load-is x i k (Soiled a w) = λ u. not (eqb a x) || soiled-is w i k u
+  load-is x i k (Transfer a b w) = or-true (not (eqb a x))

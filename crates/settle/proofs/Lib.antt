@@ -2,4 +2,7 @@ pub mod Legs
 pub mod Rounds
 pub mod Struck
 pub mod Facts
+pub mod Strikes
 pub mod Again
+pub mod OneOutcome
+pub mod RoundLaws

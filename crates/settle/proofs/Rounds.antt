@@ -1,7 +1,7 @@
 -- A round over the words is the rules' round.
 use mathlib.Core.Path.{_≡_, refl, sym, ap, _∙_, subst}
 use Prim.Native.Nat.{ℕ, suc, _-_, _<_, _≤_}
-use mathlib.Core.Bool.{Bool, true, false, not, _&&_, and-true}
+use mathlib.Core.Bool.{Bool, true, false, not, _&&_, and-true, and-comm, and-assoc}
 use mathlib.Core.List.{List, [], _∷_}
 use native.Mathlib.Numerals.{add-one}
 use native.Mathlib.Omega.{arith}
@@ -9,10 +9,9 @@ use lib.Dec.{T}
 use lib.IntN.{ℤ, pos}
 use lib.ListN.{getD, take, drop, length, length-take}
 use lib.Seq.{getD-take}
-use Rattle.laws.specs.Logic.{decided, T-ext, true→T, and-i, and-r}
-use Rattle.laws.specs.Lists.{mem, all}
-use Rattle.laws.specs.Below.{below-same}
-use Rattle.laws.specs.Table.{tab, Filled}
+use Rattle.laws.proofs.Logic.{decided, T-ext, true→T, and-i, and-r}
+use Rattle.laws.specs.Basic.{mem, all, tab, Filled}
+use Rattle.laws.proofs.Below.{below-same}
 use Rattle.rules.specs.Day.{Day}
 use Rattle.rules.specs.declared.Van.{Van}
 use Rattle.rules.specs.Leg.{onLeg, legStops}
@@ -20,19 +19,21 @@ use Rattle.rules.specs.Plan.{Places}
 use Rattle.rules.specs.Rounds.{Distinct}
 use Rattle.rules.specs.Tests.{cleanFits, soiledFits, meetsPartner, hasSupport, window, short, clean, soiled, partnerPlaced, neitherPlaced, stays}
 use Rattle.rules.specs.Settle.{round}
-use Rattle.rules.specs.Metres.{driven}
+use Rattle.rules.specs.Time.{driven}
 use Rattle.rules.specs.Along.{behind, lastAt, loadAt}
 use Rattle.rules.specs.declared.Job.{Job}
 use Rattle.rules.proofs.AlongLaws.{atLeg, behind-take, window-at, short-at, on-leg, leg-index}
 use Rattle.rules.proofs.Twice.{restays}
 use Rattle.rules.proofs.Entries.{stays-e, partnerPlaced-in, neitherPlaced-in}
 use Rattle.rules.proofs.Left.{round-less, round-leg, round-left}
-use Rattle.along.specs.Spots.{node-low}
-use Rattle.along.specs.Sets.{placesIn, setsOf, sets-ext}
+use Rattle.along.proofs.SpotLaws.{node-low}
+use Rattle.along.specs.Sets.{placesIn, setsOf}
+use Rattle.along.proofs.SetLaws.{sets-ext}
 use Rattle.settle.specs.declared.strike.Pass.{Pass}
-use Rattle.settle.specs.Round.{Kepts, fitsIn, standsAt, jobLeaves, jobsLeave, placeLeft}
-use Rattle.along.specs.Told.{below-tab}
-use Rattle.settle.proofs.Legs.{and-swap, again-is, first-round-is}
+use Rattle.settle.specs.Round.{Kepts, fitsIn, standsAt, loadLeaves, pairLeaves, jobsLeave}
+use Rattle.settle.proofs.RoundLaws.{placeLeft}
+use Rattle.along.proofs.Told.{below-tab}
+use Rattle.settle.proofs.Legs.{and-swap, pair-is, load-is}
 
 -- ---- tests of a list of jobs
 
@@ -57,9 +58,6 @@ module _ (pass : Pass) (d : Day) (g : ℕ → Job) (jobs : ℕ) (told : d .jobs 
   size : length m ≡ n
   size = simp length-take (omega arith)
 
-  near : (i : ℕ) → i < n → getD l i 0 < 64
-  near i k = omega (arith, node-low nodes i (omega (arith, size)), getD-take n l i 0 k)
-
   module _ (old : List ℕ) (off : (y q : ℕ) → T (placesIn old y q) → T (not (mem y m))) (leg : (y q : ℕ) → T (placesIn old y q) → T (mem q (legStops m))) where
     abbrev o : Places
     o = placesIn old
@@ -83,14 +81,11 @@ module _ (pass : Pass) (d : Day) (g : ℕ → Job) (jobs : ℕ) (told : d .jobs 
       unfolding jobsLeave
       jobs-is f r e = below-same jobs _ (λ q. r (g q)) (λ q w. e (g q)) ∙ below-tab r jobs g ∙ ap (all r) (sym told)
 
-      pairs-is : pass .again ≡ true → jobsLeave (jobLeaves old l h pass) g jobs x i ≡ (atLeg (partnerPlaced v d m o x) m i && atLeg (neitherPlaced v d m o x) m i)
-      pairs-is e = jobs-is _ (λ j. P j && N j) (again-is pass d l h two (omega arith) near loads old off e x i k) ∙ all-both P N (d .jobs)
+      pairs-is : jobsLeave (pairLeaves old l h pass) g jobs x i ≡ (atLeg (partnerPlaced v d m o x) m i && atLeg (neitherPlaced v d m o x) m i)
+      pairs-is = jobs-is _ (λ j. P j && N j) (pair-is pass d l h two (omega arith) loads old off x i k) ∙ all-both P N (d .jobs)
 
-      loads-is : pass .again ≡ false → jobsLeave (jobLeaves old l h pass) g jobs x i
-          ≡ ((atLeg (clean v d m o x) m i && atLeg (soiled v d m o x) m i) && (atLeg (partnerPlaced v d m o x) m i && atLeg (neitherPlaced v d m o x) m i))
-      loads-is e =
-          jobs-is _ (λ j. (C j && S j) && (P j && N j)) (first-round-is pass d l h two (omega arith) near loads old off e x i k)
-          ∙ all-both (λ j. C j && S j) (λ j. P j && N j) (d .jobs) ∙ (λ u. all-both C S (d .jobs) u && all-both P N (d .jobs) u)
+      loads-is : jobsLeave (loadLeaves h pass) g jobs x i ≡ (atLeg (clean v d m o x) m i && atLeg (soiled v d m o x) m i)
+      loads-is = jobs-is _ (λ j. C j && S j) (load-is pass d l h two (omega arith) loads x i k) ∙ all-both C S (d .jobs)
 
     -- ---- words that keep what passes f are the words of the rules' round, where f tells of each open place whether it stays
 
@@ -130,24 +125,29 @@ module _ (pass : Pass) (d : Day) (g : ℕ → Job) (jobs : ℕ) (told : d .jobs 
 
     -- ---- the first round: all tests
 
-    module _ (first : pass .again ≡ false) (z : List ℤ) (lasts : Filled 64 (lastAt d m) (pos 0) n z) where
+    module _ (z : List ℤ) (lasts : Filled 64 (lastAt d m) (pos 0) n z) where
       stands-is : (x i : ℕ) → i < n - 1 → standsAt d (v .limit) l z (driven d m) x i ≡ (atLeg (window v d m o x) m i && atLeg (short v d m o x) m i)
       unfolding fitsIn
       stands-is x i k =
           rw (add-one i, lasts .at (suc i) (omega arith), ← behind-take l n i (omega arith), ← getD-take n l i 0 (omega arith), ← getD-take n l (suc i) 0 (omega arith))
           (λ u. sym (window-at v d m o x m i (omega (arith, size))) u && sym (short-at v d m o x m i (omega (arith, size))) u)
 
-      six : (a b c s p q : Bool) → ((a && b) && ((c && s) && (p && q))) ≡ (a && (b && (c && (s && (p && (q && true))))))
-      six true true true true p q = ap (λ (t : Bool). p && t) (sym (and-true q))
-      six true true true false p q = refl
-      six true true false s p q = refl
-      six true false c s p q = refl
-      six false b c s p q = refl
+      six : (a b c s p q : Bool) → (((p && q) && (a && b)) && (c && s)) ≡ (a && (b && (c && (s && (p && (q && true))))))
+      six a b c s p q =
+          ap (λ (t : Bool). t && (c && s)) (and-comm (p && q) (a && b)) ∙ and-assoc (a && b) (p && q) (c && s)
+          ∙ ap (λ (t : Bool). (a && b) && t) (and-comm (p && q) (c && s)) ∙ flat a b c s
+        where
+          flat : (a b c s : Bool) → ((a && b) && ((c && s) && (p && q))) ≡ (a && (b && (c && (s && (p && (q && true))))))
+          flat true true true true = ap (λ (t : Bool). p && t) (sym (and-true q))
+          flat true true true false = refl
+          flat true true false s = refl
+          flat true false c s = refl
+          flat false b c s = refl
 
       place-is : Tells (placeLeft d g jobs pass old l z h (driven d m))
       unfolding stays
       place-is x i k t =
-          (λ u. stands-is x i k u && loads-is x i k first u)
+          (λ u. (pairs-is x i k u && stands-is x i k u) && loads-is x i k u)
           ∙ six (atLeg (window v d m o x) m i) (atLeg (short v d m o x) m i) (atLeg (clean v d m o x) m i) (atLeg (soiled v d m o x) m i)
           (atLeg (partnerPlaced v d m o x) m i) (atLeg (neitherPlaced v d m o x) m i)
 
@@ -156,9 +156,9 @@ module _ (pass : Pass) (d : Day) (g : ℕ → Job) (jobs : ℕ) (told : d .jobs 
 
     -- ---- a further round: every test but 'neither placed' reads the route only, so what passed it passes it again, and the transfers are enough
 
-    module _ (again : pass .again ≡ true) (before : Places) (left : o ≡ round v d m before) where
-      pair-stays : Tells (jobsLeave (jobLeaves old l h pass) g jobs)
-      pair-stays x i k t = pairs-is x i k again ∙ T-ext _ _ (λ w. restays v d m before o x (behind m (suc i)) (drop (suc i) m) was (and-r partner neither w))
+    module _ (before : Places) (left : o ≡ round v d m before) where
+      pair-stays : Tells (jobsLeave (pairLeaves old l h pass) g jobs)
+      pair-stays x i k t = pairs-is x i k ∙ T-ext _ _ (λ w. restays v d m before o x (behind m (suc i)) (drop (suc i) m) was (and-r partner neither w))
           (λ w. let e = stays-e v d m o x (behind m (suc i)) (drop (suc i) m) w in
           and-i partner neither (e partnerPlaced partnerPlaced-in) (e neitherPlaced neitherPlaced-in))
         where
@@ -172,5 +172,5 @@ module _ (pass : Pass) (d : Day) (g : ℕ → Job) (jobs : ℕ) (told : d .jobs 
           was = subst (λ (b : Bool). T b) (on-leg (stays v d m before x) m nodes i (omega (arith, size)))
               (round-leg v d m before x (getD m i 0) (subst (λ (c : Places). T (c x (getD m i 0))) left t))
 
-      pub again-sets : (new : List ℕ) → Kepts l (n - 1) (jobsLeave (jobLeaves old l h pass) g jobs) old new → new ≡ setsOf (round v d m o)
+      pub again-sets : (new : List ℕ) → Kepts l (n - 1) (jobsLeave (pairLeaves old l h pass) g jobs) old new → new ≡ setsOf (round v d m o)
       again-sets = left-sets _ pair-stays

@@ -9,8 +9,8 @@ use lib.Dec.{T, not-T, eqb}
 use borrow.Author.Tests.{eqb-true, eq-eqb}
 use lib.ListN.{getD, length}
 use lib.Seq.{ext-getD}
-use Rattle.laws.specs.Logic.{decided, T-ext, true→T, N→false}
-use Rattle.laws.specs.Below.{allBelow, below-at, below-make}
+use Rattle.laws.proofs.Logic.{decided, T-ext, true→T, N→false}
+use Rattle.laws.proofs.Below.{below-at, below-make}
 use Rattle.rules.specs.Day.{Day}
 use Rattle.rules.specs.declared.Van.{Van}
 use Rattle.rules.specs.Plan.{Places}
@@ -20,12 +20,10 @@ use Rattle.rules.specs.Asked.{OneEnd}
 use Rattle.rules.proofs.Left.{_⊆_, round-less}
 use Rattle.rules.proofs.Twice.{calm, at-most-two}
 use Rattle.rules.proofs.Fixpoint.{Seen, settle-twice}
-use Rattle.along.specs.Sets.{placesIn, setsOf, sets-ext, length-sets, places-sets, Narrow}
+use Rattle.along.specs.Sets.{placesIn, setsOf}
+use Rattle.along.proofs.SetLaws.{sets-ext, length-sets, places-sets, Narrow}
+use Rattle.settle.specs.Round.{sameSets}
 use Rattle.settle.specs.Settles.{Settles}
-
--- the arrays are the same
-abbrev pub sameSets : List ℕ → List ℕ → Bool
-sameSets a b = allBelow 64 (λ i. eqb (getD a i 0) (getD b i 0))
 
 pub same-sets : (a b : List ℕ) → length a ≡ 64 → length b ≡ 64 → sameSets a b ≡ true → a ≡ b
 same-sets a b m n s =

@@ -1,20 +1,28 @@
--- L and H of a route in arrays, and what settling gives.
+-- What settling reads of a route, and what it gives.
 use mathlib.Core.Path.{_≡_}
-use Prim.Native.Nat.{ℕ, _-_}
+use Prim.Native.Nat.{ℕ, _-_, _<_}
 use mathlib.Core.List.{List}
 use lib.ListN.{take}
 use lib.IntN.{ℤ, pos}
-use Rattle.laws.specs.Table.{Filled}
+use Rattle.laws.specs.Basic.{Filled}
 use Rattle.rules.specs.Day.{Day}
 use Rattle.rules.specs.declared.Van.{Van}
 use Rattle.rules.specs.Settle.{settle, rounds}
 use Rattle.rules.specs.Along.{lastAt, loadAt}
+use Rattle.sheet.specs.declared.Layout.{Layout}
+use Rattle.day.specs.Tell.{dayOf, jobIn}
+use Rattle.along.specs.Loads.{Peaked}
+use Rattle.along.specs.Spots.{Spots}
 use Rattle.along.specs.Sets.{placesIn, setsOf}
+use Rattle.settle.specs.declared.strike.Pass.{Pass}
 
--- L and H of the first n entries of l
-pub record Read (d : Day) (l : List ℕ) (n : ℕ) (z : List ℤ) (h : List ℕ) : Type 0 where
-  pub lasts : Filled 64 (lastAt d (take n l)) (pos 0) n z
-  pub loads : Filled 64 (loadAt d (take n l)) 0 (n - 1) h
+-- what is read of a route for all rounds: L, H and their peaks, and the spots
+pub record Read (s : List ℕ) (at : Layout) (l : List ℕ) (p : Pass) (z : List ℤ) (h a : List ℕ) : Type 0 where
+  pub lasts : Filled 64 (lastAt (dayOf s) (take (p .stops) l)) (pos 0) (p .stops) z
+  pub loads : Filled 64 (loadAt (dayOf s) (take (p .stops) l)) 0 (p .stops - 1) h
+  pub peaks : Peaked (dayOf s) (take (p .stops) l) (p .stops - 1) (jobIn s) (at .jobs) (p .peaks)
+  pub spots : Spots l (p .stops) a
+  pub limit : p .van .limit < 1099511627776
 
 -- settling of the words ws on the route rt: r rounds struck, and the words after have the places that 01's rounds leave
 pub record Settles (v : Van) (d : Day) (rt ws : List ℕ) (r : ℕ) (vs : List ℕ) : Type 0 where

@@ -2,7 +2,7 @@
 ghost use mathlib.Core.Path.{_≡_};
 ghost use Prim.Native.Nat.{_+_, _<_};
 ghost use lib.ListN.{take, length};
-ghost use Rattle.rules.specs.Metres.{driven};
+ghost use Rattle.rules.specs.Time.{driven};
 ghost use Rattle.sheet.specs.Place.{Laid};
 ghost use Rattle.day.specs.Tell.{dayOf};
 ghost use Rattle.along.specs.Route.{Route};
@@ -110,8 +110,8 @@ pub fn legs_of(
     leave: &mut [usize; Node::MOST],
     most: &mut [usize; Node::MOST],
 ) -> usize
-    requires { ⌜ Laid (now s) at × Route (at .nodes) (now route) (legs + 1) × (limit < 1099511627776) × (length (now leave) ≡ 64)
-        × (length (now most) ≡ 64) ⌝ }
+    requires { ⌜ Laid (now s) at × Route (at .nodes) (now route) (legs + 1) × (limit < 1099511627776) ⌝ }
+    requires { ⌜ (length (now leave) ≡ 64) × (length (now most) ≡ 64) ⌝ }
     ensures { λ r. ⌜ Tables (dayOf (now (s .entry))) limit (now (route .entry)) legs (now (leave .exit)) (now (most .exit))
         × (r ≡ driven (dayOf (now (s .entry))) (take (legs + 1) (now (route .entry)))) × (r < 1099511627776) ⌝ }
 {
@@ -144,8 +144,7 @@ pub fn stand(
     l: &[i64; Node::MOST],
     most: &[usize; Node::MOST],
 ) -> u64
-    requires { ⌜ Laid (now s) at × (trial .node < at .nodes) × PlacesAt (at .nodes) (now route) (now leave) (now spots) (trial .places)
-        × (trial .total < 1099511627776) ⌝ }
+    requires { ⌜ Laid (now s) at × PlacesAt (at .nodes) (now route) (now leave) (now spots) trial ⌝ }
     ensures { λ r. ⌜ Sifted (fitsPlace (dayOf (now (s .entry))) (now (route .entry)) (now (spots .entry)) (now (leave .entry)) (now (l .entry))
         (now (most .entry)) trial) (trial .places) r ⌝ }
 {

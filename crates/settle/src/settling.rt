@@ -1,23 +1,19 @@
 // Settling: rounds until one strikes nothing. The rules have that two are enough, so the code makes two and counts those that struck.
 ghost use mathlib.Core.Path.{_≡_};
-ghost use mathlib.Core.Bool.{false};
 ghost use Prim.Native.Nat.{ℕ, _<_, _≤_};
 ghost use lib.ListN.{getD, length, take};
 ghost use lib.Dec.{eqb};
-ghost use Rattle.laws.specs.Below.{allBelow};
+ghost use Rattle.laws.specs.Basic.{allBelow};
 ghost use Rattle.day.specs.Tell.{dayOf};
-ghost use Rattle.along.specs.Spots.{Spots};
 ghost use Rattle.along.specs.Ready.{Ready};
-ghost use Rattle.settle.specs.Round.{Walked};
+ghost use Rattle.settle.specs.Round.{sameSets};
 ghost use Rattle.settle.specs.Settles.{Read, Settles};
 use crate::strike::Pass;
 use crate::strike::round;
-use crate::strike::strike_jobs;
+use crate::strike::strike_pairs;
 use along::loads::loads;
 use along::spots::spots;
 use along::times::lasts;
-use along::walks::heads;
-use along::walks::highest;
 use rules::Node;
 use rules::Van;
 use sheet::Layout;
@@ -25,7 +21,7 @@ use sheet::Layout;
 // Whether two arrays of sets are the same, where they are so from the n-th on.
 fn same(a: &[u64; Node::MOST], b: &[u64; Node::MOST], n: usize) -> bool
     requires { ⌜ (length (now a) ≡ 64) × (length (now b) ≡ 64) × (n ≤ 64) × ((i : ℕ) → n ≤ i → getD (now a) i 0 ≡ getD (now b) i 0) ⌝ }
-    ensures { λ r. ⌜ r ≡ allBelow 64 (λ i. eqb (getD (now (a .entry)) i 0) (getD (now (b .entry)) i 0)) ⌝ }
+    ensures { λ r. ⌜ r ≡ sameSets (now (a .entry)) (now (b .entry)) ⌝ }
 {
     let mut is = true;
     let mut i = 0;
@@ -36,21 +32,22 @@ fn same(a: &[u64; Node::MOST], b: &[u64; Node::MOST], n: usize) -> bool
     is
 }
 
-// Whether no node has a place: the words or-ed up are 0, which looks at each of them without a branch.
-fn none_open(sets: &[u64; Node::MOST]) -> bool
-    requires { ⌜ length (now sets) ≡ 64 ⌝ }
-    ensures { λ r. ⌜ r ≡ allBelow 64 (λ i. eqb (getD (now (sets .entry)) i 0) 0) ⌝ }
+// Whether none of the first n nodes has a place: the words or-ed up are 0, which looks at each of them without a branch.
+fn none_open(sets: &[u64; Node::MOST], n: usize) -> bool
+    requires { ⌜ (length (now sets) ≡ 64) × (n ≤ 64) ⌝ }
+    ensures { λ r. ⌜ r ≡ allBelow n (λ i. eqb (getD (now (sets .entry)) i 0) 0) ⌝ }
 {
     let mut all: u64 = 0;
     let mut i = 0;
-    while i < Node::MOST {
+    while i < n {
         all = all | sets[i];
         i += 1;
     }
     all == 0
 }
 
-// The rounds, with L, H and the spots at hand: the first, and the further one where it struck something. Counts those that struck.
+// The rounds, with L, H and the spots at hand: the first, and the further one where it struck something, which asks the transfers only: window,
+// metres, clean and soiled jobs read the route, so what they leave they leave again. Counts those that struck.
 fn rounds(
     s: &[u8],
     at: Layout,
@@ -60,30 +57,22 @@ fn rounds(
     route: &[usize; Node::MOST],
     spots: &[usize; Node::MOST],
     l: &[i64; Node::MOST],
-    heads: &[u64; Node::MOST],
     h: &[usize; Node::MOST],
 ) -> usize
-    requires { ⌜ Ready (now s) at (now route) (pass .stops) (now old) 0 × Read (dayOf (now s)) (now route) (pass .stops) (now l) (now h)
-        × (pass .van .limit < 1099511627776) ⌝ }
-    requires { ⌜ (now new ≡ now old) × Spots (now route) (pass .stops) (now spots) × Walked (now route) (now heads) (now h) pass 0
-        × (pass .again ≡ false) ⌝ }
+    requires { ⌜ Ready (now s) at (now route) (pass .stops) (now old) 0 × Read (now s) at (now route) pass (now l) (now h) (now spots) ⌝ }
+    requires { ⌜ now new ≡ now old ⌝ }
     ensures { λ r. ⌜ Settles (pass .van) (dayOf (now (s .entry))) (take (pass .stops) (now (route .entry))) (now (old .entry)) r (now (new .exit)) ⌝ }
 {
-    round(s, at, pass, old, new, route, spots, l, heads, h);
+    round(s, at, pass, new, route, spots, l, h);
     let n = at.nodes;
     if same(old, new, n) {
         return 0;
     }
-    let first = *new;
-    let van = pass.van;
-    let further = Pass {
-        van: van,
-        stops: pass.stops,
-        highest: pass.highest,
-        again: true,
-    };
-    strike_jobs(s, at, further, &first, new, route, heads, h);
-    if same(&first, new, n) { 1 } else { 2 }
+    if strike_pairs(s, at, pass, new, route, h) {
+        2
+    } else {
+        1
+    }
 }
 
 // Settles the sets of a state in form, of which `new` is a copy at first: the number of rounds that struck something. Where no node has a place,
@@ -100,7 +89,8 @@ pub fn settle(
     requires { ⌜ Ready (now s) at (now route) stops (now old) 0 × (now new ≡ now old) × (van .limit < 1099511627776) ⌝ }
     ensures { λ r. ⌜ Settles van (dayOf (now (s .entry))) (take stops (now (route .entry))) (now (old .entry)) r (now (new .exit)) ⌝ }
 {
-    if none_open(old) {
+    let n = at.nodes;
+    if none_open(old, n) {
         return 0;
     }
     let mut l = [0i64; Node::MOST];
@@ -108,14 +98,11 @@ pub fn settle(
     let mut h = [0usize; Node::MOST];
     lasts(s, at, route, stops, &mut l);
     spots(route, stops, &mut spot);
-    loads(s, at, route, stops, &spot, &mut h);
-    let mut head = [0u64; Node::MOST];
-    heads(route, stops - 1, &mut head);
+    let peaks = loads(s, at, route, stops, &spot, &mut h);
     let pass = Pass {
         van: van,
         stops: stops,
-        highest: highest(&h, stops - 1),
-        again: false,
+        peaks: peaks,
     };
-    rounds(s, at, pass, old, new, route, &spot, &l, &head, &h)
+    rounds(s, at, pass, old, new, route, &spot, &l, &h)
 }

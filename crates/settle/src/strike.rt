@@ -1,206 +1,201 @@
 // One round of settling: what stays open against the places at its beginning.
 ghost use mathlib.Core.Path.{_≡_};
-ghost use mathlib.Core.Bool.{false, _||_};
-ghost use Prim.Native.Nat.{ℕ, _+_, _-_, _<_, _≤_};
-ghost use lib.Dec.{leb};
-ghost use lib.ListN.{getD, take, length};
+ghost use mathlib.Core.Bool.{true, not, _||_};
+ghost use Prim.Native.Nat.{_-_, _<_};
+ghost use lib.ListN.{take, length};
 ghost use Rattle.sheet.specs.Place.{Laid};
-ghost use Rattle.day.specs.Jobs.{jobIn};
+ghost use Rattle.day.specs.Tell.{jobIn, dayOf};
 ghost use Rattle.day.specs.Seen.{Placed};
-ghost use Rattle.day.specs.Tell.{dayOf};
-ghost use Rattle.along.specs.Route.{Route};
 ghost use Rattle.along.specs.Spots.{Spots, loadOf};
+ghost use Rattle.along.specs.Loads.{peak};
+ghost use Rattle.along.specs.Walks.{Kept, Legs};
 ghost use Rattle.along.specs.Sets.{placesIn, setsOf};
 ghost use Rattle.along.specs.Ready.{Ready};
-ghost use Rattle.rules.specs.Metres.{driven};
+ghost use Rattle.rules.specs.Time.{driven};
 ghost use Rattle.rules.specs.Settle.{round};
-ghost use Rattle.settle.specs.Round.{Kepts, Spotted, Named, standsAt, Walked, cleanLeaves, soiledLeaves, transferLeaves, jobLeaves, jobsLeave};
+ghost use Rattle.settle.specs.Round.{Kepts, standsAt, rideOf, nodeOf, loadRides, loadLeaves, twoEnds, pairLeaves, jobsLeave, sameSets};
 ghost use Rattle.settle.specs.Settles.{Read};
 use crate::places::Trial;
 use crate::places::legs_of;
 use crate::places::stand;
+use along::loads::Peaks;
+use along::walks::Partner;
 use along::walks::Ride;
 use along::walks::backward;
 use along::walks::forward;
+use along::walks::from_start;
 use along::walks::has_room;
+use along::walks::to_end;
 use rules::Job;
 use rules::Node;
 use rules::Van;
 use sheet::Layout;
 
-// What a pass over the places carries: the van, how many stops the route has, the most that is aboard on any leg, and whether a round has
-// been made before. Window, metres and clean and soiled jobs read the route only, so a further round asks only the transfers, which may have
-// lost their support.
+// What a pass over the places carries: the van, how many stops the route has, and the peaks of what is aboard and loaded.
 pub struct Pass {
     pub van: Van,
     pub stops: usize,
-    pub highest: usize,
-    pub again: bool,
+    pub peaks: Peaks,
 }
 
-// A transfer that is asked: its two nodes and its load.
-pub struct Trip {
-    pub from: usize,
-    pub to: usize,
-    pub load: usize,
-}
-
-// Whether a clean or a soiled load strikes nothing: it has been asked, or the fullest leg has room for it.
-fn spares(pass: Pass, load: usize) -> bool
-    requires { ⌜ (pass .highest < 1099511627776) × (load < 4294967296) ⌝ }
-    ensures { λ r. ⌜ r ≡ (pass .again || leb (pass .highest + load) (pass .van .capacity)) ⌝ }
+// A load as it rides in a pass.
+fn ride_of(pass: Pass, load: usize) -> Ride
+    requires { ⌜ 0 < pass .stops ⌝ }
+    ensures { λ r. ⌜ r ≡ rideOf pass load ⌝ }
 {
-    pass.again | has_room(pass.highest, load, pass.van.capacity)
-}
-
-// A clean job against the places of its node. A node with no place needs no walk.
-fn strike_clean(
-    node: usize,
-    load: usize,
-    pass: Pass,
-    new: &mut [u64; Node::MOST],
-    route: &[usize; Node::MOST],
-    heads: &[u64; Node::MOST],
-    h: &[usize; Node::MOST],
-)
-    requires { ⌜ (node < 64) × (length (now new) ≡ 64) × Walked (now route) (now heads) (now h) pass load ⌝ }
-    ensures { λ _. ⌜ Kepts (now (route .entry)) (pass .stops - 1) (cleanLeaves (now (route .entry)) (now (h .entry)) pass node load)
-        (now (new .entry)) (now (new .exit)) ⌝ }
-{
-    if spares(pass, load) {
-        return;
-    }
-    let w = new[node];
-    if w != 0 {
-        let ride = Ride::through(pass.van.capacity, load);
-        new[node] = forward(w, route, heads, h, pass.highest, pass.stops - 1, ride);
+    Ride {
+        legs: pass.stops - 1,
+        highest: pass.peaks.highest,
+        capacity: pass.van.capacity,
+        load: load,
     }
 }
 
-// A soiled job against the places of its node.
-fn strike_soiled(
-    node: usize,
-    load: usize,
-    pass: Pass,
-    new: &mut [u64; Node::MOST],
-    route: &[usize; Node::MOST],
-    heads: &[u64; Node::MOST],
-    h: &[usize; Node::MOST],
-)
-    requires { ⌜ (node < 64) × (length (now new) ≡ 64) × Walked (now route) (now heads) (now h) pass load ⌝ }
-    ensures { λ _. ⌜ Kepts (now (route .entry)) (pass .stops - 1) (soiledLeaves (now (route .entry)) (now (h .entry)) pass node load)
-        (now (new .entry)) (now (new .exit)) ⌝ }
-{
-    if spares(pass, load) {
-        return;
-    }
-    let w = new[node];
-    if w != 0 {
-        let ride = Ride::through(pass.van.capacity, load);
-        new[node] = backward(w, route, heads, h, pass.highest, pass.stops - 1, ride);
-    }
-}
-
-// A transfer against the places of its ends: each rides to where the other stands, or was open at the beginning.
-fn strike_transfer(
-    trip: Trip,
-    pass: Pass,
-    old: &[u64; Node::MOST],
-    new: &mut [u64; Node::MOST],
-    route: &[usize; Node::MOST],
-    heads: &[u64; Node::MOST],
-    h: &[usize; Node::MOST],
-)
-    requires { ⌜ (trip .from < 64) × (trip .to < 64) × (length (now old) ≡ 64) × (length (now new) ≡ 64)
-        × Walked (now route) (now heads) (now h) pass (trip .load) ⌝ }
-    ensures { λ _. ⌜ Kepts (now (route .entry)) (pass .stops - 1)
-        (transferLeaves (now (old .entry)) (now (route .entry)) (now (h .entry)) pass trip) (now (new .entry)) (now (new .exit)) ⌝ }
-{
-    let from = trip.from;
-    let to = trip.to;
-    let w = new[from];
-    if w != 0 {
-        let there = Ride::between(pass.van.capacity, trip.load, to, old[to]);
-        new[from] = backward(w, route, heads, h, pass.highest, pass.stops - 1, there);
-    }
-    let v = new[to];
-    if v != 0 {
-        let here = Ride::between(pass.van.capacity, trip.load, from, old[from]);
-        new[to] = forward(v, route, heads, h, pass.highest, pass.stops - 1, here);
-    }
-}
-
-// One job against the places of its nodes.
-fn strike_job(
-    job: Job,
-    pass: Pass,
-    old: &[u64; Node::MOST],
-    new: &mut [u64; Node::MOST],
-    route: &[usize; Node::MOST],
-    heads: &[u64; Node::MOST],
-    h: &[usize; Node::MOST],
-)
-    requires { ⌜ Placed job × (length (now old) ≡ 64) × (length (now new) ≡ 64) × Walked (now route) (now heads) (now h) pass (loadOf job) ⌝ }
-    ensures { λ _. ⌜ Kepts (now (route .entry)) (pass .stops - 1) (jobLeaves (now (old .entry)) (now (route .entry)) (now (h .entry)) pass job)
-        (now (new .entry)) (now (new .exit)) ⌝ }
+// The node of a clean or a soiled job; the first of a transfer.
+fn node_of(job: Job) -> usize
+    ensures { λ r. ⌜ r ≡ nodeOf job ⌝ }
 {
     match job {
-        Job::Clean { node, load } => strike_clean(node, load, pass, new, route, heads, h),
-        Job::Soiled { node, load } => strike_soiled(node, load, pass, new, route, heads, h),
-        Job::Transfer { from, to, load } => {
-            let trip = Trip {
-                from: from,
-                to: to,
-                load: load,
-            };
-            strike_transfer(trip, pass, old, new, route, heads, h);
-        },
+        Job::Clean { node, load: _ } => node,
+        Job::Soiled { node, load: _ } => node,
+        Job::Transfer {
+            from,
+            to: _,
+            load: _,
+        } => from,
     }
 }
 
-// All jobs against the places of their nodes.
-pub fn strike_jobs(
+// What a clean or a soiled job leaves of the places of its node: the one rides to it from the start, the other from it to the end.
+fn left_of(
+    job: Job,
+    word: u64,
+    pass: Pass,
+    route: &[usize; Node::MOST],
+    h: &[usize; Node::MOST],
+) -> u64
+    requires { ⌜ (0 < pass .stops) × Legs (now route) (now h) (rideOf pass (loadOf job)) ⌝ }
+    ensures { λ r. ⌜ Kept (now (route .entry)) 0 (pass .stops - 1) (loadRides (now (h .entry)) pass job) word r ⌝ }
+{
+    match job {
+        Job::Clean { node: _, load } => from_start(word, route, h, ride_of(pass, load)),
+        Job::Soiled { node: _, load } => to_end(word, route, h, ride_of(pass, load)),
+        Job::Transfer {
+            from: _,
+            to: _,
+            load: _,
+        } => word,
+    }
+}
+
+// The clean and the soiled jobs against the places of their nodes. Where the heaviest load fits on the fullest leg, none of them strikes.
+fn strike_loads(
     s: &[u8],
     at: Layout,
     pass: Pass,
-    old: &[u64; Node::MOST],
     new: &mut [u64; Node::MOST],
     route: &[usize; Node::MOST],
-    heads: &[u64; Node::MOST],
     h: &[usize; Node::MOST],
 )
-    requires { ⌜ Laid (now s) at × (length (now old) ≡ 64) × (length (now new) ≡ 64) × Walked (now route) (now heads) (now h) pass 0 ⌝ }
-    ensures { λ _. ⌜ Kepts (now (route .entry)) (pass .stops - 1)
-        (jobsLeave (jobLeaves (now (old .entry)) (now (route .entry)) (now (h .entry)) pass) (jobIn (now (s .entry))) (at .jobs))
+    requires { ⌜ Laid (now s) at × (0 < pass .stops) × (length (now new) ≡ 64) × Legs (now route) (now h) (rideOf pass 0) ⌝ }
+    requires { ⌜ pass .peaks .heaviest ≡ peak (λ k. loadOf (jobIn (now s) k)) (at .jobs) ⌝ }
+    ensures { λ _. ⌜ Kepts (now (route .entry)) (pass .stops - 1) (jobsLeave (loadLeaves (now (h .entry)) pass) (jobIn (now (s .entry))) (at .jobs))
         (now (new .entry)) (now (new .exit)) ⌝ }
 {
+    if has_room(pass.peaks.highest, pass.peaks.heaviest, pass.van.capacity) {
+        return;
+    }
     let m = at.jobs;
     let mut j = 0;
     while j < m {
         let job = day::jobs::job(s, at, j);
-        strike_job(job, pass, old, new, route, heads, h);
+        let x = node_of(job);
+        let w = new[x];
+        new[x] = left_of(job, w, pass, route, h);
         j += 1;
     }
 }
 
-// Window and metres against the places of every node, in a copy of them.
+// A transfer against the places of its two ends: each rides to where the other stands or is open. Whether it strikes something, or `struck`.
+fn strike_pair(
+    job: Job,
+    struck: bool,
+    pass: Pass,
+    new: &mut [u64; Node::MOST],
+    route: &[usize; Node::MOST],
+    h: &[usize; Node::MOST],
+) -> bool
+    requires { ⌜ Placed job × (twoEnds job ≡ true) × (0 < pass .stops) ⌝ }
+    requires { ⌜ (length (now new) ≡ 64) × Legs (now route) (now h) (rideOf pass (loadOf job)) ⌝ }
+    ensures { λ r. ⌜ Kepts (now (route .entry)) (pass .stops - 1) (pairLeaves (now (new .entry)) (now (route .entry)) (now (h .entry)) pass job)
+        (now (new .entry)) (now (new .exit)) × (r ≡ (struck || not (sameSets (now (new .entry)) (now (new .exit))))) ⌝ }
+{
+    match job {
+        Job::Clean { node: _, load: _ } => struck,
+        Job::Soiled { node: _, load: _ } => struck,
+        Job::Transfer { from, to, load } => {
+            let ride = ride_of(pass, load);
+            let a = new[from];
+            let b = new[to];
+            let there = Partner {
+                node: to,
+                places: b,
+            };
+            let c = backward(a, route, h, ride, there);
+            new[from] = c;
+            let first = struck | (a != c);
+            let here = Partner {
+                node: from,
+                places: a,
+            };
+            let d = forward(b, route, h, ride, here);
+            new[to] = d;
+            first | (b != d)
+        },
+    }
+}
+
+// The transfers against the places of their ends, and whether they strike something. No two of them share a node, so the words of each are those
+// of the beginning when its turn comes.
+pub fn strike_pairs(
+    s: &[u8],
+    at: Layout,
+    pass: Pass,
+    new: &mut [u64; Node::MOST],
+    route: &[usize; Node::MOST],
+    h: &[usize; Node::MOST],
+) -> bool
+    requires { ⌜ Ready (now s) at (now route) (pass .stops) (now new) 0 × Legs (now route) (now h) (rideOf pass 0) ⌝ }
+    ensures { λ r. ⌜ Kepts (now (route .entry)) (pass .stops - 1)
+        (jobsLeave (pairLeaves (now (new .entry)) (now (route .entry)) (now (h .entry)) pass) (jobIn (now (s .entry))) (at .jobs))
+        (now (new .entry)) (now (new .exit)) × (r ≡ not (sameSets (now (new .entry)) (now (new .exit)))) ⌝ }
+{
+    let m = at.jobs;
+    let mut struck = false;
+    let mut j = 0;
+    while j < m {
+        let job = day::jobs::job(s, at, j);
+        struck = strike_pair(job, struck, pass, new, route, h);
+        j += 1;
+    }
+    struck
+}
+
+// Window and metres against the places of every node.
 fn stand_all(
     s: &[u8],
     at: Layout,
     pass: Pass,
-    old: &[u64; Node::MOST],
     new: &mut [u64; Node::MOST],
     route: &[usize; Node::MOST],
     spots: &[usize; Node::MOST],
     l: &[i64; Node::MOST],
 )
-    requires { ⌜ Laid (now s) at × (length (now old) ≡ 64) × (now new ≡ now old) × ((y : ℕ) → at .nodes ≤ y → getD (now old) y 0 ≡ 0)
-        × ((y : ℕ) → Named (now route) (now spots) (pass .stops - 1) (getD (now old) y 0)) ⌝ }
-    requires { ⌜ Route (at .nodes) (now route) (pass .stops) × Spotted (now route) (now spots) (pass .stops - 1)
-        × (pass .van .limit < 1099511627776) ⌝ }
+    requires { ⌜ Ready (now s) at (now route) (pass .stops) (now new) 0 × Spots (now route) (pass .stops) (now spots) ⌝ }
+    requires { ⌜ pass .van .limit < 1099511627776 ⌝ }
     ensures { λ _. ⌜ Kepts (now (route .entry)) (pass .stops - 1)
         (standsAt (dayOf (now (s .entry))) (pass .van .limit) (now (route .entry)) (now (l .entry))
-        (driven (dayOf (now (s .entry))) (take (pass .stops) (now (route .entry))))) (now (old .entry)) (now (new .exit)) ⌝ }
+        (driven (dayOf (now (s .entry))) (take (pass .stops) (now (route .entry))))) (now (new .entry)) (now (new .exit)) ⌝ }
 {
     let mut leave = [0usize; Node::MOST];
     let mut most = [0usize; Node::MOST];
@@ -209,7 +204,7 @@ fn stand_all(
     let n = at.nodes;
     let mut x = 0;
     while x < n {
-        let w = old[x];
+        let w = new[x];
         let trial = Trial {
             node: x,
             places: w,
@@ -220,26 +215,22 @@ fn stand_all(
     }
 }
 
-// The first round, in a copy of the words.
+// The first round. The transfers come first, while every word is that of the beginning: no other test asks of the places of a partner.
 pub fn round(
     s: &[u8],
     at: Layout,
     pass: Pass,
-    old: &[u64; Node::MOST],
     new: &mut [u64; Node::MOST],
     route: &[usize; Node::MOST],
     spots: &[usize; Node::MOST],
     l: &[i64; Node::MOST],
-    heads: &[u64; Node::MOST],
     h: &[usize; Node::MOST],
 )
-    requires { ⌜ Ready (now s) at (now route) (pass .stops) (now old) 0 × Read (dayOf (now s)) (now route) (pass .stops) (now l) (now h)
-        × (pass .van .limit < 1099511627776) ⌝ }
-    requires { ⌜ (now new ≡ now old) × Spots (now route) (pass .stops) (now spots) × Walked (now route) (now heads) (now h) pass 0
-        × (pass .again ≡ false) ⌝ }
+    requires { ⌜ Ready (now s) at (now route) (pass .stops) (now new) 0 × Read (now s) at (now route) pass (now l) (now h) (now spots) ⌝ }
     ensures { λ _. ⌜ now (new .exit)
-        ≡ setsOf (round (pass .van) (dayOf (now (s .entry))) (take (pass .stops) (now (route .entry))) (placesIn (now (old .entry)))) ⌝ }
+        ≡ setsOf (round (pass .van) (dayOf (now (s .entry))) (take (pass .stops) (now (route .entry))) (placesIn (now (new .entry)))) ⌝ }
 {
-    stand_all(s, at, pass, old, new, route, spots, l);
-    strike_jobs(s, at, pass, old, new, route, heads, h);
+    strike_pairs(s, at, pass, new, route, h);
+    stand_all(s, at, pass, new, route, spots, l);
+    strike_loads(s, at, pass, new, route, h);
 }

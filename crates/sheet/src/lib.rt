@@ -2,13 +2,11 @@
 ghost use mathlib.Core.Path.{_≡_};
 ghost use mathlib.Core.Bool.{cond};
 ghost use Prim.Native.Nat.{_+_, _*_, _<_, _≤_};
-ghost use Rattle.laws.specs.Below.{allBelow};
+ghost use Rattle.laws.specs.Basic.{allBelow, orElse};
 ghost use Rattle.rules.specs.Day.{isInner};
-ghost use Rattle.sheet.specs.Word.{nodeWords, jobWords, stepWords, words, wordAt, Reads};
-ghost use Rattle.sheet.specs.Rule.{limitsOk, nodeOk, jobOk, nodeAtOk, jobAtOk, entryOk};
-ghost use Rattle.sheet.specs.Section.{vansAt, vansFrom, nodesAt, jobsAt, stepsAt, nOf};
-ghost use Rattle.sheet.specs.Section.{headRefusal, limitsRefusal, nodesRefusal, jobsRefusal, tableRefusal, stepsRefusal};
-ghost use Rattle.sheet.specs.Section.{laterRefusal, readRefusal};
+ghost use Rattle.sheet.specs.Word.{size, words, wordAt, Reads, limitsOk, nodeOk, secondOk, jobOk, nodeAtOk, jobAtOk, entryOk};
+ghost use Rattle.sheet.specs.Section.{vansAt, nodesAt, jobsAt, stepsAt, nOf};
+ghost use Rattle.sheet.specs.Section.{headRefusal, limitsRefusal, nodesRefusal, jobsRefusal, tableRefusal, stepsRefusal, laterRefusal, readRefusal};
 ghost use Rattle.sheet.specs.Place.{noPart, partOf, Stands, refused, found};
 use rules::Job;
 use rules::Node;
@@ -39,7 +37,7 @@ impl Layout {
     pub const STEP: usize = 3;
 }
 
-// What reading a sheet hands on: the number that refuses it and a layout of zeros, or 0 and its layout.
+// What reading a sheet hands on: the number that refuses it, or 0, and its layout, all zeros where its sections are refused.
 pub struct Found {
     pub answer: usize,
     pub layout: Layout,
@@ -65,11 +63,18 @@ impl Found {
         }
     }
 
-    // The same where one more test passes, and refused by its number where it fails.
+    // The same where one more test passes, and refused by its number where it fails. The layout stays in its place.
     pub fn judged(self, ok: bool, number: usize) -> Found
-        ensures { λ r. ⌜ r ≡ cond ok self (refused number) ⌝ }
+        ensures { λ r. ⌜ r ≡ record { answer = cond ok (self .answer) number; layout = self .layout } ⌝ }
     {
-        if ok { self } else { Found::refused(number) }
+        if ok {
+            return self;
+        }
+        let layout = self.layout;
+        Found {
+            answer: number,
+            layout: layout,
+        }
     }
 }
 
@@ -168,19 +173,26 @@ fn is_inner(n: u32, x: u32) -> bool
     (1 <= x) & (x < n - 1)
 }
 
+// What a job says second: a transfer its other node, the kinds 1 and 2 nothing. One branch, which costs less than both tests.
+fn second_ok(n: u32, kind: u32, a: u32, b: u32) -> bool
+    requires { ⌜ 2 ≤ n ⌝ }
+    ensures { λ r. ⌜ r ≡ secondOk n kind a b ⌝ }
+{
+    if kind == 3 {
+        return is_inner(n, b) & (a != b);
+    }
+    ((kind == 1) | (kind == 2)) & (b == 0)
+}
+
 fn job_ok(n: u32, kind: u32, a: u32, b: u32, load: u32) -> bool
     requires { ⌜ 2 ≤ n ⌝ }
     ensures { λ r. ⌜ r ≡ jobOk n kind a b load ⌝ }
 {
-    let near = is_inner(n, a);
-    let far = is_inner(n, b);
-    near
-        & ((1 <= load) & (load <= 1000))
-        & ((kind == 3) & (far & (a != b)) | ((kind == 1) | (kind == 2)) & (b == 0))
+    is_inner(n, a) & ((1 <= load) & (load <= 1000)) & second_ok(n, kind, a, b)
 }
 
 fn node_at_ok(s: &[u8], from: usize, i: usize) -> bool
-    requires { ⌜ from + nodeWords * i + nodeWords ≤ words (now s) ⌝ }
+    requires { ⌜ from + size.node * i + size.node ≤ words (now s) ⌝ }
     ensures { λ r. ⌜ r ≡ nodeAtOk (now (s .entry)) from i ⌝ }
 {
     let p = from + Layout::NODE * i;
@@ -188,7 +200,7 @@ fn node_at_ok(s: &[u8], from: usize, i: usize) -> bool
 }
 
 fn nodes_ok(s: &[u8], from: usize, n: usize) -> bool
-    requires { ⌜ from + nodeWords * n ≤ words (now s) ⌝ }
+    requires { ⌜ from + size.node * n ≤ words (now s) ⌝ }
     ensures { λ r. ⌜ r ≡ allBelow n (nodeAtOk (now (s .entry)) from) ⌝ }
 {
     let mut i = 0;
@@ -202,7 +214,7 @@ fn nodes_ok(s: &[u8], from: usize, n: usize) -> bool
 }
 
 fn job_at_ok(s: &[u8], n: u32, from: usize, i: usize) -> bool
-    requires { ⌜ (2 ≤ n) × (from + jobWords * i + jobWords ≤ words (now s)) ⌝ }
+    requires { ⌜ (2 ≤ n) × (from + size.job * i + size.job ≤ words (now s)) ⌝ }
     ensures { λ r. ⌜ r ≡ jobAtOk (now (s .entry)) n from i ⌝ }
 {
     let p = from + Layout::JOB * i;
@@ -216,7 +228,7 @@ fn job_at_ok(s: &[u8], n: u32, from: usize, i: usize) -> bool
 }
 
 fn jobs_ok(s: &[u8], n: u32, from: usize, m: usize) -> bool
-    requires { ⌜ (2 ≤ n) × (from + jobWords * m ≤ words (now s)) ⌝ }
+    requires { ⌜ (2 ≤ n) × (from + size.job * m ≤ words (now s)) ⌝ }
     ensures { λ r. ⌜ r ≡ allBelow m (jobAtOk (now (s .entry)) n from) ⌝ }
 {
     let mut i = 0;
@@ -298,7 +310,7 @@ fn limits(s: &[u8]) -> Part
 // Section 2.
 fn nodes(s: &[u8], at: usize) -> Part
     requires { ⌜ at ≡ nodesAt (now s) ⌝ }
-    ensures { λ r. ⌜ r ≡ partOf (now (s .entry)) (nodesAt (now (s .entry))) nodeWords (nodesRefusal (now (s .entry))) ⌝ }
+    ensures { λ r. ⌜ r ≡ partOf (now (s .entry)) (nodesAt (now (s .entry))) size.node (nodesRefusal (now (s .entry))) ⌝ }
 {
     let p = head(s, at, 2, Node::MOST, Layout::NODE);
     if p.answer != 0 {
@@ -311,7 +323,7 @@ fn nodes(s: &[u8], at: usize) -> Part
 // Section 3, of n nodes.
 fn jobs(s: &[u8], at: usize, n: usize) -> Part
     requires { ⌜ (at ≡ jobsAt (now s)) × (n ≡ nOf (now s)) × (2 ≤ n) × (n ≤ 64) ⌝ }
-    ensures { λ r. ⌜ r ≡ partOf (now (s .entry)) (jobsAt (now (s .entry))) jobWords (jobsRefusal (now (s .entry))) ⌝ }
+    ensures { λ r. ⌜ r ≡ partOf (now (s .entry)) (jobsAt (now (s .entry))) size.job (jobsRefusal (now (s .entry))) ⌝ }
 {
     let p = head(s, at, 0, Job::MOST, Layout::JOB);
     if p.answer != 0 {
@@ -338,7 +350,7 @@ fn table(s: &[u8], at: usize, n: usize) -> Part
 // Section 6, behind which nothing is left over.
 fn steps(s: &[u8], at: usize) -> Part
     requires { ⌜ (at ≡ stepsAt (now s)) × (at < 90000) ⌝ }
-    ensures { λ r. ⌜ r ≡ partOf (now (s .entry)) (stepsAt (now (s .entry))) stepWords (stepsRefusal (now (s .entry))) ⌝ }
+    ensures { λ r. ⌜ r ≡ partOf (now (s .entry)) (stepsAt (now (s .entry))) size.step (stepsRefusal (now (s .entry))) ⌝ }
 {
     let p = head(s, at, 0, Step::MOST, Layout::STEP);
     if p.answer != 0 {
@@ -350,9 +362,9 @@ fn steps(s: &[u8], at: usize) -> Part
 
 // Sections 4 to 6 of a sheet whose first three are fine.
 fn later(s: &[u8], van: usize, nodes: Part, jobs: Part) -> Found
-    requires { ⌜ (van ≡ vansFrom) × (nodesRefusal (now s) ≡ 0) × (jobsRefusal (now s) ≡ 0) ⌝ }
-    requires { ⌜ Stands (now s) (nodesAt (now s)) nodeWords nodes × Stands (now s) (jobsAt (now s)) jobWords jobs ⌝ }
-    ensures { λ r. ⌜ r ≡ found laterRefusal (now (s .entry)) ⌝ }
+    requires { ⌜ (van ≡ vansAt + 1) × (nodesRefusal (now s) ≡ 0) × (jobsRefusal (now s) ≡ 0) × (readRefusal (now s) ≡ laterRefusal (now s)) ⌝ }
+    requires { ⌜ Stands (now s) (nodesAt (now s)) size.node nodes × Stands (now s) (jobsAt (now s)) size.job jobs ⌝ }
+    ensures { λ r. ⌜ r ≡ found readRefusal (now (s .entry)) ⌝ }
 {
     let n = nodes.count;
     let seconds = table(s, jobs.end, n);
@@ -383,6 +395,20 @@ fn later(s: &[u8], van: usize, nodes: Part, jobs: Part) -> Found
     }
 }
 
+// Sections 3 to 6 of a sheet whose first two are fine. Each of these functions goes on to the next, and is no long list of calls: one that
+// stands behind many tests the compiler takes for rare and leaves a call, and then every number goes through memory.
+fn from_jobs(s: &[u8], van: usize, nodes: Part) -> Found
+    requires { ⌜ (van ≡ vansAt + 1) × (nodesRefusal (now s) ≡ 0) × Stands (now s) (nodesAt (now s)) size.node nodes ⌝ }
+    requires { ⌜ readRefusal (now s) ≡ orElse (jobsRefusal (now s)) (laterRefusal (now s)) ⌝ }
+    ensures { λ r. ⌜ r ≡ found readRefusal (now (s .entry)) ⌝ }
+{
+    let jobs = jobs(s, nodes.end, nodes.count);
+    if jobs.answer != 0 {
+        return Found::refused(jobs.answer);
+    }
+    later(s, van, nodes, jobs)
+}
+
 // Reads the sections: the length, each section in order, what is left over; and hands on where they stand.
 pub fn sections(s: &[u8]) -> Found
     ensures { λ r. ⌜ r ≡ found readRefusal (now (s .entry)) ⌝ }
@@ -398,9 +424,5 @@ pub fn sections(s: &[u8]) -> Found
     if nodes.answer != 0 {
         return Found::refused(nodes.answer);
     }
-    let jobs = jobs(s, nodes.end, nodes.count);
-    if jobs.answer != 0 {
-        return Found::refused(jobs.answer);
-    }
-    later(s, vans.from, nodes, jobs)
+    from_jobs(s, vans.from, nodes)
 }

@@ -6,17 +6,16 @@ use mathlib.Core.List.{List, [], _∷_, _++_}
 use native.Mathlib.Numerals.{add-one}
 use lib.Dec.{eqb}
 use lib.ListN.{length, take, drop}
-use Rattle.laws.specs.Logic.{decided}
-use Rattle.laws.specs.Lists.{mem}
+use Rattle.laws.proofs.Logic.{decided}
+use Rattle.laws.specs.Basic.{mem}
 use Rattle.bits.specs.Places.{without}
-use Rattle.bits.specs.Members.{false-true}
+use Rattle.bits.proofs.Members.{false-true}
 use Rattle.board.specs.Route.{indexOf}
 use Rattle.board.specs.Board.{Board, routeOf, onRoute, setOf, openAt}
-use Rattle.board.specs.Change.{putSet, placed, marked}
-use Rattle.board.specs.FormLaws.{Formed, Wide}
-use Rattle.board.specs.Keep.{Splits}
-use Rattle.board.specs.Inverse.{placed-route}
-use Rattle.board.specs.Places.{open-closed, open-excluded, open-placed, mark-marked}
+use Rattle.board.specs.Change.{putSet, placedAfter, marked}
+use Rattle.board.specs.Held.{FormedBoard, Wide, Splits}
+use Rattle.board.proofs.Inverse.{placed-route}
+use Rattle.board.proofs.PlaceLaws.{open-closed, open-excluded, open-placed, mark-marked}
 use Rattle.rules.specs.Plan.{Plan}
 use Rattle.rules.specs.Steps.{putAfter}
 use Rattle.rules.specs.Steps as step
@@ -33,8 +32,8 @@ put-after p x [] h = absurd (false-true h)
 put-after p x (c ∷ l) h = decided (eqb c p) (λ e. rw e refl) (λ e. rw e (ap (λ (t : List ℕ). c ∷ t) (put-after p x l (rw e at h))))
 
 -- step 1: x placed after p
-pub placed-stands : (n : ℕ) (b : Board) (p x : ℕ) → n ≤ 64 → Wide b → Formed n b → Splits n b p x → planOf (placed b p x) ≡ step.placed p x (planOf b)
-unfolding placed onRoute
+pub placed-stands : (n : ℕ) (b : Board) (p x : ℕ) → n ≤ 64 → Wide b → FormedBoard n b → Splits n b p x → planOf (placedAfter b p x) ≡ step.placed p x (planOf b)
+unfolding placedAfter onRoute
 placed-stands n b p x small wide form c =
     plan-ext _ _ (placed-route n b p x small wide form c ∙ ap (λ (k : ℕ). take k (routeOf b) ++ x ∷ drop k (routeOf b)) (add-one (indexOf p (routeOf b))) ∙ put-after p x (routeOf b) (c .on))
     (open-placed n b p x small wide form c) (λ y. refl)

@@ -8,19 +8,19 @@ use lib.Dec.{T, ltb}
 use lib.ListN.{length, getD, take, drop, length-take}
 use lib.Seq.{getD-take}
 use borrow.Author.Tests.{eqb-true, ltb-true, ltb-false, not-true}
-use Rattle.laws.specs.Logic.{T→true, true→T, false→N, decided, and-true}
-use Rattle.laws.specs.Lists.{mem}
+use Rattle.laws.proofs.Logic.{T→true, true→T, false→N, decided, and-true}
+use Rattle.laws.specs.Basic.{mem}
 use Rattle.bits.specs.Places.{has}
-use Rattle.bits.specs.Members.{has-none, has-low, within-has, false-true}
+use Rattle.bits.proofs.Members.{has-none, has-low, within-has, false-true}
 use Rattle.rules.specs.Day.{isInner}
 use Rattle.rules.proofs.Inner.{is-inner-in}
 use Rattle.board.specs.Board.{Board, routeOf, onRoute, legsOf, setOf, openAt}
 use Rattle.board.specs.Form.{setOk}
-use Rattle.board.specs.RouteLaws.{mem-at, mem-none}
-use Rattle.board.specs.Held.{Words}
-use Rattle.board.specs.FormLaws as board
-use Rattle.board.specs.Keep.{mark-inner}
-use Rattle.board.specs.Places.{open-past}
+use Rattle.board.proofs.RouteLaws.{entry-mem, mem-none}
+use Rattle.board.specs.Held.{Words, FormedBoard, Wide}
+use Rattle.board.proofs.FormLaws as board
+use Rattle.board.proofs.Keep.{mark-inner}
+use Rattle.board.proofs.PlaceLaws.{open-past}
 use Rattle.rules.specs.Day.{Day}
 use Rattle.rules.specs.Leg.{legStops}
 use Rattle.rules.specs.Rounds.{Distinct, none, more}
@@ -42,14 +42,14 @@ take-first zero l h g = absurd (omega arith)
 take-first (suc k) [] h g = absurd (omega arith)
 take-first (suc k) (x ∷ l) h g = ap (λ (m : ℕ). x ∷ take m l) (let e : k ≡ suc k - 1 = omega arith in e)
 
-module _ (d : Day) (b : Board) (small : d .n ≤ 64) (wide : board.Wide b) (words : Words b) (form : board.Formed (d .n) b) where
+module _ (d : Day) (b : Board) (small : d .n ≤ 64) (wide : Wide b) (words : Words b) (form : FormedBoard (d .n) b) where
   long : length (routeOf b) ≡ b .stops
   long = board.route-long (d .n) b small wide (form .route)
 
   at : (i : ℕ) → i < b .stops → getD (routeOf b) i 0 ≡ getD (b .route) i 0
   at i h = board.route-at (d .n) b small wide (form .route) i h
 
-  -- ---- a node with an open place: it is isInner and off the route, and its places are legs
+  -- ---- a node with an open place: it is inner and off the route, and its places are legs
 
   near : (y q : ℕ) → T (openAt b y q) → y < 64
   near y q t = decided (ltb y 64) (ltb-true y 64) (λ e. absurd (false-true (sym (open-past b y q (omega (arith, wide .sets, ltb-false y 64 e))) ∙ T→true (openAt b y q) t)))
@@ -61,7 +61,7 @@ module _ (d : Day) (b : Board) (small : d .n ≤ 64) (wide : board.Wide b) (word
       let yes = T→true (has (setOf b y) q) t in
       let f = board.leg-at (d .n) b small wide (form .route) q (within-has (setOf b y) (legsOf b) (board.set-within (d .n) b small wide form y (near y q t)) q (has-low (setOf b y) q (words .fits y (near y q t)) yes) yes) in
       subst (λ (l : List ℕ). T (mem q l)) (sym (leg-stops (routeOf b)))
-      (true→T _ (mem-at q (f .0) (take (length (routeOf b) - 1) (routeOf b)) (omega (arith, length-take (length (routeOf b) - 1) (routeOf b), long, f .1))
+      (true→T _ (entry-mem q (f .0) (take (length (routeOf b) - 1) (routeOf b)) (omega (arith, length-take (length (routeOf b) - 1) (routeOf b), long, f .1))
       (getD-take (length (routeOf b) - 1) (routeOf b) (f .0) 0 (omega (arith, long, f .1)) ∙ at (f .0) (omega (arith, f .1)) ∙ f .2)))
 
   open-node : (y q : ℕ) → T (openAt b y q) → (isInner (d .n) y ≡ true) × (onRoute b y ≡ false)

@@ -1,22 +1,7 @@
--- What a reader must believe: Trail (records, and the names of their kinds), Refusals (why each step is refused), Undo (what fits, and what undoing
--- gives), Steps (what each step gives: answer, rounds, state and trail), Run (accepted steps one after another).
--- Their laws: TrailLaws, UndoLaws, UndoWords, StepLaws. Small: what one record stands for, and undoing inverts it. Spells: a stretch of the trail undone.
--- Since: what holds since a level was opened. The theorems: StepBack (stepping back restores the state; every accepted step keeps the form),
--- Bound (from fresh at most n(n - 2) records), Never (so with that room no step is refused for its room, and none for a misfit). Examples: small cases, computed.
+-- Trail: records, and the names of their kinds. Refusals: why each step is refused. Undo: what fits, and what undoing gives.
+-- Steps: what each step gives: answer, rounds, state and trail. For the theorems: Run (accepted steps one after another).
 pub mod Trail
 pub mod Refusals
 pub mod Undo
 pub mod Steps
 pub mod Run
-pub mod TrailLaws
-pub mod UndoLaws
-pub mod StepLaws
-pub mod Small
-pub mod UndoWords
-pub mod Spells
-pub mod Since
-pub mod StepBack
-pub mod Bound
-pub mod Never
-pub mod Still
-pub mod Examples

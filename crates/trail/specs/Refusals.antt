@@ -2,32 +2,32 @@
 use mathlib.Core.Bool.{Bool, not, _&&_, _||_}
 use Prim.Native.Nat.{ℕ}
 use lib.Dec.{eqb, ltb}
-use Rattle.laws.specs.Choice.{orElse, unless}
+use Rattle.laws.specs.Basic.{orElse, unless}
 use Rattle.bits.specs.Places.{has}
-use Rattle.rules.specs.Refusal.{NODE, PLACED, UNPLACED, SHUT, OWED, ROOM}
+use Rattle.rules.specs.Numbers.{refusal}
 use Rattle.rules.specs.Day.{isInner}
 use Rattle.board.specs.Board.{Board, onRoute, setOf, openAt, legNode}
 
 -- steps 1 and 2: x and p are nodes for it, x off the route, p on it, the place open, room for one record
 unfoldable pub placeRefusal : ℕ → Board → ℕ → ℕ → ℕ → ℕ → ℕ
 placeRefusal n b records room p x =
-    orElse (unless (isInner n x && legNode n p) NODE)
-    (orElse (unless (not (onRoute b x)) PLACED)
-    (orElse (unless (onRoute b p) UNPLACED)
-    (orElse (unless (openAt b x p) SHUT)
-    (unless (ltb records room) ROOM))))
+    orElse (unless (isInner n x && legNode n p) refusal.NODE)
+    (orElse (unless (not (onRoute b x)) refusal.PLACED)
+    (orElse (unless (onRoute b p) refusal.UNPLACED)
+    (orElse (unless (openAt b x p) refusal.SHUT)
+    (unless (ltb records room) refusal.ROOM))))
 
 -- step 3: x a node for it, off the route, not owed, room for one record if something closes
 unfoldable pub excludeRefusal : ℕ → Board → ℕ → ℕ → Bool → ℕ → ℕ
 excludeRefusal n b records room owed x =
-    orElse (unless (isInner n x) NODE)
-    (orElse (unless (not (onRoute b x)) PLACED)
-    (orElse (unless (not owed) OWED)
-    (unless (eqb (setOf b x) 0 || ltb records room) ROOM)))
+    orElse (unless (isInner n x) refusal.NODE)
+    (orElse (unless (not (onRoute b x)) refusal.PLACED)
+    (orElse (unless (not owed) refusal.OWED)
+    (unless (eqb (setOf b x) 0 || ltb records room) refusal.ROOM)))
 
 -- step 4: x a node for it, off the route, room for one record if it marks
 unfoldable pub requireRefusal : ℕ → Board → ℕ → ℕ → ℕ → ℕ
 requireRefusal n b records room x =
-    orElse (unless (isInner n x) NODE)
-    (orElse (unless (not (onRoute b x)) PLACED)
-    (unless (has (b .marks) x || ltb records room) ROOM))
+    orElse (unless (isInner n x) refusal.NODE)
+    (orElse (unless (not (onRoute b x)) refusal.PLACED)
+    (unless (has (b .marks) x || ltb records room) refusal.ROOM))

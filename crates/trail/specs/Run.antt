@@ -25,9 +25,9 @@ pub data Move (n : ℕ) (s : State) (t : List ℕ) (r : State) (u : List ℕ) : 
   back : {k : ℕ} → backStep n s t ≡ acted 0 k r u → Move n s t r u
 
 -- accepted steps that leave more than d levels open throughout
-pub data Run (n d : ℕ) (s : State) (t : List ℕ) : State → List ℕ → Type 0 where
-  none : Run n d s t s t
-  more : {r : State} {u : List ℕ} {q : State} {v : List ℕ} → Run n d s t r u → Move n r u q v → d < q .depth → Run n d s t q v
+pub data RunAbove (n d : ℕ) (s : State) (t : List ℕ) : State → List ℕ → Type 0 where
+  none : RunAbove n d s t s t
+  more : {r : State} {u : List ℕ} {q : State} {v : List ℕ} → RunAbove n d s t r u → Move n r u q v → d < q .depth → RunAbove n d s t q v
 
 -- any accepted steps
 pub data Runs (n : ℕ) (s : State) (t : List ℕ) : State → List ℕ → Type 0 where

@@ -4,14 +4,14 @@ use mathlib.Core.List.{List}
 use Prim.Native.Nat.{ℕ, _+_, _-_}
 use lib.ListN.{getD, set}
 use lib.Dec.{eqb, leb, ltb}
-use Rattle.laws.specs.Choice.{orElse, unless}
+use Rattle.laws.specs.Basic.{orElse, unless}
 use Rattle.bits.specs.Places.{has, without}
-use Rattle.rules.specs.Refusal.{ROOM, DEPTH, MISFIT}
+use Rattle.rules.specs.Numbers.{refusal}
 use Rattle.board.specs.Board.{Board, board, stateOf, stateWith, boardOf, onBoard, setOf}
-use Rattle.board.specs.Change.{putSet, placed, marked}
+use Rattle.board.specs.Change.{putSet, placedAfter, marked}
 use Rattle.board.specs.declared.State.{State}
 use Rattle.board.specs.declared.Figures.{Figures}
-use Rattle.trail.specs.Trail.{roomOf, pushed, SHRINKING, PLACING, MARKING, firstWord, shrunk, noteBelow}
+use Rattle.trail.specs.Trail.{roomOf, pushed, change, firstWord, shrunk, noteBelow}
 use Rattle.trail.specs.Refusals.{placeRefusal, excludeRefusal, requireRefusal}
 use Rattle.trail.specs.Undo.{Undone, undoMany}
 use Rattle.trail.specs.declared.Outcome.{Outcome}
@@ -39,7 +39,7 @@ asBefore k f = record { answer = k; rounds = 0; after = f }
 
 -- "Refused: state and trail as before, rounds 0"; accepted where the number is 0
 unfoldable pub unlessRefused : ℕ → State → List ℕ → Ran → Ran
-unlessRefused refusal s t after = cond (eqb refusal 0) after (answered refusal s t)
+unlessRefused number s t after = cond (eqb number 0) after (answered number s t)
 
 -- accepted with one record: the board changes, and the record is written
 unfoldable pub recorded : State → List ℕ → Board → ℕ → ℕ → Ran
@@ -47,13 +47,13 @@ recorded s t b first second = answered 0 (onBoard s b (s .records + 1)) (pushed 
 
 -- accepted with the record of a set made smaller: that of x becomes w
 abbrev pub shrank : State → List ℕ → ℕ → ℕ → Ran
-shrank s t x w = recorded s t (putSet (boardOf s) x w) (firstWord SHRINKING x) (setOf (boardOf s) x)
+shrank s t x w = recorded s t (putSet (boardOf s) x w) (firstWord change.SHRINKING x) (setOf (boardOf s) x)
 
 -- step 1: place x after p. Recorded with the node's set before
 unfoldable pub placeStep : ℕ → State → List ℕ → ℕ → ℕ → Ran
 placeStep n s t p x =
     unlessRefused (placeRefusal n (boardOf s) (s .records) (roomOf t) p x) s t
-    (recorded s t (placed (boardOf s) p x) (firstWord PLACING x) (setOf (boardOf s) x))
+    (recorded s t (placedAfter (boardOf s) p x) (firstWord change.PLACING x) (setOf (boardOf s) x))
 
 -- step 2: close the place
 unfoldable pub closeStep : ℕ → State → List ℕ → ℕ → ℕ → Ran
@@ -71,18 +71,18 @@ excludeStep n s t owed x =
 unfoldable pub requireStep : ℕ → State → List ℕ → ℕ → Ran
 requireStep n s t x =
     unlessRefused (requireRefusal n (boardOf s) (s .records) (roomOf t) x) s t
-    (cond (has (s .marks) x) (answered 0 s t) (recorded s t (marked (boardOf s) x) (firstWord MARKING x) 0))
+    (cond (has (s .marks) x) (answered 0 s t) (recorded s t (marked (boardOf s) x) (firstWord change.MARKING x) 0))
 
 -- step 5, its rounds and sets known: refused where the records needed exceed the room left; else one record for each set that shrank
 unfoldable pub settleStep : State → List ℕ → ℕ → List ℕ → Ran
 settleStep s t rounds new =
-    unlessRefused (unless (leb (s .records + shrunk (s .sets) new 64) (roomOf t)) ROOM) s t
+    unlessRefused (unless (leb (s .records + shrunk (s .sets) new 64) (roomOf t)) refusal.ROOM) s t
     (acted 0 rounds (onBoard s (board (s .route) (s .stops) new (s .marks)) (s .records + shrunk (s .sets) new 64)) (noteBelow (s .sets) new 64 (s .records, t) .1))
 
 -- step 6: open a level, which holds the record count. A 65th is refused
 unfoldable pub levelStep : State → List ℕ → Ran
 levelStep s t =
-    unlessRefused (unless (ltb (s .depth) 64) DEPTH) s t
+    unlessRefused (unless (ltb (s .depth) 64) refusal.DEPTH) s t
     (answered 0 (stateOf (s .route) (s .stops) (s .sets) (s .marks) (set (s .levels) (s .depth) (s .records)) (s .depth + 1) (s .records)) t)
 
 -- the record count that the last level holds
@@ -100,5 +100,5 @@ dropped s b = stateOf (b .route) (b .stops) (b .sets) (b .marks) (set (s .levels
 -- step 7: undo to the last level and drop it. Refused with none open, or where a record does not fit
 unfoldable pub backStep : ℕ → State → List ℕ → Ran
 backStep n s t =
-    unlessRefused (orElse (unless (ltb 0 (s .depth)) DEPTH) (unless (undoLevel n s t .0) MISFIT)) s t
+    unlessRefused (orElse (unless (ltb 0 (s .depth)) refusal.DEPTH) (unless (undoLevel n s t .0) refusal.MISFIT)) s t
     (answered 0 (dropped s (undoLevel n s t .1)) t)

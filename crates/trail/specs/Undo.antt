@@ -1,8 +1,9 @@
 -- Undoing: when a record fits, and the board before it; newest first (01, The trail).
 use mathlib.Core.Bool.{Bool, true, false, cond, not, _&&_}
 use mathlib.Core.List.{List}
-use Prim.Native.Nat.{ℕ, zero, suc, _-_}
-use lib.ListN.{getD}
+use mathlib.Core.Path.{_≡_}
+use Prim.Native.Nat.{ℕ, zero, suc, _-_, _≤_, _<_}
+use lib.ListN.{getD, length}
 use lib.Dec.{eqb}
 use Rattle.bits.specs.Places.{has, without, within}
 use Rattle.rules.specs.Day.{isInner}
@@ -10,7 +11,7 @@ use Rattle.board.specs.Route.{indexOf}
 use Rattle.board.specs.Board.{Board, board, routeOf, onRoute, legsOf, setOf}
 use Rattle.board.specs.Change.{putSet, unplaced, unmarked}
 use Rattle.trail.specs.declared.undo.Undone as code
-use Rattle.trail.specs.Trail.{firstOf, secondOf, SHRINKING, PLACING, MARKING, recordKind, recordNode}
+use Rattle.trail.specs.Trail.{firstOf, secondOf, change, recordKind, recordNode}
 
 -- the second set strictly contains the first
 unfoldable pub strictly : ℕ → ℕ → Bool
@@ -40,25 +41,28 @@ Undone = Bool × Board
 abbrev pub undid : code.Undone → List ℕ → List ℕ → Undone
 undid u route sets = (u .fits, board route (u .stops) sets (u .marks))
 
+-- the board c where the record fits, the board as it is where it does not
 unfoldable pub undone : Bool → Board → Board → Undone
 undone fits c b = cond fits (true, c) (false, b)
 
--- a record of each kind, for node x with the second word w
+-- a record of a set made smaller, for node x with the second word w
 abbrev pub undoShrunk : ℕ → Board → ℕ → ℕ → Undone
 undoShrunk n b x w = undone (fitsShrunk n b x w) (putSet b x w) b
 
+-- a record of a placing
 abbrev pub undoPlaced : ℕ → Board → ℕ → ℕ → Undone
 undoPlaced n b x w = undone (fitsPlaced n b x w) (unplaced b x w) b
 
+-- a record of a mark
 abbrev pub undoMarked : Board → ℕ → ℕ → Undone
 undoMarked b x w = undone (fitsMarked b x w) (unmarked b x) b
 
 -- the record with these two words. No other kind fits
 unfoldable pub undoOne : ℕ → Board → ℕ → ℕ → Undone
 undoOne n b first w =
-    cond (eqb (recordKind first) SHRINKING) (undoShrunk n b (recordNode first) w)
-    (cond (eqb (recordKind first) PLACING) (undoPlaced n b (recordNode first) w)
-    (cond (eqb (recordKind first) MARKING) (undoMarked b (recordNode first) w)
+    cond (eqb (recordKind first) change.SHRINKING) (undoShrunk n b (recordNode first) w)
+    (cond (eqb (recordKind first) change.PLACING) (undoPlaced n b (recordNode first) w)
+    (cond (eqb (recordKind first) change.MARKING) (undoMarked b (recordNode first) w)
     (false, b)))
 
 -- the k newest of so many records, newest first, each against the board after the newer ones are undone, as far as they fit
@@ -67,3 +71,7 @@ undoMany zero n b records t = (true, b)
 undoMany (suc k) n b records t =
     let o = undoOne n b (firstOf t (records - 1)) (secondOf t (records - 1)) in
     cond (o .0) (undoMany k n (o .1) (records - 1) t) o
+
+-- what reading a route asks: few stops, each a place of a word
+abbrev pub Readable : ℕ → ℕ → List ℕ → Type 0
+Readable n stops route = (n ≤ 64) × (stops ≤ 64) × (length route ≡ 64) × ((i : ℕ) → i < stops → getD route i 0 < 64)

@@ -3,7 +3,7 @@ ghost use mathlib.Core.Path.{_≡_};
 ghost use mathlib.Core.Bool.{cond};
 ghost use Prim.Native.Nat.{_+_, _^_, _≤_, _<_};
 ghost use lib.Dec.{eqb};
-ghost use Rattle.trail.specs.Trail.{roomOf, pushed, MARKING, firstWord, Alike, shrunk, noteOne, noteBelow};
+ghost use Rattle.trail.specs.Trail.{roomOf, pushed, change, firstWord, Alike, shrunk, noteOne, noteBelow};
 use rules::Node;
 
 // A record, named by its kind.
@@ -25,7 +25,7 @@ impl Record {
 
 // The first word of a record: its kind and its node.
 pub fn first_word(kind: u64, x: usize) -> u64
-    requires { ⌜ (kind ≤ MARKING) × (x < 64) ⌝ }
+    requires { ⌜ (kind ≤ change.MARKING) × (x < 64) ⌝ }
     ensures { λ r. ⌜ r ≡ firstWord kind x ⌝ }
 {
     Record::WEIGHT * kind + x as u64

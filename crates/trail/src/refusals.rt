@@ -9,7 +9,7 @@ ghost use mathlib.Core.Path.{_≡_};
 ghost use mathlib.Core.List.{List};
 ghost use Prim.Native.Nat.{ℕ};
 ghost use Rattle.board.specs.Board.{board};
-ghost use Rattle.trail.specs.UndoLaws.{Readable};
+ghost use Rattle.trail.specs.Undo.{Readable};
 ghost use Rattle.trail.specs.Refusals.{placeRefusal, excludeRefusal, requireRefusal};
 
 // Placing x after p and closing the place p of x are refused alike.

@@ -20,9 +20,9 @@ ghost use Prim.Native.Nat.{ℕ, _≤_, _<_};
 ghost use lib.ListN.{length};
 ghost use Rattle.board.specs.Board.{board, stateWith};
 ghost use Rattle.board.specs.Form.{formWith};
-ghost use Rattle.board.specs.FormLaws.{Sound};
+ghost use Rattle.board.specs.Held.{Sound};
 ghost use Rattle.trail.specs.Trail.{roomOf, Alike};
-ghost use Rattle.trail.specs.UndoLaws.{Readable};
+ghost use Rattle.trail.specs.Undo.{Readable};
 ghost use Rattle.trail.specs.Steps.{ran, asBefore, shrank, placeStep, closeStep, excludeStep, requireStep, settleStep, levelStep, backStep};
 
 // Nothing changed: refused with a number, or 0 where nothing was to be done.
@@ -184,8 +184,8 @@ pub fn settle(
     n: usize,
     trail: &mut [u64],
 ) -> Outcome
-    requires { ⌜ (length (now sets) ≡ 64) × (length (now new) ≡ 64) × (n ≤ 64) × Alike n (now sets) (now new)
-        × (f .records ≤ roomOf (now trail)) × (rounds ≡ 0 → now new ≡ now sets) ⌝ }
+    requires { ⌜ (length (now sets) ≡ 64) × (length (now new) ≡ 64) × (n ≤ 64) × Alike n (now sets) (now new) ⌝ }
+    requires { ⌜ (f .records ≤ roomOf (now trail)) × (rounds ≡ 0 → now new ≡ now sets) ⌝ }
     ensures { λ r. ⌜ ((route levels : List ℕ) → settleStep (stateWith route (now (sets .entry)) levels f) (now (trail .entry)) rounds (now (new .entry))
         ≡ ran r route (now (sets .exit)) levels (now (trail .exit))) ⌝ }
 {
@@ -244,8 +244,8 @@ pub fn back(
     n: usize,
     trail: &[u64],
 ) -> Outcome
-    requires { ⌜ Sound n (board (now route) (f .stops) (now sets) (f .marks)) × (length (now levels) ≡ 64)
-        × (formWith n (stateWith (now route) (now sets) (now levels) f) (roomOf (now trail)) ≡ true) ⌝ }
+    requires { ⌜ Sound n (board (now route) (f .stops) (now sets) (f .marks)) × (length (now levels) ≡ 64) ⌝ }
+    requires { ⌜ formWith n (stateWith (now route) (now sets) (now levels) f) (roomOf (now trail)) ≡ true ⌝ }
     ensures { λ r. ⌜ backStep n (stateWith (now (route .entry)) (now (sets .entry)) (now (levels .entry)) f) (now (trail .entry))
         ≡ ran r (now (route .exit)) (now (sets .exit)) (now (levels .exit)) (now (trail .entry)) ⌝ }
 {

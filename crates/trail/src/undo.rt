@@ -14,7 +14,7 @@ ghost use lib.ListN.{getD};
 ghost use Rattle.bits.specs.Places.{has, without, within};
 ghost use Rattle.board.specs.Route.{wordOf};
 ghost use Rattle.board.specs.Board.{board};
-ghost use Rattle.board.specs.FormLaws.{Sound};
+ghost use Rattle.board.specs.Held.{Sound};
 ghost use Rattle.trail.specs.Trail.{roomOf};
 ghost use Rattle.trail.specs.Undo.{strictly, undid, undoShrunk, undoPlaced, undoMarked, undoOne, undoMany};
 

@@ -8,11 +8,12 @@ use native.Mathlib.Omega.{arith}
 use lib.Dec.{T, eqb, eqb→eq}
 use lib.ListN.{take, length}
 use borrow.Author.Tests.{le-leb, ne-eqb}
-use Rattle.laws.specs.Logic.{T→true, and-r, or-e, imp-i, and-true}
-use Rattle.laws.specs.Lists.{In, here, there, mem, all, any, all-i, any-e}
-use Rattle.laws.specs.Table.{in-tab}
+use Rattle.laws.proofs.Logic.{T→true, and-r, or-e, imp-i, and-true}
+use Rattle.laws.proofs.Lists.{all-i, any-e}
+use Rattle.laws.specs.Basic.{In, here, there, mem, all, any}
+use Rattle.laws.proofs.Table.{in-tab}
 use Rattle.bits.specs.Places.{has}
-use Rattle.bits.specs.Members.{has-none}
+use Rattle.bits.proofs.Members.{has-none}
 use Rattle.rules.specs.Day.{Day, inner, isInner}
 use Rattle.rules.proofs.Inner.{is-inner}
 use Rattle.rules.specs.declared.Van.{Van}
@@ -25,9 +26,8 @@ use Rattle.rules.specs.declared.Job.{Job}
 use Rattle.rules.specs.declared.Job.the-variants.{Clean, Soiled, Transfer}
 use Rattle.sheet.specs.Section.{nOf, mOf}
 use Rattle.sheet.specs.declared.Layout.{Layout}
-use Rattle.day.specs.Jobs.{jobIn, jobFine}
-use Rattle.day.specs.Fit.{fine-job}
-use Rattle.day.specs.Tell.{dayOf}
+use Rattle.day.proofs.Fit.{fine-job}
+use Rattle.day.specs.Tell.{dayOf, jobIn, jobFine}
 use Rattle.along.specs.Sets.{planFrom}
 use Rattle.along.specs.Ready.{Ready}
 use Rattle.along.proofs.Facts.{size, some-nodes}

@@ -5,11 +5,12 @@ use mathlib.Core.Bool.{Bool, true, false, not}
 use mathlib.Core.List.{List}
 use lib.Dec.{eqb}
 use borrow.Author.Tests.{eqb-true, eqb-false, not-true, not-false}
-use Rattle.laws.specs.Logic.{decided}
-use Rattle.laws.specs.Below.{allBelow, below-fails, below-make}
+use Rattle.laws.proofs.Logic.{decided}
+use Rattle.laws.proofs.Below.{below-fails, below-make}
+use Rattle.laws.specs.Basic.{allBelow}
 use Rattle.bits.specs.Places.{has, without, lowest}
-use Rattle.bits.specs.Members.{has-none, has-low, false-true, without-fits, without-part, without-other}
-use Rattle.bits.specs.Masks.{lowest-has}
+use Rattle.bits.proofs.Members.{has-none, has-low, false-true, without-fits, without-part, without-other}
+use Rattle.bits.proofs.Masks.{lowest-has}
 use Rattle.verdict.specs.Verdict.{standing, markKept}
 
 -- of the marked nodes, those that are not left stand

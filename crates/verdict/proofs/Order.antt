@@ -9,14 +9,15 @@ use lib.Dec.{T, ltb, eqb, eqb→eq, ltb→lt, lt→ltb}
 use borrow.Author.Tests.{eq-eqb}
 use lib.ListN.{getD, take, length, length-take}
 use lib.Seq.{getD-take}
-use Rattle.laws.specs.Logic.{T-ext, and-i, and-l, and-r, cond-yes, cond-no, tf}
-use Rattle.laws.specs.Lists.{mem}
+use Rattle.laws.proofs.Logic.{T-ext, and-i, and-l, and-r, cond-yes, cond-no, tf}
+use Rattle.laws.specs.Basic.{mem}
 use Rattle.rules.specs.Rounds.{Distinct, none, more}
 use Rattle.rules.specs.Verdict.{wrong, wrongWay}
 use Rattle.rules.specs.declared.Job.{Job}
 use Rattle.rules.specs.declared.Job.the-variants.{Clean, Soiled, Transfer}
 use Rattle.rules.proofs.AlongLaws.{mem-at, stops-apart}
-use Rattle.along.specs.Spots.{spot, spot-cases, Spots, mem-found, spot-found}
+use Rattle.along.specs.Spots.{spot, Spots}
+use Rattle.along.proofs.SpotLaws.{spot-cases, mem-found, spot-found}
 use Rattle.verdict.specs.Verdict.{onSpot, orderKept}
 
 -- b at the i-th stop, a at the j-th behind it

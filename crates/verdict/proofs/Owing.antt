@@ -8,11 +8,12 @@ use native.Mathlib.Omega.{arith}
 use lib.Dec.{T, T-not, eqb, eqb→eq, eqb-refl}
 use borrow.Author.Tests.{eq-eqb}
 use lib.ListN.{getD}
-use Rattle.laws.specs.Logic.{decided, T-ext, tf, true→T, T→true, and-i, and-l, and-r, or-l, or-r, or-e, imp-i, imp-e}
-use Rattle.laws.specs.Lists.{mem, all, any, In, mem-in, all-in, all-i, any-i, any-e}
-use Rattle.laws.specs.Below.{allBelow, below-at, below-make}
+use Rattle.laws.proofs.Logic.{decided, T-ext, tf, true→T, T→true, and-i, and-l, and-r, or-l, or-r, or-e, imp-i, imp-e}
+use Rattle.laws.proofs.Lists.{mem-in, all-in, all-i, any-i, any-e}
+use Rattle.laws.specs.Basic.{mem, all, any, In, allBelow}
+use Rattle.laws.proofs.Below.{below-at, below-make}
 use Rattle.bits.specs.Places.{has}
-use Rattle.bits.specs.Members.{has-none}
+use Rattle.bits.proofs.Members.{has-none}
 use Rattle.rules.specs.Day.{Day, inner}
 use Rattle.rules.specs.Leg.{legStops}
 use Rattle.rules.specs.Plan.{Plan}
@@ -22,7 +23,8 @@ use Rattle.rules.specs.declared.Job.{Job}
 use Rattle.rules.specs.declared.Job.the-variants.{Clean, Soiled, Transfer}
 use Rattle.rules.proofs.Inner.{inner-low}
 use Rattle.rules.proofs.AlongLaws.{leg-index, mem-at}
-use Rattle.along.specs.Sets.{placesIn, word-ext}
+use Rattle.along.specs.Sets.{placesIn}
+use Rattle.along.proofs.SetLaws.{word-ext}
 use Rattle.verdict.specs.Verdict.{standing, markKept, endsKept}
 
 module _ (d : Day) (m ws : List ℕ) (marks : ℕ) (proper : Proper d) (small : d .n ≤ 64)

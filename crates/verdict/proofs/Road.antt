@@ -8,15 +8,13 @@ use lib.Dec.{leb}
 use borrow.Author.Tests.{not-true, not-false}
 use lib.ListN.{getD, take, length, length-take}
 use lib.Seq.{getD-take}
-use Rattle.laws.specs.Lists.{mem, all, any}
-use Rattle.laws.specs.Below.{allBelow, below-none, below-next, below-fails, below-same, below-both}
-use Rattle.laws.specs.Table.{tab, Filled}
+use Rattle.laws.specs.Basic.{mem, all, any, allBelow, tab}
+use Rattle.laws.proofs.Below.{below-none, below-next, below-fails, below-same, below-both}
 use Rattle.bits.specs.Places.{has}
 use Rattle.rules.specs.Day.{Day, inner}
 use Rattle.rules.specs.declared.Van.{Van}
 use Rattle.rules.specs.Leg.{everyLeg}
-use Rattle.rules.specs.Time.{inTime, onTime}
-use Rattle.rules.specs.Metres.{driven}
+use Rattle.rules.specs.Time.{inTime, onTime, driven}
 use Rattle.rules.specs.Load.{carries}
 use Rattle.rules.specs.Plan.{Plan}
 use Rattle.rules.specs.Rounds.{Distinct}
@@ -26,17 +24,18 @@ use Rattle.rules.specs.Along.{startAt, loadAt}
 use Rattle.rules.specs.declared.Job.{Job}
 use Rattle.rules.proofs.AlongLaws.{atLeg, arrives, on-time-all, every-all}
 use Rattle.sheet.specs.declared.Layout.{Layout}
-use Rattle.day.specs.Jobs.{jobIn}
-use Rattle.day.specs.Tell.{dayOf}
-use Rattle.day.specs.Asked.{proper}
+use Rattle.day.specs.Tell.{dayOf, jobIn}
+use Rattle.day.proofs.Asked.{proper}
 use Rattle.along.specs.Spots.{Spots, loadOf}
-use Rattle.along.specs.Times.{start-first, start-turn, length-first, length-turn}
-use Rattle.along.specs.Route.{job-low}
-use Rattle.along.specs.Loads.{Stowed, stowFirst, stowOn, stowOff, running, stowed-more, stowed-loads}
+use Rattle.along.proofs.TimeLaws.{start-first, start-turn, length-first, length-turn}
+use Rattle.along.proofs.RouteLaws.{job-low}
+use Rattle.along.specs.Loads.{stowFirst, stowOn, stowOff, running, peak}
+use Rattle.along.proofs.LoadLaws.{peak-within, Stowed, stowed-more, stowed-peak}
 use Rattle.along.specs.Sets.{planFrom}
-use Rattle.along.specs.Ready.{Ready, jobs-are}
+use Rattle.along.specs.Ready.{Ready}
+use Rattle.along.proofs.ReadyLaws.{jobs-are}
 use Rattle.verdict.specs.Verdict.{onSpot, called, markKept, endsKept, orderKept, jobKept, ofJob, roadKept, nodesKept}
-use Rattle.along.specs.Told.{below-tab}
+use Rattle.along.proofs.Told.{below-tab}
 use Rattle.verdict.proofs.Order.{on-is, order-is}
 use Rattle.verdict.proofs.Owing.{owed-is}
 
@@ -174,19 +173,19 @@ module _ {s : List ℕ} {at : Layout} {l : List ℕ} {n : ℕ} {ws : List ℕ} {
   stow-next {j = j} sp e p =
       stowed-more (jobIn s) l n j (r .most) (omega (arith, r .long, r .most)) (r .form .nodes) sp e (omega (arith, ap loadOf e, job-low s j)) p
 
-  -- all are, and the legs keep to the capacity
-  pub loads-told : (v : Van) {j first : ℕ} {on off h : List ℕ} → j ≡ at .jobs → Stowed (jobIn s) l n j first on off
-      → Filled 64 (running first on off) 0 (n - 1) h
-      → allBelow (n - 1) (λ i. leb (getD h i 0) (v .capacity)) ≡ everyLeg (carries v (dayOf s)) (take n l)
-  loads-told v {j} {h = h} e p q =
-      below-same (n - 1) _ (atLeg (carries v (dayOf s)) (take n l)) (λ i b. ap (λ (k : ℕ). leb k (v .capacity)) (f .at i b))
+  -- all are: the fullest leg keeps to the capacity exactly if each does
+  pub loads-told : (v : Van) {j first most : ℕ} {on off : List ℕ} → j ≡ at .jobs → Stowed (jobIn s) l n j first on off
+      → most ≡ peak (running first on off) (n - 1)
+      → leb most (v .capacity) ≡ everyLeg (carries v (dayOf s)) (take n l)
+  loads-told v {j} {most = most} e p q =
+      ap (λ (k : ℕ). leb k (v .capacity)) is ∙ peak-within (loadAt (dayOf s) (take n l)) (n - 1) (v .capacity)
       ∙ ap (λ (k : ℕ). allBelow (k - 1) (atLeg (carries v (dayOf s)) (take n l))) (sym size) ∙ sym (every-all (carries v (dayOf s)) (take n l))
     where
       size : length (take n l) ≡ n
       size = let a = r .long in let b = r .most in simp length-take (omega arith)
 
-      f : Filled 64 (loadAt (dayOf s) (take n l)) 0 (n - 1) h
-      f = rw (e ∙ jobs-are (r .laid)) at (stowed-loads p q)
+      is : most ≡ peak (loadAt (dayOf s) (take n l)) (n - 1)
+      is = rw (e ∙ jobs-are (r .laid)) at (q ∙ stowed-peak p)
 
   pub nodes-ready : (v : Van) {spots : List ℕ} → Spots l n spots → {b c e : Bool} → b ≡ allBelow 64 (markKept (onSpot spots) ws marks)
       → c ≡ allBelow (at .jobs) (ofJob (jobKept spots ws marks) (jobIn s)) → e ≡ everyLeg (carries v (dayOf s)) (take n l)

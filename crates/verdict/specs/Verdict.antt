@@ -4,13 +4,12 @@ use mathlib.Core.Bool.{Bool, true, not, _&&_, _||_}
 use mathlib.Core.List.{List, []}
 use lib.Dec.{leb, ltb, eqb}
 use lib.ListN.{getD}
-use Rattle.laws.specs.Lists.{all}
+use Rattle.laws.specs.Basic.{all}
 use Rattle.bits.specs.Places.{has}
 use Rattle.rules.specs.Day.{Day, inner}
 use Rattle.rules.specs.declared.Van.{Van}
 use Rattle.rules.specs.Leg.{everyLeg}
-use Rattle.rules.specs.Time.{onTime}
-use Rattle.rules.specs.Metres.{driven}
+use Rattle.rules.specs.Time.{onTime, driven}
 use Rattle.rules.specs.Load.{carries}
 use Rattle.rules.specs.Plan.{Plan}
 use Rattle.rules.specs.Verdict.{owed, hasPlace, wrongWay}

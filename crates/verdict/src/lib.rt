@@ -1,16 +1,14 @@
 // Who is owed, and the verdict of a state.
 ghost use mathlib.Core.Path.{_≡_};
 ghost use mathlib.Core.Bool.{not};
-ghost use Prim.Native.Nat.{_≤_};
 ghost use lib.ListN.{getD, length, take};
-ghost use lib.Dec.{eqb, leb};
-ghost use Rattle.laws.specs.Below.{allBelow};
+ghost use lib.Dec.{eqb};
+ghost use Rattle.laws.specs.Basic.{allBelow};
 ghost use Rattle.bits.specs.Places.{has};
 ghost use Rattle.rules.specs.Verdict.{partnered, owed, alive};
 ghost use Rattle.sheet.specs.Place.{Laid};
-ghost use Rattle.day.specs.Jobs.{jobIn};
+ghost use Rattle.day.specs.Tell.{jobIn, dayOf};
 ghost use Rattle.day.specs.Seen.{Placed};
-ghost use Rattle.day.specs.Tell.{dayOf};
 ghost use Rattle.along.specs.Route.{Route};
 ghost use Rattle.along.specs.Sets.{planFrom};
 ghost use Rattle.along.specs.Ready.{Ready};
@@ -166,22 +164,6 @@ fn on_the_road(
     total <= limit
 }
 
-// No leg is above the capacity.
-fn in_capacity(h: &[usize; Node::MOST], legs: usize, capacity: usize) -> bool
-    requires { ⌜ (length (now h) ≡ 64) × (legs ≤ 64) ⌝ }
-    ensures { λ r. ⌜ r ≡ allBelow legs (λ i. leb (getD (now (h .entry)) i 0) capacity) ⌝ }
-{
-    let mut i = 0;
-    while i < legs {
-        let v = h[i];
-        if capacity < v {
-            return false;
-        }
-        i += 1;
-    }
-    true
-}
-
 // Whether x is owed: unplaced, and marked or with a transfer partner that is marked or on the route.
 pub fn owed(
     s: &[u8],
@@ -236,8 +218,8 @@ fn nodes_kept(
     if !ok {
         return false;
     }
-    along::loads::run(&mut on, &off, first, stops);
-    in_capacity(&on, stops - 1, van.capacity)
+    let highest = along::loads::run(&mut on, &off, first, stops);
+    highest <= van.capacity
 }
 
 // The verdict of a state in form. Where nothing is placed and nothing marked, no node is owed and nothing is aboard: no job is looked at.

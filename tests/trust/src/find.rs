@@ -37,9 +37,12 @@ fn places(house: &House, file: usize, name: &str) -> Option<(usize, usize)> {
         })
     };
     let own = &house.files[file];
-    if let Some((alias, member)) = name.split_once('.') {
-        let (path, _) = own.uses.get(alias)?;
-        return at(path, member);
+    if let Some((head, member)) = name.split_once('.') {
+        // a member of a module, or a field of a definition
+        return match own.uses.get(head) {
+            Some((path, there)) if there.is_empty() => at(path, member),
+            _ => places(house, file, head),
+        };
     }
     if item(own, name).is_some() {
         return at(&own.path, name);

@@ -10,6 +10,9 @@ mod read;
 use std::path::Path;
 use std::process::exit;
 
+/// The table P1 to P12: what it alone rests on is counted apart.
+const TABLE: &str = "Paper";
+
 /// Where a reader begins: module and name.
 const ROOTS: [(&str, &str); 9] = [
     ("planner/specs/Promises.antt", "Promised"),
@@ -18,7 +21,7 @@ const ROOTS: [(&str, &str); 9] = [
     ("planner/specs/Face.antt", "countOf"),
     ("planner/specs/Face.antt", "judgeOf"),
     ("day/specs/Section.antt", "sectionOf"),
-    ("planner/specs/Paper.antt", "Paper"),
+    ("planner/specs/Paper.antt", TABLE),
     ("dock/specs/Listing.antt", "listingOf"),
     ("dock/specs/Listing.antt", "printed"),
 ];
@@ -31,5 +34,6 @@ fn main() {
     };
     let house = read::house(Path::new(crates), Path::new(order));
     let found = find::reachable(&house, &ROOTS);
-    print!("{}", page::page(&house, &found));
+    let without: Vec<(&str, &str)> = ROOTS.into_iter().filter(|(_, name)| *name != TABLE).collect();
+    print!("{}", page::page(&house, &found, &find::reachable(&house, &without)));
 }

@@ -18,8 +18,11 @@ pub struct Item {
     /// The comment above it, one line.
     pub says: String,
     pub line: usize,
+    /// How many, without comments and lines that only close a bracket.
     pub lines: usize,
     pub text: String,
+    /// The named numbers of a record that lists such, each with its line and the comment behind it.
+    pub parts: Vec<(usize, String, String)>,
 }
 
 pub struct File {
@@ -53,7 +56,8 @@ fn uses_of(text: &str) -> BTreeMap<String, (String, String)> {
         if let Some((module, names)) = rest.split_once(".{") {
             let Some(file) = module_file(module) else { continue };
             for name in names.trim_end_matches('}').split(',') {
-                uses.insert(name.trim().to_string(), (file.clone(), name.trim().to_string()));
+                let (there, here) = name.trim().split_once(" as ").unwrap_or((name.trim(), name.trim()));
+                uses.insert(here.to_string(), (file.clone(), there.to_string()));
             }
         } else if let Some((module, alias)) = rest.split_once(" as ") {
             if let Some(file) = module_file(module) {
@@ -113,6 +117,22 @@ fn comment(lines: &[&str], mark: &str) -> String {
     said.join(" ")
 }
 
+/// Whether a line says something: it is no comment, and more than a closing bracket.
+fn speaks(line: &&&str) -> bool {
+    let line = line.trim();
+    !line.starts_with("--") && !line.starts_with("//") && !line.chars().all(|c| "})];,".contains(c))
+}
+
+/// The entries `NAME = value;  -- comment` of a block that begins at a line.
+fn parts(first: usize, lines: &[&str]) -> Vec<(usize, String, String)> {
+    let entry = |(i, line): (usize, &&str)| {
+        let (code, says) = line.split_once("  -- ")?;
+        let (name, value) = code.trim().trim_end_matches(';').split_once(" = ")?;
+        Some((first + i, format!("{name} = {value}"), says.to_string()))
+    };
+    lines.iter().enumerate().filter_map(entry).collect()
+}
+
 fn spec_items(text: &str) -> Vec<Item> {
     let mut items: Vec<Item> = vec![];
     for (first, lines) in blocks(text) {
@@ -123,8 +143,8 @@ fn spec_items(text: &str) -> Vec<Item> {
         let Some((kind, name)) = code.iter().find(|l| !l.starts_with("infix")).and_then(|l| begins(l)) else {
             if let (Some(last), Some(line)) = (items.last_mut(), code.first()) {
                 if line.starts_with(' ') {
-                    last.lines += lines.len();
-                    last.text.push_str(&lines.join("\n"));
+                    last.lines += lines.iter().filter(speaks).count();
+                    last.text.push_str(&format!("\n{}", lines.join("\n")));
                 }
             }
             continue;
@@ -132,12 +152,22 @@ fn spec_items(text: &str) -> Vec<Item> {
         if code[0].starts_with(' ') {
             // a member of a nameless module, whose laws stand together, or of a `where`
             if let Some(last) = items.last_mut() {
-                last.lines += lines.len();
-                last.text.push_str(&lines.join("\n"));
+                last.lines += lines.iter().filter(speaks).count();
+                last.text.push_str(&format!("\n{}", lines.join("\n")));
             }
             continue;
         }
-        items.push(Item { name, kind, says, line: first + above, lines: code.len(), text: code.join("\n") });
+        let line = first + above;
+        let count = code.iter().filter(speaks).count();
+        items.push(Item {
+            name,
+            kind,
+            says,
+            line,
+            lines: count,
+            text: code.join("\n"),
+            parts: parts(line, code),
+        });
     }
     items
 }
@@ -158,8 +188,9 @@ fn code_items(text: &str) -> Vec<Item> {
             kind: Kind::Definition,
             says,
             line: i + 1,
-            lines: end - i + 1,
+            lines: lines[i..=end].iter().filter(speaks).count(),
             text: lines[i..=end].join("\n"),
+            parts: vec![],
         });
     }
     items

@@ -1,5 +1,5 @@
 use mathlib.Core.Path.{sym}
-use Rattle.bits.specs.Members.{has-high}
+use Rattle.bits.proofs.Members.{has-high}
 use borrow.Author.Needs.{needs}
 use Rattle.bits.proofs.has.Statement.{statement}
 use Rattle.bits.proofs.has.Tie as tie

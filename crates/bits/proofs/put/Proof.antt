@@ -1,4 +1,4 @@
-use Rattle.bits.specs.Masks.{shl-one, with-mask}
+use Rattle.bits.proofs.Masks.{shl-one, with-mask}
 use borrow.Author.Needs.{needs}
 use Rattle.bits.proofs.put.Statement.{statement}
 use Rattle.bits.proofs.put.Tie as tie

@@ -1,4 +1,4 @@
-use Rattle.bits.specs.Masks.{rest-mask}
+use Rattle.bits.proofs.Masks.{rest-mask}
 use borrow.Author.Needs.{needs}
 use Rattle.bits.proofs.rest.Statement.{statement}
 use Rattle.bits.proofs.rest.Tie as tie

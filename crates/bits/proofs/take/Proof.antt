@@ -1,5 +1,5 @@
 use Rattle.bits.specs.Places.{minus}
-use Rattle.bits.specs.Masks.{shl-one, without-mask}
+use Rattle.bits.proofs.Masks.{shl-one, without-mask}
 use borrow.Author.Needs.{needs}
 use Rattle.bits.proofs.take.Statement.{statement}
 use Rattle.bits.proofs.take.Tie as tie

@@ -1,5 +1,5 @@
 use mathlib.Core.Path.{sym}
-use Rattle.bits.specs.Members.{with-far}
+use Rattle.bits.proofs.Members.{with-far}
 use borrow.Author.Needs.{needs}
 use Rattle.bits.proofs.with.Statement.{statement}
 use Rattle.bits.proofs.with.Tie as tie

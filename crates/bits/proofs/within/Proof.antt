@@ -1,4 +1,4 @@
-use Rattle.bits.specs.Masks.{within-mask}
+use Rattle.bits.proofs.Masks.{within-mask}
 use Rattle.bits.proofs.within.Statement.{statement}
 use Rattle.bits.proofs.within.Tie as tie
 

@@ -1,5 +1,5 @@
 use mathlib.Core.Path.{sym}
-use Rattle.bits.specs.Members.{has-high, without-no}
+use Rattle.bits.proofs.Members.{has-high, without-no}
 use borrow.Author.Needs.{needs}
 use Rattle.bits.proofs.without.Statement.{statement}
 use Rattle.bits.proofs.without.Tie as tie

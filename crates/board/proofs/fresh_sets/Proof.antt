@@ -2,7 +2,8 @@ use borrow.Author.Needs.{needs}
 use native.Mathlib.Omega.{arith}
 use mathlib.Core.Path.{refl}
 use Prim.Native.Nat.{_≤_, _-_}
-use Rattle.laws.specs.Table.{Filled, filled-none, filled-more, filled-all}
+use Rattle.laws.proofs.Table.{filled-none, filled-more, filled-all}
+use Rattle.laws.specs.Basic.{Filled}
 use Rattle.board.specs.Fresh.{freshSet, freshSets}
 use Rattle.board.proofs.fresh_sets.Statement.{statement}
 use Rattle.board.proofs.fresh_sets.Tie as tie

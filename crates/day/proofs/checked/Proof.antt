@@ -1,5 +1,5 @@
 use mathlib.Core.Path.{refl}
-use Rattle.sheet.specs.Place.{found-laid, found-stops, found-judged}
+use Rattle.sheet.proofs.PlaceLaws.{found-laid, found-stops, found-judged}
 use Rattle.sheet.specs.Section.{readRefusal}
 use Rattle.day.specs.Refuse.{callRefusal}
 use borrow.Author.Needs.{needs}

@@ -1,8 +1,9 @@
 use mathlib.Core.Path.{refl, ap₂}
 use mathlib.Core.Bool.{_&&_}
-use Rattle.sheet.specs.Place.{found-stops, found-judged}
-use Rattle.day.specs.Refuse.{openRefusal, call-laid}
-use Rattle.day.specs.Range.{seconds-table, metres-table}
+use Rattle.sheet.proofs.PlaceLaws.{found-stops, found-judged}
+use Rattle.day.specs.Refuse.{openRefusal}
+use Rattle.day.proofs.RefuseLaws.{call-laid}
+use Rattle.day.proofs.Range.{seconds-table, metres-table}
 use borrow.Author.Needs.{needs}
 use Rattle.day.proofs.opening.Statement.{statement}
 use Rattle.day.proofs.opening.Tie as tie

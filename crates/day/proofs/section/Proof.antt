@@ -1,13 +1,12 @@
 use mathlib.Core.Path.{sym, _∙_}
 use native.Mathlib.Omega.{arith}
 use native.Mathlib.Nat.{add-sub-cancel-left}
-use borrow.Author.Tests.{ne-eqb}
-use Rattle.sheet.specs.Place.{found-answer}
-use Rattle.day.specs.Refuse.{call-laid}
-use Rattle.day.specs.Section.{section-is, span-fits, sectionOf}
 use borrow.Author.Needs.{needs}
 use Rattle.day.proofs.section.Statement.{statement}
 use Rattle.day.proofs.section.Tie as tie
+use Rattle.sheet.proofs.PlaceLaws.{found-answer}
+use Rattle.day.proofs.RefuseLaws.{call-laid}
+use Rattle.day.proofs.SectionLaws.{section-none, section-is, span-fits}
 
 checked-requires : tie.Need-checked-requires
 checked-requires c κs = search needs
@@ -16,8 +15,7 @@ slice-aggregate-result : tie.Need-slice-aggregate-result
 slice-aggregate-result c = search needs
 
 returns : tie.Need-returns
-unfolding sectionOf
-returns c = simp (← found-answer _ _ (c .before .before .before .checked .ensures), ne-eqb _ _ (c .before .if1 .taken))
+returns c = section-none _ _ _ (λ z. c .before .if1 .taken (found-answer _ _ (c .before .before .before .checked .ensures) ∙ z))
 
 span-of-requires : tie.Need-span-of-requires
 span-of-requires c κs = let l = call-laid _ (c .before .before .checked .ensures) (c .if1 .left) in let f = l .fine in (omega arith, omega arith, omega arith)
@@ -41,7 +39,10 @@ part-result-end : tie.Need-part-result-end
 part-result-end c = let l = call-laid _ (c .before .before .before .before .before .checked .ensures) (c .before .before .before .if1 .left) in let f = span-fits _ l (c .before .before .span-of .ensures) in search needs
 
 returns-2 : tie.Need-returns-2
-returns-2 c = let l = call-laid _ (c .before .before .before .before .before .before .checked .ensures) (c .before .before .before .before .if1 .left) in rw add-sub-cancel-left (section-is _ _ _ (sym (found-answer _ _ (c .before .before .before .before .before .before .checked .ensures)) ∙ c .before .before .before .before .if1 .left) l (c .before .before .before .span-of .ensures))
+returns-2 c =
+    let t = c .before .before .before .before in
+    let e = t .before .before .checked .ensures in
+    rw add-sub-cancel-left (section-is _ _ (sym (found-answer _ _ e) ∙ t .if1 .left) (call-laid _ e (t .if1 .left)) (c .before .before .before .span-of .ensures))
 
 pub section-spec : {M : Type 1} → statement M
 section-spec =

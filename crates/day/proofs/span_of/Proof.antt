@@ -23,31 +23,31 @@ mul-t8 c = search needs
 
 returns : tie.Need-returns
 unfolding spanOf
-returns c = rw (c .match .keys1)
+returns c = λ s e. rw (c .match .keys1, e)
 
 returns-2 : tie.Need-returns-2
 unfolding spanOf
-returns-2 c = rw (c .before .match .keys2)
+returns-2 c = λ s e. rw (c .before .match .keys2, e)
 
 returns-3 : tie.Need-returns-3
 unfolding spanOf
-returns-3 c = rw (c .before .match .keys3)
+returns-3 c = λ s e. rw (c .before .match .keys3, e)
 
 returns-4 : tie.Need-returns-4
 unfolding spanOf
-returns-4 c = rw (c .before .match .keys4)
+returns-4 c = λ s e. rw (c .before .match .keys4, e)
 
 returns-5 : tie.Need-returns-5
 unfolding spanOf
-returns-5 c = rw (c .before .match .keys5)
+returns-5 c = λ s e. rw (c .before .match .keys5, e)
 
 returns-6 : tie.Need-returns-6
 unfolding spanOf
-returns-6 c = rw (c .before .match .keys6)
+returns-6 c = λ s e. rw (c .before .match .keys6, e)
 
 returns-7 : tie.Need-returns-7
 unfolding spanOf
-returns-7 c = let x = c .match .rest in simp (ne-eqb _ _ (x .0 .0 .0 .0 .0 .1), ne-eqb _ _ (x .0 .0 .0 .0 .1), ne-eqb _ _ (x .0 .0 .0 .1), ne-eqb _ _ (x .0 .0 .1), ne-eqb _ _ (x .0 .1), ne-eqb _ _ (x .1))
+returns-7 c = λ s e. let x = c .match .rest in simp (ne-eqb _ _ (x .0 .0 .0 .0 .0 .1), ne-eqb _ _ (x .0 .0 .0 .0 .1), ne-eqb _ _ (x .0 .0 .0 .1), ne-eqb _ _ (x .0 .0 .1), ne-eqb _ _ (x .0 .1), ne-eqb _ _ (x .1))
 
 pub span-of-spec : {M : Type 1} → statement M
 span-of-spec =

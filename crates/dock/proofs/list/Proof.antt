@@ -1,11 +1,14 @@
 use mathlib.Core.Path.{_≡_, sym, _∙_}
 use native.Mathlib.Omega.{arith}
-use Rattle.sheet.specs.Place.{Laid, found-answer}
-use Rattle.day.specs.Refuse.{openRefusal, call-zero, open-laid}
-use Rattle.listing.specs.Text.{refusedName, newline, refusedLine}
-use Rattle.listing.specs.Laws.{field-takes}
+use Rattle.sheet.specs.Place.{Laid}
+use Rattle.sheet.proofs.PlaceLaws.{found-answer}
+use Rattle.day.specs.Refuse.{openRefusal}
+use Rattle.day.proofs.RefuseLaws.{call-zero, open-laid}
+use Rattle.listing.specs.Text.{refusedLine, bytes}
+use Rattle.listing.proofs.TextLaws.{field-takes}
 use Rattle.dock.proofs.Lines.{listing-open, listing-refused}
 use borrow.Author.Needs.{needs}
+use Prim.Native.Char.{code}
 use Rattle.dock.proofs.list.Statement.{statement}
 use Rattle.dock.proofs.list.Tie as tie
 
@@ -29,7 +32,7 @@ unfolding refusedLine
 returns c =
     let q = c .before .before in
     let t = q .before .before in
-    let k = field-takes refusedName _ newline (q .put-refused .ensures) in
+    let k = field-takes (bytes "refused") _ (code "\n") (q .put-refused .ensures) in
     (listing-refused _ _ (found-answer _ _ (t .before .before .opening .ensures)) (t .if1 .taken) (q .put-refused .ensures), omega (arith, k .0))
 
 fresh-requires : tie.Need-fresh-requires

@@ -1,7 +1,7 @@
 use native.Mathlib.Omega.{arith}
 use Rattle.board.specs.Board.{routeOf}
-use Rattle.listing.specs.Put.{put-length}
-use Rattle.listing.specs.Laws.{route-takes}
+use Rattle.listing.proofs.PutLaws.{put-length}
+use Rattle.listing.proofs.TextLaws.{route-takes}
 use Rattle.dock.proofs.Reach.{held, few}
 use Rattle.dock.proofs.Lines.{reached-at, whole-made}
 use borrow.Author.Needs.{needs}

@@ -4,9 +4,8 @@ use native.Mathlib.Omega.{arith}
 use lib.ListN.{length}
 use Rattle.board.specs.Board.{stateWith}
 use Rattle.listing.specs.Put.{Put}
-use Rattle.listing.specs.Laws.{step-takes}
-use Rattle.dock.specs.Line.{toldOf, Reached}
-use Rattle.dock.specs.Listing.{comeTo, linesOf}
+use Rattle.listing.proofs.TextLaws.{step-takes}
+use Rattle.dock.specs.Listing.{comeTo, linesOf, toldOf, Reached}
 use Rattle.dock.proofs.Reach.{begun, formed, readied, goes-on, same-board, told-again}
 use Rattle.dock.proofs.Lines.{come-none, come-next, lines-none, lines-next}
 use borrow.Author.Needs.{needs}

@@ -1,5 +1,5 @@
 use mathlib.Core.Path.{_∙_}
-use Rattle.day.specs.Range.{ranges}
+use Rattle.day.proofs.Range.{ranges}
 use Rattle.dock.proofs.Reach.{known, begins}
 use borrow.Author.Needs.{needs}
 use Rattle.dock.proofs.step_at.Statement.{statement}

@@ -1,6 +1,6 @@
 use mathlib.Core.Path.{sym, _∙_}
-use Rattle.board.specs.Ends.{places-end}
-use Rattle.along.specs.Ready.{nodes-most}
+use Rattle.board.proofs.EndLaws.{places-end}
+use Rattle.along.proofs.ReadyLaws.{nodes-most}
 use Rattle.along.proofs.Facts.{past-nodes}
 use Rattle.dock.proofs.Reach.{told-is}
 use borrow.Author.Needs.{needs}

@@ -1,8 +1,8 @@
 use borrow.Author.Needs.{needs}
 use native.Mathlib.Omega.{arith}
 use Prim.Native.Nat.{ℕ, _<_}
-use Rattle.listing.specs.Put.{put-length}
-use Rattle.listing.specs.Laws.{put-one, put-more, tenth-short}
+use Rattle.listing.proofs.PutLaws.{put-length}
+use Rattle.listing.proofs.TextLaws.{put-one, put-more, tenth-short}
 use borrow.Fn.Kinds.{In}
 use borrow.Fn.PlainCycle.{Measures, is, falls, and}
 use Rattle.listing.proofs.put_number.Reads as put-number

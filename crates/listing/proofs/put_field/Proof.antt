@@ -1,7 +1,7 @@
 use native.Mathlib.Omega.{arith}
 use Rattle.listing.specs.Text.{field}
-use Rattle.listing.specs.Put.{put-then, put-length}
-use Rattle.listing.specs.Laws.{digits-few}
+use Rattle.listing.proofs.PutLaws.{put-then, put-length}
+use Rattle.listing.proofs.TextLaws.{digits-few}
 use borrow.Author.Needs.{needs}
 use Rattle.listing.proofs.put_field.Statement.{statement}
 use Rattle.listing.proofs.put_field.Tie as tie

@@ -1,7 +1,7 @@
 use native.Mathlib.Omega.{arith}
 use Rattle.listing.specs.Text.{routeLine}
-use Rattle.listing.specs.Put.{put-then, put-length}
-use Rattle.listing.specs.Laws.{stops-take}
+use Rattle.listing.proofs.PutLaws.{put-then, put-length}
+use Rattle.listing.proofs.TextLaws.{stops-take}
 use borrow.Author.Needs.{needs}
 use Rattle.listing.proofs.put_route.Statement.{statement}
 use Rattle.listing.proofs.put_route.Tie as tie

@@ -1,7 +1,7 @@
 use native.Mathlib.Omega.{arith}
-use Rattle.listing.specs.Put.{put-then}
+use Rattle.listing.proofs.PutLaws.{put-then}
 use Rattle.listing.specs.Text.{stepLine}
-use Rattle.listing.specs.Laws.{three-takes}
+use Rattle.listing.proofs.TextLaws.{three-takes}
 use borrow.Author.Needs.{needs}
 use Rattle.listing.proofs.put_step.Statement.{statement}
 use Rattle.listing.proofs.put_step.Tie as tie

@@ -1,5 +1,5 @@
 use Rattle.listing.specs.Text.{stopText}
-use Rattle.listing.specs.Put.{put-then}
+use Rattle.listing.proofs.PutLaws.{put-then}
 use borrow.Author.Needs.{needs}
 use Rattle.listing.proofs.put_stop.Statement.{statement}
 use Rattle.listing.proofs.put_stop.Tie as tie

@@ -5,7 +5,7 @@ use mathlib.Core.Path.{_≡_, refl, _∙_}
 use lib.ListN.{length, take}
 use Rattle.listing.specs.Text.{stopsText}
 use Rattle.listing.specs.Put.{Put}
-use Rattle.listing.specs.Laws.{stops-none, stops-turn, stop-takes}
+use Rattle.listing.proofs.TextLaws.{stops-none, stops-turn, stop-takes}
 use Rattle.listing.proofs.put_stops.Statement.{statement}
 use Rattle.listing.proofs.put_stops.Tie as tie
 

@@ -3,7 +3,8 @@ use native.Mathlib.Omega.{arith}
 use Prim.Native.Nat.{_+_, _-_, _≤_}
 use mathlib.Core.Path.{_≡_, refl}
 use lib.ListN.{length, take, length-set}
-use Rattle.listing.specs.Put.{Put, put-none, put-turn, put-whole}
+use Rattle.listing.specs.Put.{Put}
+use Rattle.listing.proofs.PutLaws.{put-none, put-turn, put-whole}
 use Rattle.listing.proofs.put_text.Statement.{statement}
 use Rattle.listing.proofs.put_text.Tie as tie
 

@@ -1,7 +1,7 @@
 use native.Mathlib.Omega.{arith}
-use Rattle.listing.specs.Put.{put-then}
+use Rattle.listing.proofs.PutLaws.{put-then}
 use Rattle.listing.specs.Text.{threeFields}
-use Rattle.listing.specs.Laws.{field-takes}
+use Rattle.listing.proofs.TextLaws.{field-takes}
 use borrow.Author.Needs.{needs}
 use Rattle.listing.proofs.put_three.Statement.{statement}
 use Rattle.listing.proofs.put_three.Tie as tie

@@ -1,6 +1,6 @@
 use native.Mathlib.Omega.{arith}
 use Rattle.sheet.specs.Place.{Laid}
-use Rattle.day.specs.Refuse.{call-laid}
+use Rattle.day.proofs.RefuseLaws.{call-laid}
 use borrow.Author.Needs.{needs}
 use Rattle.measure.proofs.diagonal.Statement.{statement}
 use Rattle.measure.proofs.diagonal.Tie as tie

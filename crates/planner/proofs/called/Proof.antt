@@ -1,6 +1,6 @@
-use mathlib.Core.Path.{_≡_, refl}
-use lib.Dec.{leb}
-use Rattle.sheet.specs.Place.{found-stops, found-judged}
+use mathlib.Core.Path.{refl, sym, _∙_}
+use borrow.Author.Tests.{le-leb, lt-leb}
+use Rattle.laws.proofs.Choice.{first-stops, first-goes}
 use Rattle.trail.specs.Trail.{roomOf}
 use Rattle.planner.proofs.FaceLaws.{call-last}
 use borrow.Author.Needs.{needs}
@@ -11,24 +11,15 @@ asked-requires : tie.Need-asked-requires
 asked-requires c κs = search needs
 
 returns : tie.Need-returns
-returns c = found-stops _ _ _ _ (c .before .before .asked .ensures) (c .if1 .taken) (call-last _ _ _)
-
-judged-requires : tie.Need-judged-requires
-judged-requires c κs = search needs
+returns c sheet h = first-stops _ (c .before .asked .ensures sheet h) (c .if1 .taken) ∙ sym (call-last _ _ _)
 
 returns-2 : tie.Need-returns-2
 unfolding roomOf
-returns-2 c =
-    let e = c .before .before in
-    let a = e .before .before .before .before .before .args in
-    let within : leb (a .f .records) (roomOf (a .trail .now)) ≡ leb (a .f .records) (roomOf (a .trail .now)) = refl in
-    found-judged _ _ _ _ (e .before .before .asked .ensures) (e .if1 .left) (c .judged .ensures) within (call-last _ _ _)
+returns-2 c sheet h = let e = c .before .before in first-goes _ (e .before .asked .ensures sheet h) (e .if1 .left) (rw (le-leb _ _ (c .if2 .taken)) refl) ∙ sym (call-last _ _ _)
+
+returns-3 : tie.Need-returns-3
+unfolding roomOf
+returns-3 c sheet h = let e = c .before .before in first-goes _ (e .before .asked .ensures sheet h) (e .if1 .left) (rw (lt-leb _ _ (c .if2 .left)) refl) ∙ sym (call-last _ _ _)
 
 pub called-spec : {M : Type 1} → statement M
-called-spec =
-    tie.close
-    (tie.spec
-    asked-requires
-    returns
-    judged-requires
-    returns-2)
+called-spec = tie.close (tie.spec asked-requires returns returns-2 returns-3)

@@ -1,7 +1,8 @@
 use mathlib.Core.Path.{_≡_, sym, _∙_}
 use borrow.Author.Tests.{ne-eqb}
-use Rattle.sheet.specs.Place.{found-answer}
-use Rattle.day.specs.Refuse.{openRefusal, open-laid}
+use Rattle.sheet.proofs.PlaceLaws.{found-answer}
+use Rattle.day.specs.Refuse.{openRefusal}
+use Rattle.day.proofs.RefuseLaws.{open-laid}
 use Rattle.planner.specs.Face.{openOf}
 use borrow.Author.Needs.{needs}
 use Rattle.planner.proofs.open.Statement.{statement}

@@ -1,4 +1,4 @@
-use Rattle.board.proofs.Told.{told}
+use Rattle.board.proofs.Told.{is-held}
 use borrow.Author.Needs.{needs}
 use Rattle.planner.proofs.step.Statement.{statement}
 use Rattle.planner.proofs.step.Tie as tie
@@ -10,7 +10,7 @@ step-in-requires : tie.Need-step-in-requires
 step-in-requires c κs =
     let g = c .before .before .before .before .before .before .before in
     let d = g .before .before .before in
-    rw (g .figures .ensures) (told (d .args .state) _ (d .good .1 .0))
+    rw (g .figures .ensures) (is-held (d .args .state) _ (d .good .1 .0))
 
 same-length : tie.Need-same-length
 same-length c = search needs

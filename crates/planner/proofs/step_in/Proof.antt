@@ -1,23 +1,32 @@
 use mathlib.Core.Path.{_≡_, sym, _∙_}
-use Rattle.sheet.specs.Place.{Laid, found-answer, found-laid}
-use Rattle.day.specs.Refuse.{read-zero}
+use Rattle.sheet.specs.Place.{Laid}
+use Rattle.sheet.proofs.PlaceLaws.{found-answer}
+use Rattle.day.proofs.RefuseLaws.{call-laid}
 use Rattle.board.specs.Board.{stateWith}
+use Rattle.along.proofs.ReadyLaws.{nodes-most}
 use Rattle.planner.specs.Face.{stepRefusal}
-use Rattle.planner.proofs.Answers.{called, call-yes}
+use Rattle.planner.proofs.Answers.{call-clear, call-yes}
 use Rattle.planner.proofs.FaceLaws.{step-refused}
 use borrow.Author.Needs.{needs}
 use Rattle.planner.proofs.step_in.Statement.{statement}
 use Rattle.planner.proofs.step_in.Tie as tie
 
+asks : (c : tie.After-called) → let a = c .before .before .before .before .before .before .before .before .args in
+    c .called .result ≡ stepRefusal (a .sheet .now) (stateWith (a .route .now) (a .sets .now) (a .levels .now) (a .f)) (a .trail .now)
+asks c = c .called .ensures _ (c .before .before .before .before .before .checked .ensures)
+
 zero : (c : tie.Else1) → let a = c .before .before .before .before .before .before .before .before .before .args in
     stepRefusal (a .sheet .now) (stateWith (a .route .now) (a .sets .now) (a .levels .now) (a .f)) (a .trail .now) ≡ 0
-zero c = sym (found-answer _ _ (c .before .before .called .ensures)) ∙ c .if1 .left
+zero c = sym (asks (c .before)) ∙ c .if1 .left
 
-laid : (c : tie.Else1) → Laid (c .before .before .before .before .before .before .before .before .before .args .sheet .now) (c .before .before .called .result .layout)
-laid c = found-laid _ _ (λ z. read-zero _ (called _ _ _ z .read)) (c .before .before .called .ensures) (c .if1 .left)
+laid : (c : tie.Else1) → let k = c .before .before .before .before .before .before in Laid (k .before .before .before .args .sheet .now) (k .checked .result .layout)
+laid c = let e = c .before .before .before .before .before .before .checked .ensures in call-laid _ e (found-answer _ _ e ∙ call-clear _ _ _ (zero c) .read)
+
+checked-requires : tie.Need-checked-requires
+checked-requires c κs = search needs
 
 called-requires : tie.Need-called-requires
-called-requires c κs = search needs
+called-requires c κs = (λ z. nodes-most (call-laid _ (c .before .before .before .before .checked .ensures) z), search needs)
 
 same-requires : tie.Need-same-requires
 same-requires c κs = search needs
@@ -26,7 +35,7 @@ same-length : tie.Need-same-length
 same-length c = search needs
 
 returns : tie.Need-returns
-returns c = let t = c .before in rw (c .same .ensures) (step-refused _ _ _ _ _ _ (found-answer _ _ (t .before .before .called .ensures)) (t .if1 .taken))
+returns c = let t = c .before in rw (c .same .ensures) (step-refused _ _ _ _ _ _ (asks (t .before)) (t .if1 .taken))
 
 van-requires : tie.Need-van-requires
 van-requires c κs = laid (c .before)
@@ -35,7 +44,7 @@ act-requires : tie.Need-act-requires
 act-requires c κs =
     let v = c .before .before .before .before in
     let e = v .before .before in
-    let u = called _ _ _ (zero e) in
+    let u = call-clear _ _ _ (zero e) in
     (record { clear = u .read; laid = laid e; form = u .room; held = e .before .before .before .before .before .before .before .before .before .pre }, v .van .ensures .2)
 
 same-length-2 : tie.Need-same-length-2
@@ -51,6 +60,7 @@ pub step-in-spec : {M : Type 1} → statement M
 step-in-spec =
     tie.close
     (tie.spec
+    checked-requires
     called-requires
     same-requires
     same-length

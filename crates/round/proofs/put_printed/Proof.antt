@@ -1,10 +1,11 @@
 use native.Mathlib.Omega.{arith}
 use borrow.Author.Tests.{lt-ltb, le-ltb}
-use Rattle.listing.specs.Put.{put-first, put-length}
-use Rattle.listing.specs.Text.{refusedName, newline, refusedLine}
-use Rattle.listing.specs.Laws.{field-takes}
+use Rattle.listing.proofs.PutLaws.{put-first, put-length}
+use Rattle.listing.specs.Text.{refusedLine, bytes}
+use Rattle.listing.proofs.TextLaws.{field-takes}
 use Rattle.dock.specs.Listing.{printed}
 use borrow.Author.Needs.{needs}
+use Prim.Native.Char.{code}
 use Rattle.round.proofs.put_printed.Statement.{statement}
 use Rattle.round.proofs.put_printed.Tie as tie
 
@@ -20,7 +21,7 @@ returns c =
     let q = c .before .before in
     let t = q .before .before in
     let d = t .before .before .before .before in
-    let k = field-takes refusedName _ newline (q .put-refused .ensures) in
+    let k = field-takes (bytes "refused") _ (code "\n") (q .put-refused .ensures) in
     (rw (lt-ltb _ _ (t .if1 .taken)) (put-first (q .put-refused .ensures) (omega (arith, k .0, d .pre .1))), omega (arith, k .0, k .1, d .pre .1))
 
 list-requires : tie.Need-list-requires

@@ -1,6 +1,7 @@
 use borrow.Author.Needs.{needs}
-use Rattle.laws.specs.Below.{allBelow, below-none, flag-goes, flag-done}
-use Rattle.sheet.specs.Rule.{entryOk}
+use Rattle.laws.proofs.Below.{below-none, flag-goes, flag-done}
+use Rattle.laws.specs.Basic.{allBelow}
+use Rattle.sheet.specs.Word.{entryOk}
 use mathlib.Core.Path.{_≡_}
 use native.Mathlib.Omega.{arith}
 use Prim.Native.Nat.{_≤_, _-_}

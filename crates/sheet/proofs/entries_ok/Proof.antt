@@ -4,10 +4,9 @@ use mathlib.Core.Path.{sym}
 use native.Mathlib.Nat.{not-suc-le-zero}
 use native.Mathlib.Omega.{arith}
 use Prim.Native.Nat.{ℕ, _+_, _-_, _<_, _≤_}
-use Rattle.laws.specs.Below.{below-make}
-use Rattle.laws.specs.Or.{or-goes}
-use Rattle.sheet.specs.Word.{wordAt}
-use Rattle.sheet.specs.Rule.{entryOk}
+use Rattle.laws.proofs.Below.{below-make}
+use Rattle.laws.proofs.Or.{or-goes}
+use Rattle.sheet.specs.Word.{wordAt, entryOk}
 use Rattle.sheet.proofs.entries_ok.Statement.{statement}
 use Rattle.sheet.proofs.entries_ok.Tie as tie
 

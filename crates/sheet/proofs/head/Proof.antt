@@ -1,7 +1,7 @@
 use native.Mathlib.Nat.{mul-le-mul, le-trans}
 use native.Mathlib.Omega.{arith}
 use borrow.Author.Tests.{le-ltb, lt-ltb, le-leb, lt-leb}
-use Rattle.laws.specs.Choice.{orElse}
+use Rattle.laws.specs.Basic.{orElse}
 use Rattle.sheet.specs.Section.{headRefusal}
 use Rattle.sheet.specs.Place.{partOf}
 use borrow.Author.Needs.{needs}

@@ -4,7 +4,7 @@ use mathlib.Core.Bool.{_&&_}
 use native.Mathlib.Omega.{arith}
 use lib.Dec.{leb, ltb}
 use borrow.Author.Tests.{ltb-true, ltb-false, lt-ltb, le-ltb}
-use Rattle.laws.specs.Logic.{decided}
+use Rattle.laws.proofs.Logic.{decided}
 use Rattle.rules.specs.Day.{isInner}
 use borrow.Author.Needs.{needs}
 use Rattle.sheet.proofs.is_inner.Statement.{statement}

@@ -1,6 +1,6 @@
 use native.Mathlib.Omega.{arith}
 use Rattle.sheet.specs.Section.{jobsRefusal}
-use Rattle.sheet.specs.Place.{part-stops, part-judged, part-head}
+use Rattle.sheet.proofs.PlaceLaws.{part-stops, part-judged, part-head}
 use borrow.Author.Needs.{needs}
 use Rattle.sheet.proofs.jobs.Statement.{statement}
 use Rattle.sheet.proofs.jobs.Tie as tie

@@ -1,6 +1,7 @@
 use borrow.Author.Needs.{needs}
-use Rattle.laws.specs.Below.{allBelow, below-none, below-goes, below-stops, below-done}
-use Rattle.sheet.specs.Rule.{jobAtOk}
+use Rattle.laws.proofs.Below.{below-none, below-goes, below-stops, below-done}
+use Rattle.laws.specs.Basic.{allBelow}
+use Rattle.sheet.specs.Word.{jobAtOk}
 use mathlib.Core.Path.{_≡_}
 use mathlib.Core.Bool.{true}
 use native.Mathlib.Omega.{arith}

@@ -1,10 +1,13 @@
 use mathlib.Core.Path.{_≡_, sym, _∙_}
 use native.Mathlib.Omega.{arith}
 use native.Mathlib.Nat.{mul-le-mul}
-use Rattle.laws.specs.Choice.{orElse, or-else-next, first-stops}
-use Rattle.sheet.specs.Section.{nOf, secondsAt, secondsFrom, metresAt, metresFrom, stepsAt, tableRefusal, stepsRefusal, laterRefusal}
-use Rattle.sheet.specs.Place.{partOf, nodes-zero, jobs-zero, part-answer, part-stands, table-is, table-stands, found-refused, found-whole}
+use Rattle.laws.proofs.Choice.{or-else-next, first-stops}
+use Rattle.laws.specs.Basic.{orElse}
+use Rattle.sheet.specs.Section.{nOf, secondsAt, metresAt, stepsAt, tableRefusal, stepsRefusal, laterRefusal, readRefusal}
+use Rattle.sheet.specs.Place.{partOf}
+use Rattle.sheet.proofs.PlaceLaws.{nodes-zero, jobs-zero, part-answer, part-stands, table-is, table-stands, found-refused, found-whole}
 use borrow.Author.Needs.{needs}
+use Prim.Native.Nat.{_+_}
 use Rattle.sheet.proofs.later.Statement.{statement}
 use Rattle.sheet.proofs.later.Tie as tie
 
@@ -13,7 +16,7 @@ seconds-is : (c : tie.After-table) → let s = c .before .before .args .s .now i
 seconds-is c = let p = c .before .before .pre .1 in table-is _ (p .0 .count) (p .1 .end) (c .table .ensures)
 
 seconds-stand : (c : tie.Else1) → let s = c .before .before .before .before .args .s .now in
-    let p = c .before .before .table .result in (p .from ≡ secondsFrom s) × (p .end ≡ metresAt s)
+    let p = c .before .before .table .result in (p .from ≡ secondsAt s + 1) × (p .end ≡ metresAt s)
 seconds-stand c = table-stands _ _ _ (seconds-is (c .before .before)) (c .if1 .left)
 
 metres-is : (c : tie.After-table2) → let s = c .before .before .before .before .before .args .s .now in
@@ -21,16 +24,16 @@ metres-is : (c : tie.After-table2) → let s = c .before .before .before .before
 metres-is c = table-is _ (c .before .before .before .before .before .pre .1 .0 .count) (seconds-stand (c .before) .1) (c .table2 .ensures)
 
 metres-stand : (c : tie.Else2) → let s = c .before .before .before .before .before .before .before .args .s .now in
-    let p = c .before .before .table2 .result in (p .from ≡ metresFrom s) × (p .end ≡ stepsAt s)
+    let p = c .before .before .table2 .result in (p .from ≡ metresAt s + 1) × (p .end ≡ stepsAt s)
 metres-stand c = table-stands _ _ _ (metres-is (c .before .before)) (c .if2 .left)
 
 -- what the refusal comes to once the seconds, and the metres, are passed
 past-seconds : (c : tie.Else1) → let s = c .before .before .before .before .args .s .now in
-    laterRefusal s ≡ orElse (tableRefusal s (nOf s) (metresAt s)) (stepsRefusal s)
+    readRefusal s ≡ orElse (tableRefusal s (nOf s) (metresAt s)) (stepsRefusal s)
 unfolding laterRefusal
-past-seconds c = or-else-next _ _ (sym (part-answer _ _ _ _ (seconds-is (c .before .before))) ∙ c .if1 .left)
+past-seconds c = c .before .before .before .before .pre .0 .3 ∙ or-else-next _ _ (sym (part-answer _ _ _ _ (seconds-is (c .before .before))) ∙ c .if1 .left)
 
-past-metres : (c : tie.Else2) → let s = c .before .before .before .before .before .before .before .args .s .now in laterRefusal s ≡ stepsRefusal s
+past-metres : (c : tie.Else2) → let s = c .before .before .before .before .before .before .before .args .s .now in readRefusal s ≡ stepsRefusal s
 past-metres c = past-seconds (c .before .before .before) ∙ or-else-next _ _ (sym (part-answer _ _ _ _ (metres-is (c .before .before))) ∙ c .if2 .left)
 
 table-requires : tie.Need-table-requires
@@ -41,7 +44,7 @@ refused-requires c κs = search needs
 
 returns : tie.Need-returns
 unfolding laterRefusal
-returns c = found-refused _ _ (c .refused .ensures) (first-stops _ (part-answer _ _ _ _ (seconds-is (c .before .before .before))) (c .before .if1 .taken)) (c .before .if1 .taken)
+returns c = found-refused _ (c .refused .ensures) (first-stops _ (part-answer _ _ _ _ (seconds-is (c .before .before .before))) (c .before .if1 .taken) ∙ sym (c .before .before .before .before .before .pre .0 .3)) (c .before .if1 .taken)
 
 table-requires-2 : tie.Need-table-requires-2
 table-requires-2 c κs = let q = c .before .before .before .before .pre .1 in let p = c .before .before .before .before .pre .0 in let n = nodes-zero _ (p .1) in let j = jobs-zero _ (p .2) in let t = seconds-stand c in omega (arith, mul-le-mul (n .high) (n .high))
@@ -50,7 +53,7 @@ refused-requires-2 : tie.Need-refused-requires-2
 refused-requires-2 c κs = search needs
 
 returns-2 : tie.Need-returns-2
-returns-2 c = found-refused _ _ (c .refused2 .ensures) (first-stops _ (part-answer _ _ _ _ (metres-is (c .before .before .before))) (c .before .if2 .taken) ∙ sym (past-seconds (c .before .before .before .before))) (c .before .if2 .taken)
+returns-2 c = found-refused _ (c .refused2 .ensures) (first-stops _ (part-answer _ _ _ _ (metres-is (c .before .before .before))) (c .before .if2 .taken) ∙ sym (past-seconds (c .before .before .before .before))) (c .before .if2 .taken)
 
 steps-requires : tie.Need-steps-requires
 steps-requires c κs = let p = c .before .before .before .before .before .before .before .pre .0 in let n = nodes-zero _ (p .1) in let j = jobs-zero _ (p .2) in let t = metres-stand c in (t .1, omega (arith, mul-le-mul (n .high) (n .high)))
@@ -59,7 +62,7 @@ refused-requires-3 : tie.Need-refused-requires-3
 refused-requires-3 c κs = search needs
 
 returns-3 : tie.Need-returns-3
-returns-3 c = found-refused _ _ (c .refused3 .ensures) (part-answer _ _ _ _ (c .before .before .before .steps .ensures) ∙ sym (past-metres (c .before .before .before .before))) (c .before .if3 .taken)
+returns-3 c = found-refused _ (c .refused3 .ensures) (part-answer _ _ _ _ (c .before .before .before .steps .ensures) ∙ sym (past-metres (c .before .before .before .before))) (c .before .if3 .taken)
 
 returns-4 : tie.Need-returns-4
 returns-4 c =
@@ -70,7 +73,7 @@ returns-4 c =
     let k = part-stands _ _ _ _ e (c .if3 .left) in
     let t = seconds-stand (c .before .before .before .before .before .before) in
     let m = metres-stand (c .before .before .before) in
-    found-whole _ _
+    found-whole _
     (λ i. record {
       nodes = n .count i;
       jobs = j .count i;

@@ -1,6 +1,6 @@
 use native.Mathlib.Omega.{arith}
 use Rattle.sheet.specs.Section.{nodesRefusal}
-use Rattle.sheet.specs.Place.{part-stops, part-judged, part-head}
+use Rattle.sheet.proofs.PlaceLaws.{part-stops, part-judged, part-head}
 use borrow.Author.Needs.{needs}
 use Rattle.sheet.proofs.nodes.Statement.{statement}
 use Rattle.sheet.proofs.nodes.Tie as tie

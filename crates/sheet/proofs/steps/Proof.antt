@@ -1,7 +1,7 @@
 use mathlib.Core.Path.{ap}
 use lib.Dec.{eqb}
 use Rattle.sheet.specs.Section.{stepsRefusal}
-use Rattle.sheet.specs.Place.{part-stops, part-judged, part-head}
+use Rattle.sheet.proofs.PlaceLaws.{part-stops, part-judged, part-head}
 use borrow.Author.Needs.{needs}
 use Rattle.sheet.proofs.steps.Statement.{statement}
 use Rattle.sheet.proofs.steps.Tie as tie

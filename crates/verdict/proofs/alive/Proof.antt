@@ -2,7 +2,7 @@ use mathlib.Core.Path.{refl, sym, _∙_}
 use lib.Dec.{eqb}
 use borrow.Author.Needs.{needs}
 use borrow.Author.Tests.{not-true, not-false, eqb-true}
-use Rattle.laws.specs.Logic.{and-true}
+use Rattle.laws.proofs.Logic.{and-true}
 use Rattle.day.specs.Tell.{dayOf}
 use Rattle.along.specs.Sets.{planFrom}
 use Rattle.along.proofs.Facts.{route-of}

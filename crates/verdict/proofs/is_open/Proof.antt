@@ -2,7 +2,7 @@ use mathlib.Core.Bool.{not}
 use mathlib.Core.Path.{ap, _∙_}
 use Prim.Native.Nat.{ℕ}
 use lib.Dec.{eqb}
-use Rattle.bits.specs.Number.{ones-none}
+use Rattle.bits.proofs.Number.{ones-none}
 use borrow.Author.Needs.{needs}
 use Rattle.verdict.proofs.is_open.Statement.{statement}
 use Rattle.verdict.proofs.is_open.Tie as tie

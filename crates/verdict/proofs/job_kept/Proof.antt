@@ -3,11 +3,11 @@ use Prim.Native.Nat.{ℕ, _<_}
 use native.Mathlib.Omega.{arith}
 use lib.ListN.{getD}
 use borrow.Author.Needs.{needs}
-use Rattle.bits.specs.Number.{ones-none}
+use Rattle.bits.proofs.Number.{ones-none}
 use Rattle.rules.specs.declared.Job.{Job}
 use Rattle.rules.specs.declared.Job.the-variants.{Transfer}
 use Rattle.day.specs.Seen.{Placed}
-use Rattle.along.specs.Spots.{spot-node}
+use Rattle.along.proofs.SpotLaws.{spot-node}
 use Rattle.verdict.specs.Verdict.{endsKept, orderKept}
 use Rattle.verdict.proofs.job_kept.Statement.{statement}
 use Rattle.verdict.proofs.job_kept.Tie as tie

@@ -3,7 +3,7 @@ use mathlib.Core.Path.{_≡_}
 use borrow.Author.Needs.{needs}
 use Rattle.verdict.specs.Verdict.{onSpot}
 use Rattle.verdict.proofs.Marks.{Asked, asked-none, asked-more, asked-stops, asked-all}
-use Rattle.along.specs.Sets.{rest-less}
+use Rattle.along.proofs.SetLaws.{rest-less}
 use Rattle.verdict.proofs.marks_kept.Statement.{statement}
 use Rattle.verdict.proofs.marks_kept.Tie as tie
 

@@ -2,15 +2,16 @@ use mathlib.Core.Path.{_≡_, refl, sym, ap, _∙_}
 use Prim.Native.Nat.{_+_, _-_, _<_, _≤_}
 use native.Mathlib.Omega.{arith}
 use borrow.Author.Tests.{not-true, not-false}
-use Rattle.laws.specs.Below.{allBelow, below-none, flag-goes, flag-done}
-use Rattle.day.specs.Jobs.{jobIn}
-use Rattle.day.specs.Fit.{placed-read}
+use Rattle.laws.proofs.Below.{below-none, flag-goes, flag-done}
+use Rattle.laws.specs.Basic.{allBelow}
+use Rattle.day.specs.Tell.{jobIn}
+use Rattle.day.proofs.Fit.{placed-read}
 use Rattle.along.specs.Spots.{loadOf}
-use Rattle.along.specs.Route.{job-low}
-use Rattle.along.specs.Loads.{Stowed, stowed-none, stowed-run}
-use Rattle.along.specs.Ready.{jobs-are}
+use Rattle.along.proofs.RouteLaws.{job-low}
+use Rattle.along.proofs.LoadLaws.{Stowed, stowed-none, stowed-run}
+use Rattle.along.proofs.ReadyLaws.{jobs-are}
 use Rattle.verdict.specs.Verdict.{jobKept, ofJob}
-use Rattle.along.proofs.Facts.{near-nodes, two-stops}
+use Rattle.along.proofs.Facts.{near-nodes}
 use Rattle.verdict.proofs.Road.{stow-next, loads-told, nodes-ready}
 use Rattle.verdict.proofs.nodes_kept.Statement.{statement}
 use Rattle.verdict.proofs.nodes_kept.Tie as tie
@@ -23,7 +24,7 @@ abbrev μ-loop : tie.MeasureT-loop
 μ-loop s at van route stops sets marks spots on₀ off₀ m first₀ ok₀ j₀ on off first ok j = m - j
 
 spots-requires : tie.Need-spots-requires Inv-loop μ-loop
-spots-requires c κs = let p = c .before .before .pre in (p .long, p .most, near-nodes p, refl)
+spots-requires c κs = let p = c .before .before .pre in ((p .long, p .most, near-nodes p), refl)
 
 marks-kept-requires : tie.Need-marks-kept-requires Inv-loop μ-loop
 marks-kept-requires c κs = (c .before .spots2 .ensures .long, c .before .before .before .before .pre .sized)
@@ -98,27 +99,19 @@ returns-2 c =
 run-requires : tie.Need-run-requires Inv-loop μ-loop
 run-requires c κs =
     let p = c .before .before .before .before .before .before .before .before .before .before .before .pre in
-    let v = c .before .before .before .before .loop .inv .1 in
-    ((v .wide, v .long, p .most), stowed-run (omega (arith, jobs-are (p .laid), p .laid .fine .m-high)) (p .most) v)
-
-sub-in-capacity : tie.Need-sub-in-capacity Inv-loop μ-loop
-sub-in-capacity c = omega (arith, two-stops (c .before .before .before .before .before .before .before .before .before .before .before .before .before .pre))
-
-in-capacity-requires : tie.Need-in-capacity-requires Inv-loop μ-loop
-in-capacity-requires c κs =
-    let p = c .before .before .before .before .before .before .before .before .before .before .before .before .before .pre in
-    (c .before .run .ensures .long, omega (arith, p .most))
+    stowed-run (omega (arith, jobs-are (p .laid), p .laid .fine .m-high)) (p .most) (c .before .before .before .before .loop .inv .1)
 
 returns-3 : tie.Need-returns-3 Inv-loop μ-loop
 returns-3 c =
-    let o = c .before .before .before .before .before .before .before .before .before .before .before .before .before .before in
-    let v = o .args .van in
-    let b = c .before .before .before .before .before .before in
-    let l = b .before .loop in
-    nodes-ready (o .pre) v (c .before .before .before .before .before .before .before .before .before .before .before .spots2 .ensures)
-    (sym (not-false _ (b .before .before .if1 .left)) ∙ b .before .before .before .marks-kept .ensures)
-    (sym (not-false _ (c .before .before .before .before .before .if2 .left)) ∙ flag-done _ (l .j) _ (l .inv .0) (b .loop-test .left) (l .inv .2))
-    (c .in-capacity .ensures ∙ loads-told (o .pre) v (omega arith) (l .inv .1) (c .before .before .run .ensures))
+    let l = c .before .before .before .before .before in
+    let m = l .before .before .before in
+    let a = m .before .before in
+    let o = a .before .before .before in
+    let v = l .before .loop in
+    nodes-ready (o .pre) (o .args .van) (a .spots2 .ensures)
+    (sym (not-false _ (l .before .before .if1 .left)) ∙ m .marks-kept .ensures)
+    (sym (not-false _ (c .before .before .before .before .if2 .left)) ∙ flag-done _ (v .j) _ (v .inv .0) (l .loop-test .left) (v .inv .2))
+    (loads-told (o .pre) (o .args .van) (omega arith) (v .inv .1) (c .before .run .ensures .1))
 
 pub nodes-kept-spec : {M : Type 1} → statement M
 nodes-kept-spec =
@@ -139,6 +132,4 @@ nodes-kept-spec =
     loop-again
     returns-2
     run-requires
-    sub-in-capacity
-    in-capacity-requires
     returns-3)

@@ -6,11 +6,11 @@ use lib.ListN.{getD, take}
 use borrow.Author.Tests.{le-leb}
 use Rattle.rules.specs.Time.{inTime}
 use Rattle.day.specs.Tell.{dayOf}
-use Rattle.day.specs.Range.{ranges}
-use Rattle.along.specs.Times.{start-low, length-low}
-use Rattle.along.specs.Route.{node-at, low}
+use Rattle.day.proofs.Range.{ranges}
+use Rattle.along.proofs.TimeLaws.{start-low, length-low}
+use Rattle.along.proofs.RouteLaws.{node-at, low}
 use Rattle.along.proofs.Signed.{in-time-told}
-use Rattle.along.specs.Ready.{nodes-are}
+use Rattle.along.proofs.ReadyLaws.{nodes-are}
 use Rattle.verdict.proofs.Road.{Rode, rode-first, rode-late, rode-next, rode-all}
 use Rattle.verdict.proofs.on_the_road.Statement.{statement}
 use Rattle.verdict.proofs.on_the_road.Tie as tie

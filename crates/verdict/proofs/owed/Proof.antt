@@ -1,18 +1,17 @@
 use mathlib.Core.Path.{refl, sym, ap}
 use Prim.Native.Nat.{ℕ}
 use native.Mathlib.Omega.{arith}
-use Rattle.laws.specs.Table.{tab}
-use Rattle.day.specs.Jobs.{jobIn}
-use Rattle.day.specs.Tell.{dayOf}
-use Rattle.along.specs.Route.{node-at}
-use Rattle.along.specs.Ready.{jobs-are, nodes-most}
+use Rattle.laws.specs.Basic.{tab}
+use Rattle.day.specs.Tell.{dayOf, jobIn}
+use Rattle.along.proofs.RouteLaws.{node-at}
+use Rattle.along.proofs.ReadyLaws.{jobs-are, nodes-most}
 use Rattle.verdict.proofs.Road.{owed-told}
 use borrow.Author.Needs.{needs}
 use Rattle.verdict.proofs.owed.Statement.{statement}
 use Rattle.verdict.proofs.owed.Tie as tie
 
 spots-requires : tie.Need-spots-requires
-spots-requires c κs = let p = c .before .before .pre in (p .1 .long, p .1 .most, λ i h. omega (arith, node-at (p .1) i h, nodes-most (p .0)), refl)
+spots-requires c κs = let p = c .before .before .pre in ((p .1 .long, p .1 .most, λ i h. omega (arith, node-at (p .1) i h, nodes-most (p .0))), refl)
 
 placed-requires : tie.Need-placed-requires
 placed-requires c κs = search needs

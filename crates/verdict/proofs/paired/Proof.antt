@@ -2,10 +2,11 @@ use mathlib.Core.Path.{_≡_, sym, ap, _∙_}
 use mathlib.Core.Bool.{true, not}
 use Prim.Native.Nat.{_-_, _≤_}
 use native.Mathlib.Omega.{arith}
-use Rattle.laws.specs.Below.{allBelow, below-none, below-next, below-fails, below-done}
+use Rattle.laws.proofs.Below.{below-none, below-next, below-fails, below-done}
+use Rattle.laws.specs.Basic.{allBelow}
 use Rattle.rules.specs.Verdict.{partnered}
 use Rattle.rules.specs.declared.Job.{Job}
-use Rattle.day.specs.Jobs.{jobIn}
+use Rattle.day.specs.Tell.{jobIn}
 use Rattle.verdict.specs.Verdict.{onSpot, called}
 use Rattle.verdict.proofs.paired.Statement.{statement}
 use Rattle.verdict.proofs.paired.Tie as tie

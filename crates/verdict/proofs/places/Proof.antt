@@ -1,5 +1,5 @@
 use mathlib.Core.Path.{sym}
-use Rattle.along.specs.Sets.{past}
+use Rattle.along.proofs.SetLaws.{past}
 use borrow.Author.Needs.{needs}
 use Rattle.verdict.proofs.places.Statement.{statement}
 use Rattle.verdict.proofs.places.Tie as tie

@@ -7,8 +7,9 @@ use lib.ListN.{getD}
 use borrow.Author.Needs.{needs}
 use borrow.Author.Tests.{ltb-true, lt-ltb, le-ltb}
 use native.Mathlib.Omega.{arith}
-use Rattle.laws.specs.Logic.{and-true}
-use Rattle.along.specs.Spots.{loadOf, spot-node}
+use Rattle.laws.proofs.Logic.{and-true}
+use Rattle.along.specs.Spots.{loadOf}
+use Rattle.along.proofs.SpotLaws.{spot-node}
 use Rattle.along.specs.Loads.{more, stowFirst, stowOn, stowOff}
 use Rattle.along.proofs.loads.stow.Statement.{statement}
 use Rattle.along.proofs.loads.stow.Tie as tie

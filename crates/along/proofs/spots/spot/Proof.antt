@@ -1,6 +1,6 @@
 use borrow.Author.Needs.{needs}
 use native.Mathlib.Omega.{arith}
-use Rattle.along.specs.Spots.{spot-in, spot-past}
+use Rattle.along.proofs.SpotLaws.{spot-in, spot-past}
 use Rattle.along.proofs.spots.spot.Statement.{statement}
 use Rattle.along.proofs.spots.spot.Tie as tie
 

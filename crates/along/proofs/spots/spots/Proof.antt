@@ -1,7 +1,8 @@
 use mathlib.Core.Path.{_≡_}
 use Prim.Native.Nat.{_≤_, _-_}
 use native.Mathlib.Omega.{arith}
-use Rattle.along.specs.Spots.{Spots, spots-none, spots-more}
+use Rattle.along.specs.Spots.{Spots}
+use Rattle.along.proofs.SpotLaws.{spots-none, spots-more}
 use Rattle.along.proofs.spots.spots.Statement.{statement}
 use Rattle.along.proofs.spots.spots.Tie as tie
 
@@ -12,7 +13,7 @@ abbrev μ-loop : tie.MeasureT-loop
 μ-loop route stops at₀ i₀ at i = stops - i
 
 loop-holds : tie.Need-loop-holds Inv-loop μ-loop
-loop-holds c = (omega arith, rw (c .pre .3) (spots-none _))
+loop-holds c = (omega arith, rw (c .pre .1) (spots-none _))
 
 mul-x : tie.Need-mul-x Inv-loop μ-loop
 mul-x c = omega arith
@@ -21,10 +22,10 @@ element-copy-out-x : tie.Need-element-copy-out-x Inv-loop μ-loop
 element-copy-out-x c = omega arith
 
 mul-at : tie.Need-mul-at Inv-loop μ-loop
-mul-at c = omega (arith, c .before .before .before .pre .2 (c .before .before .loop .i) (omega arith))
+mul-at c = omega (arith, c .before .before .before .pre .0 .2 (c .before .before .loop .i) (omega arith))
 
 element-write-at : tie.Need-element-write-at Inv-loop μ-loop
-element-write-at c = omega (arith, c .before .before .before .pre .2 (c .before .before .loop .i) (omega arith), c .before .before .loop .inv .1 .long)
+element-write-at c = omega (arith, c .before .before .before .pre .0 .2 (c .before .before .loop .i) (omega arith), c .before .before .loop .inv .1 .long)
 
 add-i : tie.Need-add-i Inv-loop μ-loop
 add-i c = omega arith
@@ -34,7 +35,7 @@ loop-less c = omega arith
 
 loop-again : tie.Need-loop-again Inv-loop μ-loop
 loop-again c =
-    (omega arith, spots-more (c .before .before .before .pre .2 (c .before .before .loop .i) (omega arith)) (c .before .before .loop .inv .1))
+    (omega arith, spots-more (c .before .before .before .pre .0 .2 (c .before .before .loop .i) (omega arith)) (c .before .before .loop .inv .1))
 
 returns : tie.Need-returns Inv-loop μ-loop
 returns c = let v = c .before .loop .inv in let e : c .before .loop .i ≡ c .before .before .args .stops = omega arith in rw e at (v .1)

@@ -8,8 +8,8 @@ use mir.Syntax.{w64}
 use mir.Val.{toZ}
 use Rattle.rules.specs.Along.{lastAt}
 use Rattle.day.specs.Tell.{dayOf}
-use Rattle.along.specs.Times.{From, from-last, from-down, from-all, last-first, last-told}
-use Rattle.along.specs.Route.{node-at, low}
+use Rattle.along.proofs.TimeLaws.{From, from-last, from-down, from-all, last-first, last-told}
+use Rattle.along.proofs.RouteLaws.{node-at, low}
 use Rattle.along.proofs.times.lasts.Statement.{statement}
 use Rattle.along.proofs.times.lasts.Tie as tie
 

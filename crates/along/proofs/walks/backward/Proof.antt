@@ -1,78 +1,102 @@
 use borrow.Author.Needs.{needs}
+use Prim.Native.Nat.{suc, _≤_, _-_}
 use native.Mathlib.Omega.{arith}
-use mathlib.Core.Path.{_≡_, _∙_, ap}
-use mathlib.Core.Logic.{⊎-elim}
-use Rattle.bits.specs.Places.{minus}
-use Rattle.along.specs.Walks.{fitsAt, metAhead, downFlag}
-use Rattle.along.specs.Stretches.{Back, legs-under, legs-part, back-begin, back-through, back-turn, back-less}
+use native.Mathlib.Numerals.{add-one}
+use mathlib.Core.Path.{_≡_, sym, _∙_}
+use mathlib.Core.Bool.{false, _&&_, _||_}
+use lib.Dec.{eqb}
+use lib.ListN.{getD}
+use borrow.Author.Tests.{leb-true}
+use Rattle.laws.proofs.Logic.{and-true}
+use Rattle.along.specs.Walks.{struck, fitsAt, metAhead, ridesDown}
+use Rattle.along.proofs.WalkLaws.{kept-zero}
+use Rattle.along.proofs.Rides.{Back, back-begin, back-next, back-rest, roomy, asks-room}
 use Rattle.along.proofs.walks.backward.Statement.{statement}
 use Rattle.along.proofs.walks.backward.Tie as tie
 
 abbrev Inv-loop : tie.InvT-loop
-Inv-loop word route heads h highest legs ride w₀ i₀ w i = Back route (fitsAt h ride) (metAhead route ride) (ride .through) legs word i w
+Inv-loop word route h ride partner roomy w₀ on₀ i₀ w on i = (i ≤ ride .legs) × Back route (fitsAt h ride) (metAhead route partner) false (ride .legs) word i w on
 
 abbrev μ-loop : tie.MeasureT-loop
-μ-loop word route heads h highest legs ride w₀ i₀ w i = i
+μ-loop word route h ride partner roomy w₀ on₀ i₀ w on i = i
 
-fits-since-requires : tie.Need-fits-since-requires Inv-loop μ-loop
-fits-since-requires c κs = let p = c .before .pre in (legs-under (p .0) (p .2) (omega arith), p .0 .few, p .0 .low)
+returns : tie.Need-returns Inv-loop μ-loop
+returns c = kept-zero (c .if1 .taken)
+
+fits-all-requires : tie.Need-fits-all-requires Inv-loop μ-loop
+fits-all-requires c κs = let g = c .before .pre in (g .high, g .low)
 
 loop-holds : tie.Need-loop-holds Inv-loop μ-loop
-loop-holds c =
-    ⊎-elim (λ w. rw (w .2) (back-through _ _ _ _ _ _ (w .0 .taken) (c .before .fits .word .fits) (w .1 .ensures)))
-    (λ w. rw (w .1) (back-begin _ _ _ _ _ _ (w .0 .left) (c .before .fits .word .fits))) (c .if1 .came)
+loop-holds c = (omega arith, back-begin _ _ _ _ _)
 
-alights-requires : tie.Need-alights-requires Inv-loop μ-loop
-alights-requires c κs = legs-part (c .before .before .before .pre .0) (c .before .loop .inv .done)
+mul-k : tie.Need-mul-k Inv-loop μ-loop
+mul-k c = omega (arith, c .before .before .before .before .pre .few)
 
-mul-minus : tie.Need-mul-minus Inv-loop μ-loop
-mul-minus c = search needs
+element-copy-out-k : tie.Need-element-copy-out-k Inv-loop μ-loop
+element-copy-out-k c = omega (arith, c .before .before .before .before .pre .few)
 
-element-copy-out-minus : tie.Need-element-copy-out-minus Inv-loop μ-loop
-element-copy-out-minus c = omega (arith, c .before .alights .ensures .high)
+sub-i : tie.Need-sub-i Inv-loop μ-loop
+sub-i c = search needs
 
-mul-minus-2 : tie.Need-mul-minus-2 Inv-loop μ-loop
-mul-minus-2 c = search needs
+mul-p : tie.Need-mul-p Inv-loop μ-loop
+mul-p c = omega (arith, c .before .before .before .before .before .pre .few)
 
-element-copy-out-minus-2 : tie.Need-element-copy-out-minus-2 Inv-loop μ-loop
-element-copy-out-minus-2 c = omega (arith, c .before .before .alights .ensures .high)
+element-copy-out-p : tie.Need-element-copy-out-p Inv-loop μ-loop
+element-copy-out-p c = omega (arith, c .before .before .before .before .before .pre .few)
 
-minus-requires : tie.Need-minus-requires Inv-loop μ-loop
-minus-requires c κs = search needs
+holds-requires : tie.Need-holds-requires Inv-loop μ-loop
+holds-requires c κs = let l = c .before .before .before .before in l .before .before .before .pre .nodes (l .loop .i - 1) (omega arith)
 
-minus-requires-2 : tie.Need-minus-requires-2 Inv-loop μ-loop
-minus-requires-2 c κs = search needs
+mul-rides : tie.Need-mul-rides Inv-loop μ-loop
+mul-rides c = search needs
 
-fits-since-requires-2 : tie.Need-fits-since-requires-2 Inv-loop μ-loop
-fits-since-requires-2 c κs =
-    let t = c .before .before .before .before .before in
-    let p = t .before .before .before .before .pre in
-    let d = t .alights .ensures .high in
-    let g = t .before .before .loop .inv .done in
-    (legs-under (p .0) (p .2) (omega arith), omega (arith, p .0 .few), p .0 .low)
+element-copy-out-rides : tie.Need-element-copy-out-rides Inv-loop μ-loop
+element-copy-out-rides c = search needs
+
+rides-requires : tie.Need-rides-requires Inv-loop μ-loop
+rides-requires c κs = let l = c .before .before .before .before .before .before in asks-room (l .before .before .before .pre) (l .loop .i - 1) (omega arith)
+
+returns-2 : tie.Need-returns-2 Inv-loop μ-loop
+unfolding ridesDown
+returns-2 c =
+    let r = c .before in
+    let g = r .before .before in
+    let l = g .before .before .before .before .before in
+    let o = l .before in
+    let a = o .before .before .args in
+    let t = and-true _ _ (c .if2 .taken) in
+    let i = l .loop .i - 1 in
+    let z : l .loop .i ≡ suc i = omega arith in
+    let e = back-next (a .route .now) _ _ false _ (rw z at (l .loop .inv .1)) (omega arith)
+    (r .rides .ensures ∙ (λ u. fitsAt (a .h .now) (a .ride) i && ((eqb (getD (a .route .now) ((z ∙ sym (add-one i)) u) 0) (a .partner .node) || g .holds .ensures u) || l .loop .on)))
+    (λ u. struck (l .loop .w) (getD (a .route .now) i 0) (sym (t .0) u)) in
+    back-rest (a .route .now) _ _ false _ e (roomy (o .before .before .pre) (leb-true _ _ (sym (o .fits-all .ensures) ∙ t .1))) (t .0) (omega arith)
+
+strike-requires : tie.Need-strike-requires Inv-loop μ-loop
+strike-requires c κs = let l = c .before .before .before .before .before .before .before .before in l .before .before .before .pre .nodes (l .loop .i - 1) (omega arith)
 
 loop-less : tie.Need-loop-less Inv-loop μ-loop
-loop-less c =
-    let t = c .before .before .before .before .before .before in
-    let a = t .before .before .before .before .args in
-    let f = fitsAt (a .h .now) (a .ride) in
-    let m = metAhead (a .route .now) (a .ride) in
-    omega (arith, back-less f m (t .before .loop-test .taken) (t .alights .ensures) (c .fits-since2 .ensures))
+loop-less c = search needs
 
 loop-again : tie.Need-loop-again Inv-loop μ-loop
 loop-again c =
-    let t = c .before .before .before .before .before .before in
-    let l = t .before .before in
-    let p = l .before .before .pre in
-    back-turn _ _ _ _ _ _ (p .0) (p .1) (l .loop .inv) (t .before .loop-test .taken) (t .alights .ensures) (c .fits-since2 .ensures)
-    (c .before .minus2 .ensures ∙ ap (minus (l .loop .w)) (c .before .before .minus .ensures))
+    let r = c .before .before in
+    let g = r .before .before in
+    let l = g .before .before .before .before .before in
+    let a = l .before .before .before .args in
+    let i = l .loop .i - 1 in
+    let z : l .loop .i ≡ suc i = omega arith in (
+      omega arith,
+      back-next (a .route .now) _ _ false _ (rw z at (l .loop .inv .1)) (omega arith)
+          (r .rides .ensures ∙ (λ u. fitsAt (a .h .now) (a .ride) i && ((eqb (getD (a .route .now) ((z ∙ sym (add-one i)) u) 0) (a .partner .node) || g .holds .ensures u) || l .loop .on))) (c .strike .ensures),
+    )
 
-returns : tie.Need-returns Inv-loop μ-loop
-unfolding downFlag
-returns c =
+returns-3 : tie.Need-returns-3 Inv-loop μ-loop
+unfolding ridesDown
+returns-3 c =
     let l = c .before in
-    let e : l .loop .i ≡ 0 = omega (arith, l .loop .inv .done) in
-    rw e at (l .loop .inv .kept)
+    let e : l .loop .i ≡ 0 = omega arith in
+    rw e at (l .loop .inv .1 .kept)
 
 pub backward-spec : {M : Type 1} → statement M
 backward-spec =
@@ -80,16 +104,20 @@ backward-spec =
     (tie.spec
     Inv-loop
     μ-loop
-    fits-since-requires
+    returns
+    fits-all-requires
     loop-holds
-    alights-requires
-    mul-minus
-    element-copy-out-minus
-    mul-minus-2
-    element-copy-out-minus-2
-    minus-requires
-    minus-requires-2
-    fits-since-requires-2
+    mul-k
+    element-copy-out-k
+    sub-i
+    mul-p
+    element-copy-out-p
+    holds-requires
+    mul-rides
+    element-copy-out-rides
+    rides-requires
+    returns-2
+    strike-requires
     loop-less
     loop-again
-    returns)
+    returns-3)

@@ -1,6 +1,7 @@
 use mathlib.Core.Path.{sym, _∙_}
 use borrow.Author.Tests.{le-leb}
-use Rattle.board.specs.Fresh.{freshState, fresh-small, fresh-large}
+use Rattle.board.specs.Fresh.{freshState}
+use Rattle.board.proofs.FreshForm.{fresh-small, fresh-large}
 use borrow.Author.Needs.{needs}
 use Rattle.board.proofs.State.fresh.Statement.{statement}
 use Rattle.board.proofs.State.fresh.Tie as tie

@@ -4,9 +4,9 @@ use mathlib.Core.Path.{refl}
 use Prim.Native.Nat.{_+_, _<_}
 use Rattle.rules.proofs.Inner.{is-inner}
 use Rattle.board.specs.Board.{routeOf}
-use Rattle.board.specs.Change.{placed}
-use Rattle.board.specs.Keep.{split-inside}
-use Rattle.board.specs.Ends.{sets-end}
+use Rattle.board.specs.Change.{placedAfter}
+use Rattle.board.proofs.Keep.{split-inside}
+use Rattle.board.proofs.EndLaws.{sets-end}
 use Rattle.board.proofs.change.place.Statement.{statement}
 use Rattle.board.proofs.change.place.Tie as tie
 
@@ -44,7 +44,7 @@ element-write-sets : tie.Need-element-write-sets
 element-write-sets c = low c
 
 returns : tie.Need-returns
-unfolding placed routeOf
+unfolding placedAfter routeOf
 returns c = λ marks. rw (c .inherit .ensures, c .before .before .insert .ensures, c .before .before .before .before .position .ensures) refl
 
 pub place-spec : {M : Type 1} → statement M

@@ -2,7 +2,7 @@ use borrow.Author.Needs.{needs}
 use mathlib.Core.Path.{refl}
 use Rattle.board.specs.Board.{routeOf}
 use Rattle.board.specs.Change.{unplaced}
-use Rattle.board.specs.Ends.{sets-end}
+use Rattle.board.proofs.EndLaws.{sets-end}
 use Rattle.board.proofs.change.unplace.Statement.{statement}
 use Rattle.board.proofs.change.unplace.Tie as tie
 

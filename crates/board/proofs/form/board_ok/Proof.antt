@@ -2,11 +2,12 @@ use mathlib.Core.Path.{_≡_, sym, _∙_}
 use mathlib.Core.Bool.{true, _&&_}
 use native.Mathlib.Omega.{arith}
 use borrow.Author.Tests.{not-true, not-false, le-leb, lt-leb, eq-eqb, ne-eqb}
-use Rattle.laws.specs.Below.{allBelow}
+use Rattle.laws.specs.Basic.{allBelow}
 use Rattle.board.specs.Route.{wordOf}
 use Rattle.board.specs.Board.{Board, board}
-use Rattle.board.specs.Form.{stopOk, nodeFits, boardOk}
-use Rattle.board.specs.Tests.{zeroFrom, board-test, seen-none, seen-some, nodes-test}
+use Rattle.board.specs.Form.{stopOk, boardOk, setOk, markOk}
+use Rattle.board.specs.Tests.{zeroFrom}
+use Rattle.board.proofs.TestLaws.{board-test, seen-none, seen-some, nodes-test}
 use borrow.Author.Needs.{needs}
 use Rattle.board.proofs.form.board_ok.Statement.{statement}
 use Rattle.board.proofs.form.board_ok.Tie as tie
@@ -55,7 +56,7 @@ here c = board (c .args .route .now) (c .args .stops) (c .args .sets .now) (c .a
 
 -- what is left to ask past the tests of the route's ends
 asked : (c : tie.Else4) → let b = here (start c) in let n = start c .args .n in
-    boardOk n b ≡ ((allBelow (b .stops) (stopOk n (b .stops) (b .route)) && allBelow 64 (zeroFrom (b .stops) (b .route))) && allBelow 64 (nodeFits n b))
+    boardOk n b ≡ ((allBelow (b .stops) (stopOk n (b .stops) (b .route)) && allBelow 64 (zeroFrom (b .stops) (b .route))) && allBelow 64 (λ y. setOk n b y && markOk n b y))
 asked c =
     let s = start c in
     let d = c .before .before .before .before in

@@ -4,9 +4,11 @@ use mathlib.Core.Bool.{true, _&&_}
 use Prim.Native.Nat.{_≤_, _-_}
 use lib.Dec.{leb}
 use borrow.Author.Tests.{lt-leb, le-leb}
-use Rattle.laws.specs.Below.{allBelow, below-none, below-next, below-fails}
+use Rattle.laws.proofs.Below.{below-none, below-next, below-fails}
+use Rattle.laws.specs.Basic.{allBelow}
 use Rattle.board.specs.Form.{levelsOk}
-use Rattle.board.specs.Tests.{entryBefore, rises, zeroFrom, before-next, falls, levels-test}
+use Rattle.board.specs.Tests.{zeroFrom}
+use Rattle.board.proofs.TestLaws.{entryBefore, rises, before-next, falls, levels-test}
 use Rattle.board.proofs.form.levels_ok.Statement.{statement}
 use Rattle.board.proofs.form.levels_ok.Tie as tie
 

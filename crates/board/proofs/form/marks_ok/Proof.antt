@@ -1,4 +1,4 @@
-use Rattle.board.specs.Tests.{marks-test}
+use Rattle.board.proofs.TestLaws.{marks-test}
 use borrow.Author.Needs.{needs}
 use Rattle.board.proofs.form.marks_ok.Statement.{statement}
 use Rattle.board.proofs.form.marks_ok.Tie as tie

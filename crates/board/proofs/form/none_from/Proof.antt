@@ -3,8 +3,10 @@ use mathlib.Core.Path.{_≡_}
 use Prim.Native.Nat.{_≤_, _-_}
 use lib.ListN.{getD}
 use lib.Dec.{eqb}
-use Rattle.laws.specs.Below.{allBelow, below-make, flag-done}
-use Rattle.board.specs.Tests.{zeroFrom, zero-used, zero-past, over-goes}
+use Rattle.laws.proofs.Below.{below-make, flag-done}
+use Rattle.laws.specs.Basic.{allBelow}
+use Rattle.board.specs.Tests.{zeroFrom}
+use Rattle.board.proofs.TestLaws.{zero-used, zero-past, over-goes}
 use Rattle.board.proofs.form.none_from.Statement.{statement}
 use Rattle.board.proofs.form.none_from.Tie as tie
 

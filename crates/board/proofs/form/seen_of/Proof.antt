@@ -3,12 +3,14 @@ use mathlib.Core.Path.{_≡_, sym, ap, _∙_}
 use mathlib.Core.Bool.{true, not}
 use Prim.Native.Nat.{ℕ, _≤_, _-_}
 use lib.ListN.{getD}
-use Rattle.laws.specs.Below.{allBelow, below-none, below-next, below-fails, below-done}
+use Rattle.laws.proofs.Below.{below-none, below-next, below-fails, below-done}
+use Rattle.laws.specs.Basic.{allBelow}
 use Rattle.bits.specs.Places.{has}
 use Rattle.board.specs.Route.{wordOf}
-use Rattle.board.specs.RouteLaws.{word-none, word-more}
+use Rattle.board.proofs.RouteLaws.{word-none, word-more}
 use Rattle.board.specs.Form.{stopOk}
-use Rattle.board.specs.Tests.{seenOf, stop-far, stop-test}
+use Rattle.board.specs.Tests.{seenOf}
+use Rattle.board.proofs.TestLaws.{stop-far, stop-test}
 use Rattle.board.proofs.form.seen_of.Statement.{statement}
 use Rattle.board.proofs.form.seen_of.Tie as tie
 

@@ -3,8 +3,10 @@ use mathlib.Core.Path.{_≡_}
 use Prim.Native.Nat.{_≤_, _-_}
 use lib.ListN.{getD}
 use lib.Dec.{eqb}
-use Rattle.laws.specs.Below.{allBelow, below-none, flag-goes, flag-done}
-use Rattle.board.specs.Tests.{setTest, set-inner, set-outer, outer-first, outer, over-goes}
+use Rattle.laws.proofs.Below.{below-none, flag-goes, flag-done}
+use Rattle.laws.specs.Basic.{allBelow}
+use Rattle.board.specs.Tests.{setTest}
+use Rattle.board.proofs.TestLaws.{set-inner, set-outer, outer-first, outer, over-goes}
 use Rattle.board.proofs.form.sets_ok.Statement.{statement}
 use Rattle.board.proofs.form.sets_ok.Tie as tie
 

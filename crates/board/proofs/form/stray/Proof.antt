@@ -2,7 +2,7 @@ use mathlib.Core.Path.{sym, ap, _∙_}
 use mathlib.Core.Logic.{⊎-elim}
 use Prim.Native.Nat.{ℕ}
 use lib.Dec.{eqb}
-use Rattle.bits.specs.Masks.{minus-zero, minus-none}
+use Rattle.bits.proofs.Masks.{minus-zero, minus-none}
 use borrow.Author.Needs.{needs}
 use Rattle.board.proofs.form.stray.Statement.{statement}
 use Rattle.board.proofs.form.stray.Tie as tie

@@ -4,7 +4,8 @@ use mathlib.Core.Path.{_≡_, sym, ap, _∙_}
 use Prim.Native.Nat.{ℕ, _≤_, _-_, _*_}
 use lib.ListN.{getD}
 use lib.Count.{ones}
-use Rattle.laws.specs.Sum.{sumBelow, sum-none, sum-next}
+use Rattle.laws.proofs.Sum.{sum-none, sum-next}
+use Rattle.laws.specs.Basic.{sumBelow}
 use Rattle.board.specs.Board.{placesOf}
 use Rattle.board.proofs.places.count.Statement.{statement}
 use Rattle.board.proofs.places.count.Tie as tie

@@ -4,10 +4,10 @@ use mathlib.Core.Path.{_≡_, sym, ap, _∙_}
 use mathlib.Core.List.{map}
 use Prim.Native.Nat.{_≤_, _-_}
 use lib.ListN.{length}
-use Rattle.laws.specs.Sweep.{swept, swept-start, map-turn, map-ends}
-use Rattle.bits.specs.Members.{has-none}
+use Rattle.laws.proofs.Sweep.{swept, swept-start, map-turn, map-ends}
+use Rattle.bits.proofs.Members.{has-none}
 use Rattle.board.specs.Change.{heir}
-use Rattle.board.specs.Keep.{heir-no}
+use Rattle.board.proofs.Keep.{heir-no}
 use Rattle.board.proofs.places.inherit.Statement.{statement}
 use Rattle.board.proofs.places.inherit.Tie as tie
 

@@ -4,9 +4,9 @@ use mathlib.Core.Path.{_≡_, sym, ap, _∙_}
 use mathlib.Core.List.{map}
 use Prim.Native.Nat.{_≤_, _-_}
 use lib.ListN.{length}
-use Rattle.laws.specs.Sweep.{swept, swept-start, map-turn, map-ends}
+use Rattle.laws.proofs.Sweep.{swept, swept-start, map-turn, map-ends}
 use Rattle.board.specs.Change.{strike}
-use Rattle.board.specs.Keep.{strike-none}
+use Rattle.board.proofs.Keep.{strike-none}
 use Rattle.board.proofs.places.strike_leg.Statement.{statement}
 use Rattle.board.proofs.places.strike_leg.Tie as tie
 

@@ -1,8 +1,8 @@
 use mathlib.Core.Path.{_≡_}
 use Prim.Native.Nat.{_≤_, _+_}
-use Rattle.laws.specs.Sweep.{swept}
+use Rattle.laws.proofs.Sweep.{swept}
 use Rattle.board.specs.Route.{insertIn}
-use Rattle.board.specs.Shift.{shift-start, shift-turn, shift-end}
+use Rattle.board.proofs.Shift.{shift-start, shift-turn, shift-end}
 use native.Mathlib.Omega.{arith}
 use Rattle.board.proofs.route.insert.Statement.{statement}
 use Rattle.board.proofs.route.insert.Tie as tie

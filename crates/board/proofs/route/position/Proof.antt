@@ -2,7 +2,7 @@ use mathlib.Core.Path.{_≡_, sym}
 use Prim.Native.Nat.{ℕ, _≤_, _<_, _-_}
 use lib.ListN.{getD}
 use borrow.Author.Count.{below-none, below-more}
-use Rattle.board.specs.RouteLaws.{first-at, first-none}
+use Rattle.board.proofs.RouteLaws.{first-at, first-none}
 use native.Mathlib.Omega.{arith}
 use Rattle.board.proofs.route.position.Statement.{statement}
 use Rattle.board.proofs.route.position.Tie as tie

@@ -1,8 +1,8 @@
 use mathlib.Core.Path.{_≡_}
 use Prim.Native.Nat.{_≤_, _-_}
-use Rattle.laws.specs.Sweep.{swept}
+use Rattle.laws.proofs.Sweep.{swept}
 use Rattle.board.specs.Route.{removeIn}
-use Rattle.board.specs.Shift.{close-start, close-turn, close-end}
+use Rattle.board.proofs.Shift.{close-start, close-turn, close-end}
 use native.Mathlib.Omega.{arith}
 use Rattle.board.proofs.route.remove.Statement.{statement}
 use Rattle.board.proofs.route.remove.Tie as tie

@@ -2,7 +2,7 @@ use native.Mathlib.Omega.{arith}
 use mathlib.Core.Path.{_≡_, sym, ap, _∙_}
 use Prim.Native.Nat.{ℕ, _≤_, _-_}
 use Rattle.board.specs.Route.{wordOf}
-use Rattle.board.specs.RouteLaws.{word-none, word-more}
+use Rattle.board.proofs.RouteLaws.{word-none, word-more}
 use Rattle.board.proofs.route.word.Statement.{statement}
 use Rattle.board.proofs.route.word.Tie as tie
 

@@ -1,4 +1,4 @@
-use Rattle.day.specs.Jobs.{jobAt}
+use Rattle.day.specs.Tell.{jobAt}
 use borrow.Author.Tests.{eq-eqb, ne-eqb}
 use borrow.Author.Needs.{needs}
 use Rattle.day.proofs.jobs.job_at.Statement.{statement}

@@ -1,7 +1,7 @@
 use native.Mathlib.Omega.{arith}
-use Rattle.day.specs.Tables.{cell}
-use Rattle.day.specs.Row.{row-end, row-low, entry-low}
-use Rattle.day.specs.Range.{told}
+use Rattle.day.specs.Tell.{cell}
+use Rattle.day.proofs.RowLaws.{row-end, row-low, entry-low}
+use Rattle.day.proofs.Range.{told}
 use borrow.Author.Needs.{needs}
 use Rattle.day.proofs.look.cell_at.Statement.{statement}
 use Rattle.day.proofs.look.cell_at.Tie as tie

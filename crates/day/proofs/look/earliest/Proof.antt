@@ -1,6 +1,6 @@
 use native.Mathlib.Omega.{arith}
 use native.Mathlib.Nat.{le-trans, add-zero}
-use Rattle.day.specs.Range.{ranges, told}
+use Rattle.day.proofs.Range.{ranges, told}
 use borrow.Author.Needs.{needs}
 use Rattle.day.proofs.look.earliest.Statement.{statement}
 use Rattle.day.proofs.look.earliest.Tie as tie

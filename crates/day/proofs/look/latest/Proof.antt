@@ -1,5 +1,5 @@
 use native.Mathlib.Omega.{arith}
-use Rattle.day.specs.Range.{ranges, told}
+use Rattle.day.proofs.Range.{ranges, told}
 use borrow.Author.Needs.{needs}
 use Rattle.day.proofs.look.latest.Statement.{statement}
 use Rattle.day.proofs.look.latest.Tie as tie

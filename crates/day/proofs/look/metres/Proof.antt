@@ -1,4 +1,4 @@
-use Rattle.day.specs.Range.{metres-table}
+use Rattle.day.proofs.Range.{metres-table}
 use Rattle.day.proofs.look.metres.Statement.{statement}
 use Rattle.day.proofs.look.metres.Tie as tie
 

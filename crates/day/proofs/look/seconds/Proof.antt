@@ -1,4 +1,4 @@
-use Rattle.day.specs.Range.{seconds-table}
+use Rattle.day.proofs.Range.{seconds-table}
 use Rattle.day.proofs.look.seconds.Statement.{statement}
 use Rattle.day.proofs.look.seconds.Tie as tie
 

@@ -1,5 +1,5 @@
 use native.Mathlib.Omega.{arith}
-use Rattle.day.specs.Range.{told}
+use Rattle.day.proofs.Range.{told}
 use borrow.Author.Needs.{needs}
 use Rattle.day.proofs.look.step_word.Statement.{statement}
 use Rattle.day.proofs.look.step_word.Tie as tie

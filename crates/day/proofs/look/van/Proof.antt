@@ -1,5 +1,5 @@
 use native.Mathlib.Omega.{arith}
-use Rattle.day.specs.Range.{ranges}
+use Rattle.day.proofs.Range.{ranges}
 use borrow.Author.Needs.{needs}
 use Rattle.day.proofs.look.van.Statement.{statement}
 use Rattle.day.proofs.look.van.Tie as tie

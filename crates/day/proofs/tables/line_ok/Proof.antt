@@ -5,9 +5,11 @@ use Prim.Native.Nat.{_-_, _≤_}
 use mir.Syntax.{w32}
 use mir.Val.{toZ}
 use mir.Facts.{toZ-ofZ}
-use Rattle.laws.specs.Below.{allBelow, below-none, flag-goes, flag-done}
-use Rattle.day.specs.Row.{lineOk, entry-low}
-use Rattle.day.proofs.Signed.{back, entry-fits, sum-fits, sum-back}
+use Rattle.laws.proofs.Below.{below-none, flag-goes, flag-done}
+use Rattle.laws.specs.Basic.{allBelow}
+use Rattle.day.specs.Row.{lineOk}
+use Rattle.day.proofs.RowLaws.{entry-low}
+use Rattle.day.proofs.Signed.{back-32, entry-fits, sum-fits, sum-back}
 use Rattle.day.proofs.tables.line_ok.Statement.{statement}
 use Rattle.day.proofs.tables.line_ok.Tie as tie
 
@@ -57,7 +59,7 @@ loop-again c =
     let b = c .before .before .before .before .before .before in
     let l = entry-low _ _ _ _ (b .pre .1) (c .before .before .loop-test .taken) in
     let e = sum-back l (c .before .word .ensures .is) (b .fits .first) (b .pre .0 .2) in
-    (omega arith, flag-goes _ _ (c .before .before .before .loop .inv .1) (rw (e, toZ-ofZ (b .fits .first), back _ (c .ok .given))))
+    (omega arith, flag-goes _ _ (c .before .before .before .loop .inv .1) (rw (e, toZ-ofZ (b .fits .first), back-32 _ (c .ok .given))))
 
 returns-2 : tie.Need-returns-2 Inv-loop μ-loop
 returns-2 c =

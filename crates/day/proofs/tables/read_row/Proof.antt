@@ -2,9 +2,10 @@ use borrow.Author.Needs.{needs}
 use native.Mathlib.Omega.{arith}
 use Prim.Native.Nat.{_+_, _-_, _≤_}
 use lib.IntN.{pos}
-use Rattle.laws.specs.Table.{Filled, filled-none, filled-more}
+use Rattle.laws.proofs.Table.{filled-none, filled-more}
+use Rattle.laws.specs.Basic.{Filled}
 use Rattle.sheet.specs.Word.{wordAt}
-use Rattle.day.specs.Row.{row-clear, entry-low}
+use Rattle.day.proofs.RowLaws.{row-clear, entry-low}
 use Rattle.day.proofs.Signed.{entry-fits, entry-back}
 use Rattle.day.proofs.tables.read_row.Statement.{statement}
 use Rattle.day.proofs.tables.read_row.Tie as tie

@@ -3,9 +3,10 @@ use mathlib.Core.Path.{_≡_, refl}
 use mathlib.Core.Bool.{true}
 use Prim.Native.Nat.{_-_, _≤_}
 use lib.ListN.{length}
-use Rattle.laws.specs.Below.{allBelow, below-none, below-stops, below-goes, below-done}
-use Rattle.rules.specs.Asked.{shortestRow, triangle}
-use Rattle.day.specs.Tables.{cell}
+use Rattle.laws.proofs.Below.{below-none, below-stops, below-goes, below-done}
+use Rattle.laws.specs.Basic.{allBelow}
+use Rattle.rules.specs.Day.{shortestRow, triangle}
+use Rattle.day.specs.Tell.{cell}
 use borrow.Author.Needs.{needs}
 use Rattle.day.proofs.tables.triangle_ok.Statement.{statement}
 use Rattle.day.proofs.tables.triangle_ok.Tie as tie

@@ -1,6 +1,7 @@
 use Prim.Native.Nat.{_+_}
 use lib.Dec.{leb}
-use Rattle.settle.specs.Round.{fitsIn, first-fails, second-tells}
+use Rattle.settle.specs.Round.{fitsIn}
+use Rattle.settle.proofs.RoundLaws.{first-fails, second-tells}
 use borrow.Author.Needs.{needs}
 use Rattle.settle.proofs.places.fits_in.Statement.{statement}
 use Rattle.settle.proofs.places.fits_in.Tie as tie

@@ -2,13 +2,15 @@ use mathlib.Core.Path.{_≡_, refl, ap, _∙_}
 use Prim.Native.Nat.{ℕ, _+_, _-_, _≤_}
 use native.Mathlib.Omega.{arith}
 use lib.ListN.{getD, take}
-use Rattle.laws.specs.Table.{Filled, filled-none, filled-more}
+use Rattle.laws.proofs.Table.{filled-none, filled-more}
+use Rattle.laws.specs.Basic.{Filled}
 use Rattle.rules.specs.Along.{startAt}
-use Rattle.rules.specs.Metres.{driven}
+use Rattle.rules.specs.Time.{driven}
 use Rattle.day.specs.Tell.{dayOf}
-use Rattle.along.specs.Route.{node-at, low}
-use Rattle.along.specs.Times.{start-low, length-first, length-turn, length-low}
-use Rattle.settle.specs.Round.{leftAt, mostAt, left-told, reach-turn}
+use Rattle.along.proofs.RouteLaws.{node-at, low}
+use Rattle.along.proofs.TimeLaws.{start-low, length-first, length-turn, length-low}
+use Rattle.settle.specs.Round.{leftAt, mostAt}
+use Rattle.settle.proofs.RoundLaws.{left-told, reach-turn}
 use Rattle.settle.proofs.places.legs_of.Statement.{statement}
 use Rattle.settle.proofs.places.legs_of.Tie as tie
 
@@ -24,7 +26,7 @@ element-copy-out-p : tie.Need-element-copy-out-p Inv-loop μ-loop
 element-copy-out-p c = omega arith
 
 earliest-requires : tie.Need-earliest-requires Inv-loop μ-loop
-earliest-requires c κs = let q = c .before .before .pre in (q .0, node-at (q .1) 0 (omega arith))
+earliest-requires c κs = let q = c .before .before .pre .0 in (q .0, node-at (q .1) 0 (omega arith))
 
 loop-holds : tie.Need-loop-holds Inv-loop μ-loop
 loop-holds c =
@@ -33,70 +35,70 @@ loop-holds c =
       refl,
       c .earliest .ensures .is,
       length-first (dayOf (b .args .s .now)) (b .args .route .now),
-      filled-none _ _ _ _ (b .pre .3),
-      filled-none _ _ _ _ (b .pre .4),
+      filled-none _ _ _ _ (b .pre .1 .0),
+      filled-none _ _ _ _ (b .pre .1 .1),
     )
 
 add-k : tie.Need-add-k Inv-loop μ-loop
-add-k c = omega (arith, c .before .before .before .before .before .pre .1 .most)
+add-k c = omega (arith, c .before .before .before .before .before .pre .0 .1 .most)
 
 mul-k : tie.Need-mul-k Inv-loop μ-loop
-mul-k c = omega (arith, c .before .before .before .before .before .pre .1 .most)
+mul-k c = omega (arith, c .before .before .before .before .before .pre .0 .1 .most)
 
 element-copy-out-k : tie.Need-element-copy-out-k Inv-loop μ-loop
-element-copy-out-k c = omega (arith, c .before .before .before .before .before .pre .1 .most)
+element-copy-out-k c = omega (arith, c .before .before .before .before .before .pre .0 .1 .most)
 
 metres-requires : tie.Need-metres-requires Inv-loop μ-loop
 metres-requires c κs =
     let l = c .before .before in
-    let q = l .before .before .before .before .pre in
+    let q = l .before .before .before .before .pre .0 in
     (q .0, rw (l .loop .inv .1) (node-at (q .1) (l .loop .i) (omega arith)), node-at (q .1) (l .loop .i + 1) (omega arith))
 
 service-requires : tie.Need-service-requires Inv-loop μ-loop
 service-requires c κs =
     let l = c .before .before .before in
-    let q = l .before .before .before .before .pre in
+    let q = l .before .before .before .before .pre .0 in
     (q .0, rw (l .loop .inv .1) (node-at (q .1) (l .loop .i) (omega arith)))
 
 add-left : tie.Need-add-left Inv-loop μ-loop
 add-left c =
     let l = c .before .before .before .before in
     let b = l .before .before .before .before in
-    omega (arith, c .service .ensures .low, l .loop .inv .2, start-low (dayOf (b .args .s .now)) (low (b .args .s .now)) (b .args .route .now) (l .loop .i) (omega (arith, b .pre .1 .most)))
+    omega (arith, c .service .ensures .low, l .loop .inv .2, start-low (dayOf (b .args .s .now)) (low (b .args .s .now)) (b .args .route .now) (l .loop .i) (omega (arith, b .pre .0 .1 .most)))
 
 mul-leave : tie.Need-mul-leave Inv-loop μ-loop
-mul-leave c = omega (arith, c .before .before .before .before .before .before .before .before .pre .1 .most)
+mul-leave c = omega (arith, c .before .before .before .before .before .before .before .before .pre .0 .1 .most)
 
 element-write-leave : tie.Need-element-write-leave Inv-loop μ-loop
-element-write-leave c = omega (arith, c .before .before .before .before .before .before .before .before .pre .1 .most)
+element-write-leave c = omega (arith, c .before .before .before .before .before .before .before .before .pre .0 .1 .most)
 
 add-most : tie.Need-add-most Inv-loop μ-loop
-add-most c = omega (arith, c .before .metres .ensures .low, c .before .before .before .before .before .before .before .before .pre .2)
+add-most c = omega (arith, c .before .metres .ensures .low, c .before .before .before .before .before .before .before .before .pre .0 .2)
 
 mul-most : tie.Need-mul-most Inv-loop μ-loop
-mul-most c = omega (arith, c .before .before .before .before .before .before .before .before .pre .1 .most)
+mul-most c = omega (arith, c .before .before .before .before .before .before .before .before .pre .0 .1 .most)
 
 element-write-most : tie.Need-element-write-most Inv-loop μ-loop
-element-write-most c = omega (arith, c .before .before .before .before .before .before .before .before .pre .1 .most)
+element-write-most c = omega (arith, c .before .before .before .before .before .before .before .before .pre .0 .1 .most)
 
 add-total : tie.Need-add-total Inv-loop μ-loop
 add-total c =
     let l = c .before .before .before .before in
     let b = l .before .before .before .before in
-    omega (arith, c .before .metres .ensures .low, l .loop .inv .3, length-low (dayOf (b .args .s .now)) (low (b .args .s .now)) (b .args .route .now) (l .loop .i + 1) (omega (arith, b .pre .1 .most)))
+    omega (arith, c .before .metres .ensures .low, l .loop .inv .3, length-low (dayOf (b .args .s .now)) (low (b .args .s .now)) (b .args .route .now) (l .loop .i + 1) (omega (arith, b .pre .0 .1 .most)))
 
 reach-requires : tie.Need-reach-requires Inv-loop μ-loop
 reach-requires c κs =
     let l = c .before .before .before .before in
     let b = l .before .before .before .before in (
-      b .pre .0,
-      rw (l .loop .inv .1) (node-at (b .pre .1) (l .loop .i) (omega arith)),
-      node-at (b .pre .1) (l .loop .i + 1) (omega arith),
-      omega (arith, c .service .ensures .low, l .loop .inv .2, start-low (dayOf (b .args .s .now)) (low (b .args .s .now)) (b .args .route .now) (l .loop .i) (omega (arith, b .pre .1 .most))),
+      b .pre .0 .0,
+      rw (l .loop .inv .1) (node-at (b .pre .0 .1) (l .loop .i) (omega arith)),
+      node-at (b .pre .0 .1) (l .loop .i + 1) (omega arith),
+      omega (arith, c .service .ensures .low, l .loop .inv .2, start-low (dayOf (b .args .s .now)) (low (b .args .s .now)) (b .args .route .now) (l .loop .i) (omega (arith, b .pre .0 .1 .most))),
     )
 
 add-i : tie.Need-add-i Inv-loop μ-loop
-add-i c = omega (arith, c .before .before .before .before .before .before .before .before .before .pre .1 .most)
+add-i c = omega (arith, c .before .before .before .before .before .before .before .before .before .pre .0 .1 .most)
 
 loop-less : tie.Need-loop-less Inv-loop μ-loop
 loop-less c = omega arith
@@ -114,9 +116,9 @@ loop-again c =
       omega arith,
       refl,
       reach-turn d r i (v .1) e (c .reach .ensures .0),
-      ap (λ (k : ℕ). l .loop .total + k) m ∙ length-turn d r i (omega (arith, b .pre .1 .long, b .pre .1 .most)) (v .3),
-      filled-more _ (v .4) (omega (arith, b .pre .1 .most)) e,
-      filled-more _ (v .5) (omega (arith, b .pre .1 .most)) (ap (λ (k : ℕ). b .args .limit + k) m),
+      ap (λ (k : ℕ). l .loop .total + k) m ∙ length-turn d r i (omega (arith, b .pre .0 .1 .long, b .pre .0 .1 .most)) (v .3),
+      filled-more _ (v .4) (omega (arith, b .pre .0 .1 .most)) e,
+      filled-more _ (v .5) (omega (arith, b .pre .0 .1 .most)) (ap (λ (k : ℕ). b .args .limit + k) m),
     )
 
 returns : tie.Need-returns Inv-loop μ-loop
@@ -125,7 +127,7 @@ returns c =
     let b = c .before .before .before .before .before in
     let e : c .before .loop .i ≡ b .args .legs = omega arith in
     let t = rw e at (v .3) in
-    (record { lefts = rw e at (v .4); mosts = rw e at (v .5) }, t, omega (arith, t, length-low (dayOf (b .args .s .now)) (low (b .args .s .now)) (b .args .route .now) (b .args .legs + 1) (b .pre .1 .most)))
+    (record { lefts = rw e at (v .4); mosts = rw e at (v .5) }, t, omega (arith, t, length-low (dayOf (b .args .s .now)) (low (b .args .s .now)) (b .args .route .now) (b .args .legs + 1) (b .pre .0 .1 .most)))
 
 pub legs-of-spec : {M : Type 1} → statement M
 legs-of-spec =

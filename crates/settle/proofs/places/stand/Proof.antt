@@ -2,11 +2,12 @@ use mathlib.Core.Path.{sym, ap, _∙_}
 use Prim.Native.Nat.{_^_, _<_}
 use native.Mathlib.Omega.{arith}
 use Rattle.bits.specs.Places.{without}
-use Rattle.bits.specs.Members.{without-fits}
+use Rattle.bits.proofs.Members.{without-fits}
 use Rattle.day.specs.Tell.{dayOf}
-use Rattle.along.specs.Sets.{rest-less}
-use Rattle.along.specs.Ready.{nodes-most}
-use Rattle.settle.specs.Round.{fitsPlace, Sifting, sift-all, sift-next, sift-done, least-place}
+use Rattle.along.proofs.SetLaws.{rest-less}
+use Rattle.along.proofs.ReadyLaws.{nodes-most}
+use Rattle.settle.specs.Round.{fitsPlace}
+use Rattle.settle.proofs.RoundLaws.{Sifting, sift-all, sift-next, sift-done, least-place}
 use Rattle.settle.proofs.places.stand.Statement.{statement}
 use Rattle.settle.proofs.places.stand.Tie as tie
 
@@ -30,21 +31,21 @@ element-copy-out-i : tie.Need-element-copy-out-i Inv-loop μ-loop
 element-copy-out-i c =
     let v = c .before .before .loop .inv in
     let r = c .before .before .before .before .pre in
-    let q = least-place (r .2) (v .1) (c .before .loop-test .taken) (v .0) (c .lowest .ensures .0) in
+    let q = least-place (r .1) (v .1) (c .before .loop-test .taken) (v .0) (c .lowest .ensures .0) in
     omega (arith, q .node, nodes-most (r .0))
 
 gap-at-requires : tie.Need-gap-at-requires Inv-loop μ-loop
 gap-at-requires c κs =
     let v = c .before .before .before .loop .inv in
     let r = c .before .before .before .before .before .pre in
-    least-place (r .2) (v .1) (c .before .before .loop-test .taken) (v .0) (c .before .lowest .ensures .0) .few
+    least-place (r .1) (v .1) (c .before .before .loop-test .taken) (v .0) (c .before .lowest .ensures .0) .few
 
 tried-requires : tie.Need-tried-requires Inv-loop μ-loop
 tried-requires c κs =
     let v = c .before .before .before .before .loop .inv in
     let r = c .before .before .before .before .before .before .pre in
-    let q = least-place (r .2) (v .1) (c .before .before .before .loop-test .taken) (v .0) (c .before .before .lowest .ensures .0) in
-    rw (c .gap-at .ensures) (r .0, r .1, record { from = q .node; to = q .next; leave = q .time; total = r .3 })
+    let q = least-place (r .1) (v .1) (c .before .before .before .loop-test .taken) (v .0) (c .before .before .lowest .ensures .0) in
+    rw (c .gap-at .ensures) (r .0, r .1 .node, record { from = q .node; to = q .next; leave = q .time; total = r .1 .total })
 
 rest-requires : tie.Need-rest-requires Inv-loop μ-loop
 rest-requires c κs = let z = c .before .before .before .before .loop-test .taken in omega arith

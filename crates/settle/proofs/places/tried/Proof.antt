@@ -2,7 +2,7 @@ use mathlib.Core.Path.{sym, ap, _∙_}
 use mathlib.Core.Bool.{Bool}
 use native.Mathlib.Omega.{arith}
 use Rattle.along.specs.Walks.{struck}
-use Rattle.along.specs.Ready.{nodes-most}
+use Rattle.along.proofs.ReadyLaws.{nodes-most}
 use Rattle.settle.proofs.places.tried.Statement.{statement}
 use Rattle.settle.proofs.places.tried.Tie as tie
 

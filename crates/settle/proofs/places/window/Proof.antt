@@ -6,9 +6,9 @@ use mir.Syntax.{w64}
 use mir.Val.{toZ, ofZ}
 use Rattle.rules.specs.Time.{inTime}
 use Rattle.day.specs.Tell.{dayOf}
-use Rattle.along.specs.Route.{low}
+use Rattle.along.proofs.RouteLaws.{low}
 use Rattle.along.proofs.Signed.{in-time-told}
-use Rattle.settle.specs.Round.{first-fails, second-tells}
+use Rattle.settle.proofs.RoundLaws.{first-fails, second-tells}
 use borrow.Author.Needs.{needs}
 use Rattle.settle.proofs.places.window.Statement.{statement}
 use Rattle.settle.proofs.places.window.Tie as tie

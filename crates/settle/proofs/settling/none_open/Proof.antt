@@ -3,19 +3,20 @@ use Prim.Native.Nat.{_-_, _≤_}
 use native.Mathlib.Omega.{arith}
 use lib.Dec.{eqb}
 use lib.ListN.{getD}
-use Rattle.laws.specs.Below.{allBelow, below-none, flag-goes, flag-done}
-use Rattle.bits.specs.Masks.{or-none}
+use Rattle.laws.proofs.Below.{below-none, flag-goes, flag-done}
+use Rattle.laws.specs.Basic.{allBelow}
+use Rattle.bits.proofs.Masks.{or-none}
 use Rattle.settle.proofs.settling.none_open.Statement.{statement}
 use Rattle.settle.proofs.settling.none_open.Tie as tie
 
 abbrev Inv-loop : tie.InvT-loop
-Inv-loop sets all₀ i₀ all i = (i ≤ 64) × (allBelow i (λ k. eqb (getD sets k 0) 0) ≡ eqb all 0)
+Inv-loop sets n all₀ i₀ all i = (i ≤ n) × (n ≤ 64) × (allBelow i (λ k. eqb (getD sets k 0) 0) ≡ eqb all 0)
 
 abbrev μ-loop : tie.MeasureT-loop
-μ-loop sets all₀ i₀ all i = 64 - i
+μ-loop sets n all₀ i₀ all i = n - i
 
 loop-holds : tie.Need-loop-holds Inv-loop μ-loop
-loop-holds c = (omega arith, below-none _)
+loop-holds c = (omega arith, c .pre .1, below-none _)
 
 mul-all : tie.Need-mul-all Inv-loop μ-loop
 mul-all c = omega arith
@@ -33,10 +34,10 @@ loop-again : tie.Need-loop-again Inv-loop μ-loop
 loop-again c =
     let l = c .before .before in
     let ws = l .before .args .sets .now in
-    (omega arith, flag-goes _ (λ k. eqb (getD ws k 0) 0) (l .loop .inv .1) refl ∙ sym (or-none (l .loop .all) (getD ws (l .loop .i) 0)))
+    (omega arith, l .loop .inv .1, flag-goes _ (λ k. eqb (getD ws k 0) 0) (l .loop .inv .2) refl ∙ sym (or-none (l .loop .all) (getD ws (l .loop .i) 0)))
 
 returns : tie.Need-returns Inv-loop μ-loop
-returns c = flag-done _ _ _ (c .before .loop .inv .0) (c .loop-test .left) (c .before .loop .inv .1)
+returns c = flag-done _ _ _ (c .before .loop .inv .0) (c .loop-test .left) (c .before .loop .inv .2)
 
 pub none-open-spec : {M : Type 1} → statement M
 none-open-spec =

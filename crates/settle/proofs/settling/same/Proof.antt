@@ -4,7 +4,8 @@ use native.Mathlib.Omega.{arith}
 use lib.Dec.{eqb}
 use lib.ListN.{getD}
 use borrow.Author.Tests.{eq-eqb}
-use Rattle.laws.specs.Below.{allBelow, below-none, below-ends, flag-goes, flag-done}
+use Rattle.laws.proofs.Below.{below-none, below-ends, flag-goes, flag-done}
+use Rattle.laws.specs.Basic.{allBelow}
 use Rattle.settle.proofs.settling.same.Statement.{statement}
 use Rattle.settle.proofs.settling.same.Tie as tie
 

@@ -2,14 +2,11 @@ use borrow.Author.Needs.{needs}
 use Rattle.sheet.proofs.Found.judged.Statement.{statement}
 use Rattle.sheet.proofs.Found.judged.Tie as tie
 
-refused-requires : tie.Need-refused-requires
-refused-requires c κs = search needs
-
 returns : tie.Need-returns
-returns c = search needs
+returns c = rw (c .if1 .taken)
 
 returns-2 : tie.Need-returns-2
-returns-2 c = rw (c .before .if1 .left) (c .refused .ensures)
+returns-2 c = rw (c .before .if1 .left)
 
 pub judged-spec : {M : Type 1} → statement M
-judged-spec = tie.close (tie.spec refused-requires returns returns-2)
+judged-spec = tie.close (tie.spec returns returns-2)

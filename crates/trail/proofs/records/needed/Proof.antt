@@ -1,7 +1,7 @@
 use mathlib.Core.Path.{_≡_, ap, _∙_}
 use Prim.Native.Nat.{_≤_, _-_}
 use Rattle.trail.specs.Trail.{shrunk}
-use Rattle.trail.specs.TrailLaws.{shrunk-none, shrunk-next, shrunk-end}
+use Rattle.trail.proofs.TrailLaws.{shrunk-none, shrunk-next, shrunk-end}
 use native.Mathlib.Omega.{arith}
 use Rattle.trail.proofs.records.needed.Statement.{statement}
 use Rattle.trail.proofs.records.needed.Tie as tie

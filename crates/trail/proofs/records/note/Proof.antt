@@ -2,7 +2,7 @@ use mathlib.Core.Path.{_≡_, refl, _∙_}
 use Prim.Native.Nat.{_≤_, _-_, _+_}
 use lib.ListN.{length}
 use Rattle.trail.specs.Trail.{roomOf, shrunk, noteBelow}
-use Rattle.trail.specs.TrailLaws.{note-none, note-next, note-grows, note-end, shrunk-none, shrunk-upto, shrunk-differ}
+use Rattle.trail.proofs.TrailLaws.{note-none, note-next, note-grows, note-end, shrunk-none, shrunk-upto, shrunk-differ}
 use native.Mathlib.Omega.{arith}
 use Rattle.trail.proofs.records.note.Statement.{statement}
 use Rattle.trail.proofs.records.note.Tie as tie

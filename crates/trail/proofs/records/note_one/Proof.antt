@@ -1,4 +1,4 @@
-use Rattle.trail.specs.TrailLaws.{note-same, note-differ}
+use Rattle.trail.proofs.TrailLaws.{note-same, note-differ}
 use borrow.Author.Needs.{needs}
 use Rattle.trail.proofs.records.note_one.Statement.{statement}
 use Rattle.trail.proofs.records.note_one.Tie as tie

@@ -2,12 +2,12 @@ use mathlib.Core.Path.{_≡_, sym, ap, _∙_}
 use mathlib.Core.Bool.{true}
 use Prim.Native.Nat.{ℕ, _<_}
 use borrow.Author.Tests.{not-true, not-false, lt-ltb, le-ltb}
-use Rattle.laws.specs.Choice.{orElse}
+use Rattle.laws.specs.Basic.{orElse}
 use Rattle.bits.specs.Places.{has}
 use Rattle.rules.specs.Day.{isInner}
 use Rattle.rules.proofs.Inner.{is-inner}
 use Rattle.board.specs.Board.{board, onRoute, setOf, openAt, legNode}
-use Rattle.board.specs.FormLaws.{leg-in, on-word}
+use Rattle.board.proofs.FormLaws.{leg-in, on-word}
 use Rattle.trail.specs.Refusals.{placeRefusal}
 use borrow.Author.Needs.{needs}
 use native.Mathlib.Omega.{arith}

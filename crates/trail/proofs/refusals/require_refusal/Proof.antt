@@ -5,12 +5,12 @@ use mathlib.Core.List.{List}
 use mathlib.Core.Bool.{true}
 use Prim.Native.Nat.{ℕ}
 use borrow.Author.Tests.{not-true, not-false, lt-ltb, le-ltb}
-use Rattle.laws.specs.Choice.{orElse}
+use Rattle.laws.specs.Basic.{orElse}
 use Rattle.bits.specs.Places.{has}
 use Rattle.rules.specs.Day.{isInner}
 use Rattle.rules.proofs.Inner.{is-inner}
 use Rattle.board.specs.Board.{board, onRoute}
-use Rattle.board.specs.FormLaws.{on-word}
+use Rattle.board.proofs.FormLaws.{on-word}
 use Rattle.trail.specs.Refusals.{requireRefusal}
 use Rattle.trail.proofs.refusals.require_refusal.Statement.{statement}
 use Rattle.trail.proofs.refusals.require_refusal.Tie as tie

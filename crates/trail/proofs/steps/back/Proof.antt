@@ -1,15 +1,16 @@
 use native.Mathlib.Omega.{arith}
 use borrow.Author.Tests.{not-true, not-false}
 use Rattle.board.specs.Board.{stateWith}
-use Rattle.board.specs.FormLaws.{InForm, in-form, form-with}
+use Rattle.board.proofs.FormLaws.{in-form, form-with}
+use Rattle.board.specs.Held.{InForm}
 use Rattle.trail.specs.Steps.{baseOf, undoLevel, dropped}
-use Rattle.trail.specs.StepLaws.{base-low, back-none, back-misfit, back-fits}
+use Rattle.trail.proofs.StepLaws.{base-low, back-none, back-misfit, back-fits}
 use borrow.Author.Needs.{needs}
 use Rattle.trail.proofs.steps.back.Statement.{statement}
 use Rattle.trail.proofs.steps.back.Tie as tie
 
 form : (c : tie.Else1) → let a = c .before .before .args in InForm (a .n) (stateWith (a .route .now) (a .sets .now) (a .levels .now) (a .f))
-form c = let h = c .before .before .pre in in-form _ _ (h .0 .small) (h .0 .wide) (form-with _ _ _ (h .2) .0)
+form c = let h = c .before .before .pre in in-form _ _ (h .0 .0 .small) (h .0 .0 .wide) (form-with _ _ _ (h .1) .0)
 
 same-requires : tie.Need-same-requires
 same-requires c κs = search needs
@@ -28,7 +29,7 @@ unfolding baseOf
 undo-many-requires c κs =
     let e = c .before .before .before .before .before in
     let h = e .before .before .pre in
-    (h .0, base-low _ _ (form e) (e .if1 .left), form-with _ _ _ (h .2) .1)
+    (h .0 .0, base-low _ _ (form e) (e .if1 .left), form-with _ _ _ (h .1) .1)
 
 same-requires-2 : tie.Need-same-requires-2
 same-requires-2 c κs = search needs

@@ -6,8 +6,8 @@ use Rattle.board.specs.Board.{board, setOf}
 use Rattle.trail.specs.Trail.{roomOf}
 use Rattle.trail.specs.Refusals.{placeRefusal}
 use Rattle.trail.specs.Steps.{closeStep}
-use Rattle.trail.specs.UndoLaws.{readable}
-use Rattle.trail.specs.StepLaws.{Placeable, placeable, step-no, step-yes}
+use Rattle.trail.proofs.UndoLaws.{readable}
+use Rattle.trail.proofs.StepLaws.{Placeable, placeable, step-no, step-yes}
 use borrow.Author.Needs.{needs}
 use Rattle.trail.proofs.steps.close.Statement.{statement}
 use Rattle.trail.proofs.steps.close.Tie as tie

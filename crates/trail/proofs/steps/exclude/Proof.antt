@@ -7,8 +7,8 @@ use Rattle.board.specs.Board.{board, setOf}
 use Rattle.trail.specs.Trail.{roomOf}
 use Rattle.trail.specs.Refusals.{excludeRefusal}
 use Rattle.trail.specs.Steps.{excludeStep}
-use Rattle.trail.specs.UndoLaws.{readable}
-use Rattle.trail.specs.StepLaws.{excludable, step-no, step-yes}
+use Rattle.trail.proofs.UndoLaws.{readable}
+use Rattle.trail.proofs.StepLaws.{excludable, step-no, step-yes}
 use borrow.Author.Needs.{needs}
 use Rattle.trail.proofs.steps.exclude.Statement.{statement}
 use Rattle.trail.proofs.steps.exclude.Tie as tie

@@ -1,8 +1,8 @@
 use mathlib.Core.Path.{refl}
 use borrow.Author.Tests.{le-ltb, lt-ltb, eqb-false}
-use Rattle.rules.specs.Refusal.{DEPTH}
+use Rattle.rules.specs.Numbers.{refusal}
 use Rattle.trail.specs.Steps.{levelStep}
-use Rattle.trail.specs.StepLaws.{step-no, step-yes}
+use Rattle.trail.proofs.StepLaws.{step-no, step-yes}
 use borrow.Author.Needs.{needs}
 use Rattle.trail.proofs.steps.level.Statement.{statement}
 use Rattle.trail.proofs.steps.level.Tie as tie
@@ -13,7 +13,7 @@ same-requires c κs = search needs
 returns : tie.Need-returns
 unfolding levelStep
 returns c = λ route sets t.
-    rw (c .same .ensures, le-ltb _ 64 (c .before .if1 .taken)) (step-no DEPTH _ t _ (eqb-false DEPTH 0 refl))
+    rw (c .same .ensures, le-ltb _ 64 (c .before .if1 .taken)) (step-no refusal.DEPTH _ t _ (eqb-false refusal.DEPTH 0 refl))
 
 mul-levels : tie.Need-mul-levels
 mul-levels c = search needs

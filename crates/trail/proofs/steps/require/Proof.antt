@@ -8,7 +8,7 @@ use Rattle.board.specs.Change.{marked}
 use Rattle.trail.specs.Trail.{roomOf}
 use Rattle.trail.specs.Refusals.{requireRefusal}
 use Rattle.trail.specs.Steps.{requireStep, recorded}
-use Rattle.trail.specs.StepLaws.{requirable, step-no, step-yes}
+use Rattle.trail.proofs.StepLaws.{requirable, step-no, step-yes}
 use borrow.Author.Needs.{needs}
 use Rattle.trail.proofs.steps.require.Statement.{statement}
 use Rattle.trail.proofs.steps.require.Tie as tie

@@ -4,12 +4,12 @@ use Prim.Native.Nat.{ℕ, _+_, _/_}
 use lib.ListN.{length}
 use native.Mathlib.Omega.{arith}
 use borrow.Author.Tests.{lt-leb, le-leb, eqb-false}
-use Rattle.rules.specs.Refusal.{ROOM}
+use Rattle.rules.specs.Numbers.{refusal}
 use Rattle.board.specs.Board.{stateOf}
-use Rattle.trail.specs.Trail.{roomOf, shrunk, Noted}
-use Rattle.trail.specs.TrailLaws.{note-all}
+use Rattle.trail.specs.Trail.{roomOf, shrunk}
+use Rattle.trail.proofs.TrailLaws.{note-all, Noted}
 use Rattle.trail.specs.Steps.{settleStep, acted}
-use Rattle.trail.specs.StepLaws.{step-no, step-yes, settle-still}
+use Rattle.trail.proofs.StepLaws.{step-no, step-yes, settle-still}
 use borrow.Author.Needs.{needs}
 use Rattle.trail.proofs.steps.settle.Statement.{statement}
 use Rattle.trail.proofs.steps.settle.Tie as tie
@@ -21,14 +21,14 @@ returns : tie.Need-returns
 returns c =
     let e = c .before in
     let d = e .before .before in
-    λ route levels. rw (c .same .ensures, e .if1 .taken, d .pre .5 (e .if1 .taken)) (settle-still _ _ (d .pre .4))
+    λ route levels. rw (c .same .ensures, e .if1 .taken, d .pre .1 .1 (e .if1 .taken)) (settle-still _ _ (d .pre .1 .0))
 
 needed-requires : tie.Need-needed-requires
-needed-requires c κs = let p = c .before .before .before .pre in (p .2, p .3)
+needed-requires c κs = let p = c .before .before .before .pre .0 in (p .2, p .3)
 
 add-if2 : tie.Need-add-if2
 unfolding roomOf
-add-if2 c = let d = c .before .before .before .before in omega (arith, d .pre .4, c .needed .ensures .1, d .good)
+add-if2 c = let d = c .before .before .before .before in omega (arith, d .pre .1 .0, c .needed .ensures .1, d .good)
 
 same-requires-2 : tie.Need-same-requires-2
 same-requires-2 c κs = search needs
@@ -40,13 +40,13 @@ returns-2 c =
     let a = k .before .before .before .before .args in
     let e = lt-leb (a .f .records + shrunk (a .sets .now) (a .new .now) 64) (length (a .trail .now) / 2)
     (omega (arith, k .needed .ensures .0, c .before .if2 .taken)) in
-    λ route levels. rw (c .same2 .ensures, e) (step-no ROOM _ _ _ (eqb-false ROOM 0 refl))
+    λ route levels. rw (c .same2 .ensures, e) (step-no refusal.ROOM _ _ _ (eqb-false refusal.ROOM 0 refl))
 
 note-requires : tie.Need-note-requires
 unfolding roomOf
 note-requires c κs =
     let n = c .before .before .before in
-    let p = n .before .before .before .before .pre in
+    let p = n .before .before .before .before .pre .0 in
     (p .2, p .3, omega (arith, n .needed .ensures .0, c .before .before .if2 .left))
 
 same-length : tie.Need-same-length

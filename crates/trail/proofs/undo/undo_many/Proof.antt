@@ -4,10 +4,10 @@ use Prim.Native.Nat.{ℕ, _≤_, _-_}
 use borrow.Author.Tests.{not-true, not-false}
 use Rattle.board.specs.Route.{wordOf}
 use Rattle.board.specs.Board.{board}
-use Rattle.board.specs.FormLaws.{Sound}
+use Rattle.board.specs.Held.{Sound}
 use Rattle.trail.specs.Trail.{roomOf, firstOf, secondOf}
 use Rattle.trail.specs.Undo.{undoMany}
-use Rattle.trail.specs.UndoLaws.{readable, many-none, many-on, many-stop, one-next}
+use Rattle.trail.proofs.UndoLaws.{readable, many-none, many-on, many-stop, one-next}
 use native.Mathlib.Omega.{arith}
 use Rattle.trail.proofs.undo.undo_many.Statement.{statement}
 use Rattle.trail.proofs.undo.undo_many.Tie as tie

@@ -5,7 +5,7 @@ use borrow.Author.Tests.{not-true, not-false}
 use Rattle.board.specs.Board.{board, routeOf}
 use Rattle.board.specs.Change.{unmarked}
 use Rattle.trail.specs.Undo.{fitsMarked}
-use Rattle.trail.specs.UndoLaws.{readable, undone-no, undone-yes, marked-test}
+use Rattle.trail.proofs.UndoLaws.{readable, undone-no, undone-yes, marked-test}
 use borrow.Author.Needs.{needs}
 use Rattle.trail.proofs.undo.undo_marked.Statement.{statement}
 use Rattle.trail.proofs.undo.undo_marked.Tie as tie

@@ -1,5 +1,5 @@
 use mathlib.Core.Path.{refl, sym, _∙_}
-use Rattle.trail.specs.UndoLaws.{one-shrunk, one-placed, one-marked, one-other}
+use Rattle.trail.proofs.UndoLaws.{one-shrunk, one-placed, one-marked, one-other}
 use borrow.Author.Needs.{needs}
 use Rattle.trail.proofs.undo.undo_one.Statement.{statement}
 use Rattle.trail.proofs.undo.undo_one.Tie as tie

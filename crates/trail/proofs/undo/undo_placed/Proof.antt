@@ -7,9 +7,9 @@ use borrow.Author.Tests.{not-true, not-false}
 use Rattle.rules.specs.Day.{isInner}
 use Rattle.rules.proofs.Inner.{is-inner}
 use Rattle.board.specs.Board.{Board, board, routeOf, onRoute, legsOf}
-use Rattle.board.specs.FormLaws.{inner-inside}
+use Rattle.board.proofs.FormLaws.{inner-inside}
 use Rattle.trail.specs.Undo.{fitsPlaced, stopBefore}
-use Rattle.trail.specs.UndoLaws.{readable, undone-no, undone-yes, placed-out, placed-off, placed-on, placed-test}
+use Rattle.trail.proofs.UndoLaws.{readable, undone-no, undone-yes, placed-out, placed-off, placed-on, placed-test}
 use Rattle.trail.proofs.undo.undo_placed.Statement.{statement}
 use Rattle.trail.proofs.undo.undo_placed.Tie as tie
 

@@ -7,7 +7,7 @@ use Rattle.rules.proofs.Inner.{is-inner}
 use Rattle.board.specs.Board.{board, legsOf, setOf}
 use Rattle.board.specs.Change.{putSet}
 use Rattle.trail.specs.Undo.{fitsShrunk}
-use Rattle.trail.specs.UndoLaws.{undone-no, undone-yes, shrunk-out, shrunk-test}
+use Rattle.trail.proofs.UndoLaws.{undone-no, undone-yes, shrunk-out, shrunk-test}
 use borrow.Author.Needs.{needs}
 use native.Mathlib.Omega.{arith}
 use Rattle.trail.proofs.undo.undo_shrunk.Statement.{statement}

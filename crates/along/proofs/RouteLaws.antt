@@ -1,0 +1,47 @@
+-- Every number of a route in an array, and of its day, is small.
+use mathlib.Core.Path.{_≡_, subst}
+use mathlib.Core.Bool.{Bool, true, false, cond}
+use mathlib.Core.List.{List}
+use Prim.Native.Nat.{ℕ, _+_, _-_, _*_, _<_}
+use native.Mathlib.Omega.{arith}
+use lib.Dec.{eqb}
+use lib.ListN.{getD, length-take}
+use lib.Seq.{getD-take}
+use Rattle.rules.specs.declared.Job.the-variants.{Clean, Soiled, Transfer}
+use Rattle.sheet.specs.Word.{size, wordAt}
+use Rattle.sheet.proofs.PlaceLaws.{word-low}
+use Rattle.sheet.specs.Section.{jobsAt}
+use Rattle.day.specs.Tell.{dayOf, cell, jobOf, jobAt, jobIn}
+use Rattle.along.specs.Spots.{loadOf}
+use Rattle.along.proofs.SpotLaws.{node-low}
+use Rattle.along.proofs.TimeLaws.{Low}
+use Rattle.along.specs.Route.{Route}
+
+pub node-at : {k : ℕ} {l : List ℕ} {n : ℕ} → Route k l n → (i : ℕ) → i < n → getD l i 0 < k
+node-at {k} {l} {n} r i h = subst (λ (x : ℕ). x < k) (getD-take n l i 0 h) (node-low (r .nodes) i (omega (arith, length-take n l, r .long, r .most)))
+
+-- one stop more than legs
+pub stops-legs : {k : ℕ} {l : List ℕ} {n : ℕ} → Route k l n → n - 1 + 1 ≡ n
+stops-legs r = omega (arith, r .some)
+
+pub low : (s : List ℕ) → Low (dayOf s)
+unfolding cell
+low s = record {
+  earliest = λ x. word-low s _;
+  moment = λ x. word-low s _;
+  service = λ x. word-low s _;
+  seconds = λ x y. word-low s _;
+  metres = λ x y. word-low s _;
+}
+
+of-low : (k a b w : ℕ) → w < 4294967296 → loadOf (jobOf k a b w) < 4294967296
+of-low k a b w h = go (eqb k 1) (eqb k 2)
+  where
+    go : (p q : Bool) → loadOf (cond p (Clean a w) (cond q (Soiled a w) (Transfer a b w))) < 4294967296
+    go true q = h
+    go false true = h
+    go false false = h
+
+pub job-low : (s : List ℕ) (i : ℕ) → loadOf (jobIn s i) < 4294967296
+unfolding jobAt
+job-low s i = let p = jobsAt s + 1 + size.job * i in of-low (wordAt s p) (wordAt s (p + 1)) (wordAt s (p + 2)) (wordAt s (p + 3)) (word-low s (p + 3))

@@ -1,0 +1,75 @@
+-- The sheet of document 01 is accepted, each refusal is met by one altered number, and what comes first is refused first.
+use Prim.Native.Nat.{ℕ}
+use mathlib.Core.Path.{_≡_, refl}
+use mathlib.Core.List.{List, [], _∷_}
+use Rattle.laws.specs.Basic.{allBelow, orElse}
+use Rattle.sheet.specs.Word.{wordAt}
+use Rattle.sheet.specs.Section.{headRefusal, limitsRefusal, nodesRefusal, jobsRefusal, tableRefusal, stepsRefusal, laterRefusal, readRefusal}
+use Rattle.rules.specs.Day.{isInner, shortestLine, shortestRow, triangle}
+use Rattle.rules.specs.declared.Job.the-variants.{Transfer}
+use Rattle.day.specs.Refuse.{callRefusal, openRefusal, clash, apart}
+use Rattle.day.specs.Section.{spanOf, sectionOf}
+use Rattle.day.specs.Tell.{dayOf, cell, jobAt, jobIn}
+use Rattle.day.specs.Example.{_▸_, paperJobs, tableWith, stepsWith, sheetOf, sheetWith}
+
+abbrev paper : List ℕ
+paper = sheetWith 2 60 25 100
+
+-- two clean jobs, the second at node x; seconds from node 3 to node 0
+abbrev cleanAgain : ℕ → ℕ → List ℕ
+cleanAgain x back = sheetOf 2 60 25 100 (2 ▸ 1 ▸ 1 ▸ 0 ▸ 2 ▸ 1 ▸ x ▸ 0 ▸ 2 ▸ tableWith back (tableWith 30 (stepsWith 8)))
+
+-- the paper's sheet with another number of seconds from node 3 to node 0, and another count of steps
+abbrev altered : ℕ → ℕ → List ℕ
+altered back steps = sheetOf 2 60 25 100 (paperJobs (tableWith back (tableWith 30 (stepsWith steps))))
+
+record Computed : Type 0 where
+  pub accepted : openRefusal paper ≡ 0
+  pub left-over : openRefusal (altered 30 7) ≡ 1
+  pub short : openRefusal (altered 30 9) ≡ 1
+  pub many-steps : openRefusal (altered 30 2001) ≡ 2
+  pub heavy : openRefusal (sheetWith 1001 60 25 100) ≡ 3
+  pub two-nodes : openRefusal (cleanAgain 2 30) ≡ 0
+  pub one-node : openRefusal (cleanAgain 1 30) ≡ 4
+  pub roundabout : openRefusal (altered 31 8) ≡ 5
+  -- the length before all else; a count's range before shortness, shortness before values, values before the next section; 4 before 5
+  pub empty : openRefusal [] ≡ 1
+  pub odd : openRefusal (3 ▸ 0 ∷ []) ≡ 1
+  pub count-first : openRefusal (3 ▸ []) ≡ 2
+  pub short-next : openRefusal (2 ▸ 9999 ▸ []) ≡ 1
+  pub then-values : openRefusal (2 ▸ 9999 ▸ 0 ▸ []) ≡ 3
+  pub both : openRefusal (cleanAgain 1 31) ≡ 4
+  -- what the sheet says
+  pub job : jobIn paper 0 ≡ Transfer 1 2 2
+  pub latest : dayOf paper .latest 2 ≡ 25
+  pub seconds : dayOf paper .seconds 3 1 ≡ 20
+  pub section3 : sectionOf paper 3 ≡ 3 ▸ 1 ▸ 2 ▸ 2 ▸ []
+  pub section7 : sectionOf paper 7 ≡ []
+  pub refused3 : sectionOf (sheetWith 1001 60 25 100) 3 ≡ []
+  pub refused5 : sectionOf (altered 31 8) 3 ≡ 3 ▸ 1 ▸ 2 ▸ 2 ▸ []
+
+computed : Computed
+unfolding wordAt allBelow orElse headRefusal limitsRefusal nodesRefusal jobsRefusal tableRefusal stepsRefusal laterRefusal readRefusal isInner jobAt clash apart cell shortestLine shortestRow triangle callRefusal openRefusal spanOf sectionOf
+computed = record {
+  accepted = refl;
+  left-over = refl;
+  short = refl;
+  many-steps = refl;
+  heavy = refl;
+  two-nodes = refl;
+  one-node = refl;
+  roundabout = refl;
+  empty = refl;
+  odd = refl;
+  count-first = refl;
+  short-next = refl;
+  then-values = refl;
+  both = refl;
+  job = refl;
+  latest = refl;
+  seconds = refl;
+  section3 = refl;
+  section7 = refl;
+  refused3 = refl;
+  refused5 = refl;
+}

@@ -1,0 +1,116 @@
+-- The one pass that finds two jobs that clash is the test for all pairs.
+use Prim.Native.Nat.{ℕ, _+_, _<_}
+use mathlib.Core.Path.{_≡_, refl, sym, ap, ap₂, _∙_}
+use mathlib.Core.Bool.{Bool, true, false, not, _&&_, _||_, and-true}
+use lib.Dec.{eqb}
+use borrow.Author.Tests.{eqb-true, eqb-false}
+use Rattle.laws.proofs.Logic.{decided}
+use Rattle.laws.proofs.Below.{below-none, below-next, below-fails, below-both, flag-goes}
+use Rattle.laws.specs.Basic.{allBelow}
+use Rattle.bits.specs.Places.{has, with}
+use Rattle.bits.proofs.Members.{has-none, with-same, with-other}
+use Rattle.rules.specs.declared.Job.{Job}
+use Rattle.rules.specs.declared.Job.the-variants.{Clean, Soiled, Transfer}
+use Rattle.day.specs.Refuse.{cleanAt, soiledAt, endAt, clash, apartAt, apart}
+use Rattle.day.specs.declared.jobs.Seen.{Seen}
+use Rattle.day.specs.Seen.{seeing, Placed}
+
+-- w has just the nodes at which f holds of one of the first i jobs
+abbrev pub Met : (ℕ → Job → Bool) → (ℕ → Job) → ℕ → ℕ → Type 0
+Met f g i w = (x : ℕ) → x < 64 → not (has w x) ≡ allBelow i (λ j. not (f x (g j)))
+
+pub record SeenBelow (g : ℕ → Job) (i : ℕ) (s : Seen) : Type 0 where
+  pub clean : Met cleanAt g i (s .clean)
+  pub soiled : Met soiledAt g i (s .soiled)
+  pub ends : Met endAt g i (s .ends)
+
+none : (f : ℕ → Job → Bool) (g : ℕ → Job) → Met f g 0 0
+none f g x l = ap not (has-none x) ∙ sym (below-none (λ j. not (f x (g j))))
+
+pub seen-none : (g : ℕ → Job) {s : Seen} → s .clean ≡ 0 → s .soiled ≡ 0 → s .ends ≡ 0 → SeenBelow g 0 s
+seen-none g p q r = record { clean = rw p (none cleanAt g); soiled = rw q (none soiledAt g); ends = rw r (none endAt g) }
+
+-- ---- one job more
+
+not-or : (a b : Bool) → not (a || b) ≡ (not a && not b)
+not-or true b = refl
+not-or false b = refl
+
+has-with : (w p x : ℕ) → p < 64 → has (with w p) x ≡ (has w x || eqb p x)
+has-with w p x l =
+    decided (eqb p x)
+    (λ e. let q = eqb-true p x e in rw (e, ← q) (with-same w p l ∙ sym (or-yes (has w p))))
+    (λ e. let n = eqb-false p x e in rw e (with-other w p x (λ z. n (sym z)) ∙ sym (or-no (has w x))))
+  where
+    or-yes : (b : Bool) → (b || true) ≡ true
+    or-yes true = refl
+    or-yes false = refl
+
+    or-no : (b : Bool) → (b || false) ≡ b
+    or-no true = refl
+    or-no false = refl
+
+more : (f : ℕ → Job → Bool) (g : ℕ → Job) (i w v : ℕ) → Met f g i w → ((x : ℕ) → x < 64 → not (has v x) ≡ (not (has w x) && not (f x (g i)))) → Met f g (i + 1) v
+more f g i w v m e x l = e x l ∙ ap (λ (b : Bool). b && not (f x (g i))) (m x l) ∙ sym (flag-goes i (λ j. not (f x (g j))) refl refl)
+
+same : (f : ℕ → Job → Bool) (g : ℕ → Job) (i w : ℕ) → Met f g i w → ((x : ℕ) → f x (g i) ≡ false) → Met f g (i + 1) w
+same f g i w m e = more f g i w w m (λ x l. rw (e x) (sym (and-true (not (has w x)))))
+
+one : (f : ℕ → Job → Bool) (g : ℕ → Job) (i w a : ℕ) → a < 64 → Met f g i w → ((x : ℕ) → f x (g i) ≡ eqb a x) → Met f g (i + 1) (with w a)
+one f g i w a h m e = more f g i w (with w a) m (λ x l. rw (has-with w a x h, e x) (not-or (has w x) (eqb a x)))
+
+two : (f : ℕ → Job → Bool) (g : ℕ → Job) (i w a b : ℕ) → a < 64 → b < 64 → Met f g i w → ((x : ℕ) → f x (g i) ≡ (eqb a x || eqb b x)) → Met f g (i + 1) (with (with w a) b)
+two f g i w a b h k m e =
+    more f g i w (with (with w a) b) m (λ x l. rw (has-with (with w a) b x k, has-with w a x h, e x) (three (has w x) (eqb a x) (eqb b x)))
+  where
+    three : (p q r : Bool) → not (p || q || r) ≡ (not p && not (q || r))
+    three true q r = refl
+    three false q r = refl
+
+pub seen-next : (g : ℕ → Job) (i : ℕ) (s : Seen) (q : Job) → g i ≡ q → Placed q → SeenBelow g i s → SeenBelow g (i + 1) (seeing s q)
+seen-next g i s (Clean a w) e h m = record {
+  clean = one cleanAt g i (s .clean) a h (m .clean) (λ x. ap (cleanAt x) e);
+  soiled = same soiledAt g i (s .soiled) (m .soiled) (λ x. ap (soiledAt x) e);
+  ends = same endAt g i (s .ends) (m .ends) (λ x. ap (endAt x) e);
+}
+seen-next g i s (Soiled a w) e h m = record {
+  clean = same cleanAt g i (s .clean) (m .clean) (λ x. ap (cleanAt x) e);
+  soiled = one soiledAt g i (s .soiled) a h (m .soiled) (λ x. ap (soiledAt x) e);
+  ends = same endAt g i (s .ends) (m .ends) (λ x. ap (endAt x) e);
+}
+seen-next g i s (Transfer a b w) e h m = record {
+  clean = same cleanAt g i (s .clean) (m .clean) (λ x. ap (cleanAt x) e);
+  soiled = same soiledAt g i (s .soiled) (m .soiled) (λ x. ap (soiledAt x) e);
+  ends = two endAt g i (s .ends) a b (h .0) (h .1) (m .ends) (λ x. ap (endAt x) e);
+}
+
+-- the words tell whether the next job clashes with one before it
+pub seen-apart : (g : ℕ → Job) (i : ℕ) (s : Seen) (q : Job) → g i ≡ q → Placed q → SeenBelow g i s → not (seeing s q .twice) ≡ apartAt g i
+unfolding clash
+seen-apart g i s (Clean a w) e h m = rw e (m .clean a h)
+seen-apart g i s (Soiled a w) e h m = rw e (m .soiled a h)
+seen-apart g i s (Transfer a b w) e h m =
+    rw e (not-or (has (s .ends) a) (has (s .ends) b) ∙ ap₂ (λ (x y : Bool). x && y) (m .ends a (h .0)) (m .ends b (h .1))
+    ∙ sym (below-both i (λ j. not (endAt a (g j))) (λ j. not (endAt b (g j))) (λ j. not (endAt a (g j) || endAt b (g j))) (λ j. not-or (endAt a (g j)) (endAt b (g j)))))
+
+-- ---- the pass: the first i jobs are apart, and the words hold their nodes
+pub record Passed (g : ℕ → Job) (i : ℕ) (s : Seen) : Type 0 where
+  pub apart : allBelow i (apartAt g) ≡ true
+  pub seen : SeenBelow g i s
+
+pub pass-none : (g : ℕ → Job) {s : Seen} → s .clean ≡ 0 → s .soiled ≡ 0 → s .ends ≡ 0 → Passed g 0 s
+pass-none g p q r = record { apart = below-none _; seen = seen-none g p q r }
+
+module _ (g : ℕ → Job) (i : ℕ) {s : Seen} (p : Passed g i s) {q : Job} (e : q ≡ g i) (h : Placed q) {r : Seen} (t : r ≡ seeing s q) where
+  apart-is : not (r .twice) ≡ apartAt g i
+  apart-is = ap (λ (r : Seen). not (r .twice)) t ∙ seen-apart g i s q (sym e) h (p .seen)
+
+  pub pass-stops : (m : ℕ) → i < m → r .twice ≡ true → false ≡ apart g m
+  unfolding apart
+  pass-stops m l y = sym (below-fails m i (apartAt g) l (sym apart-is ∙ ap not y))
+
+  pub pass-goes : r .twice ≡ false → Passed g (i + 1) r
+  pass-goes y = record {
+    apart = below-next i (apartAt g) (p .apart) (sym apart-is ∙ ap not y);
+    seen = rw t (seen-next g i s q (sym e) h (p .seen));
+  }

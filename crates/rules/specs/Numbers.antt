@@ -1,0 +1,34 @@
+-- 01's numbers, named once: why a sheet or a step is refused, and the kinds of steps.
+use Prim.Native.Nat.{ℕ}
+
+-- why a sheet or a step is refused: the numbers of 01's table
+abbrev pub refusal : record { SHORT : ℕ; COUNT : ℕ; VALUE : ℕ; TWICE : ℕ; TRIANGLE : ℕ; KIND : ℕ; NODE : ℕ; PLACED : ℕ; UNPLACED : ℕ; SHUT : ℕ; OWED : ℕ; ROOM : ℕ; DEPTH : ℕ; FORM : ℕ; MISFIT : ℕ }
+refusal = record {
+  SHORT = 1;  -- "byte length not a multiple of 4, a count missing, a section short, words left over"
+  COUNT = 2;  -- "a count out of its range"
+  VALUE = 3;  -- "a word in sections 1 to 3, or a table entry, against its rule; job node or kind wrong"
+  TWICE = 4;  -- "a node with two jobs of one kind, or two transfer ends"
+  TRIANGLE = 5;  -- "for some three different i, j, k: seconds or metres (i, k) above (i, j) + (j, k)"
+  KIND = 11;  -- "unknown step kind"
+  NODE = 12;  -- "x not in 1 to n−2, or p not in 0 to n−2"
+  PLACED = 13;  -- "x on the route (steps 1 to 4)"
+  UNPLACED = 14;  -- "p not on the route"
+  SHUT = 15;  -- "the place is not open"
+  OWED = 16;  -- "excluding an owed node"
+  ROOM = 17;  -- "records needed exceed the room left"
+  DEPTH = 18;  -- "a 65th level, or stepping back with none"
+  FORM = 19;  -- "state out of form"
+  MISFIT = 20;  -- "a record to be undone does not fit"
+}
+
+-- the kinds of steps
+abbrev pub kinds : record { PLACE : ℕ; CLOSE : ℕ; EXCLUDE : ℕ; REQUIRE : ℕ; SETTLE : ℕ; LEVEL : ℕ; BACK : ℕ }
+kinds = record {
+  PLACE = 1;  -- "1 p x, place x after p"
+  CLOSE = 2;  -- "2 p x, close the place"
+  EXCLUDE = 3;  -- "3 x, exclude: close all its places"
+  REQUIRE = 4;  -- "4 x, require"
+  SETTLE = 5;  -- "5, settle"
+  LEVEL = 6;  -- "6, open a level"
+  BACK = 7;  -- "7, step back: undo to the last level and drop it"
+}

@@ -1,0 +1,16 @@
+-- Laws: TrailLaws, UndoLaws, UndoWords, StepLaws. Small: what one record stands for, and undoing inverts it. Spells: a stretch of the trail undone.
+-- Since: what holds since a level was opened. The theorems: StepBack (stepping back restores the state; every accepted step keeps the form),
+-- Bound (from fresh at most n(n - 2) records), Never (so with that room no step is refused for its room, and none for a misfit), Still (no record,
+-- no change). Examples: small cases, computed.
+pub mod TrailLaws
+pub mod UndoLaws
+pub mod StepLaws
+pub mod Small
+pub mod UndoWords
+pub mod Spells
+pub mod Since
+pub mod StepBack
+pub mod Bound
+pub mod Never
+pub mod Still
+pub mod Examples

@@ -1,0 +1,102 @@
+-- From a fresh state, with room for n(n − 2) records, no step is refused for its room, and none for a misfit.
+use mathlib.Core.Path.{_≡_, refl, ap, sym, _∙_}
+use mathlib.Core.Bool.{Bool, true, false, not, _&&_, _||_}
+use mathlib.Core.List.{List}
+use Prim.Native.Nat.{ℕ, _+_, _-_, _*_, _/_, _≤_, _<_}
+use native.Mathlib.Omega.{arith}
+use lib.Dec.{eqb, leb, ltb}
+use borrow.Author.Tests.{eqb-false, ltb-false, leb-false, not-true}
+use Rattle.laws.proofs.Logic.{and-true}
+use Rattle.laws.proofs.Choice.{or-else-first}
+use Rattle.laws.specs.Basic.{orElse, unless}
+use Rattle.bits.specs.Places.{has}
+use Rattle.bits.proofs.Members.{false-true, within-none}
+use Rattle.rules.specs.Numbers.{refusal}
+use Rattle.rules.specs.Day.{isInner}
+use Rattle.rules.proofs.Inner.{is-inner}
+use Rattle.board.specs.Board.{boardOf, onRoute, setOf, openAt, legNode}
+use Rattle.board.specs.Fresh.{freshState}
+use Rattle.board.specs.Change.{putSet, placedAfter, marked}
+use Rattle.board.specs.declared.State.{State}
+use Rattle.trail.specs.Trail.{roomOf, change, firstWord, shrunk}
+use Rattle.trail.specs.Refusals.{placeRefusal, excludeRefusal, requireRefusal}
+use Rattle.trail.specs.Steps.{undoLevel}
+use Rattle.trail.proofs.Small.{shrinks, places, marks}
+use Rattle.trail.specs.Run.{Smaller, Runs}
+use Rattle.trail.proofs.Since.{strict}
+use Rattle.trail.proofs.Bound.{reached, record-room, settle-room, reached-fits}
+
+-- a test of another number was passed where the refusal is the room's
+skip : (t : Bool) (k b : ℕ) → eqb k 0 ≡ false → eqb k refusal.ROOM ≡ false → orElse (unless t k) b ≡ refusal.ROOM → (t ≡ true) × (b ≡ refusal.ROOM)
+unfolding orElse
+skip true k b n d e = (refl, e)
+skip false k b n d e = absurd (eqb-false k refusal.ROOM d (or-else-first k b (eqb-false k 0 n) ∙ e))
+
+-- and the room's own failed
+last : (t : Bool) → unless t refusal.ROOM ≡ refusal.ROOM → t ≡ false
+last true e = absurd (eqb-false 0 refusal.ROOM refl e)
+last false e = refl
+
+neither : (a b : Bool) → a || b ≡ false → (a ≡ false) × (b ≡ false)
+neither true b e = absurd (false-true (sym e))
+neither false b e = (refl, e)
+
+module _ (n : ℕ) (two : 2 ≤ n) (small : n ≤ 64) (t : List ℕ) (r : State) (u : List ℕ) (run : Runs n (freshState n) t r u) (space : n * (n - 2) ≤ roomOf t) where
+  room-is : roomOf u ≡ roomOf t
+  unfolding roomOf
+  room-is = ap (λ (k : ℕ). k / 2) (reached n two small t r u run .long)
+
+  pub place-roomy : (p x : ℕ) → placeRefusal n (boardOf r) (r .records) (roomOf u) p x ≡ refusal.ROOM → ⊥
+  unfolding placeRefusal
+  place-roomy p x e =
+      let b = boardOf r in
+      let i = skip (isInner n x && legNode n p) refusal.NODE _ refl refl e in
+      let o = skip (not (onRoute b x)) refusal.PLACED _ refl refl (i .1) in
+      let q = skip (onRoute b p) refusal.UNPLACED _ refl refl (o .1) in
+      let w = skip (openAt b x p) refusal.SHUT _ refl refl (q .1) in
+      let a = and-true (isInner n x) (legNode n p) (i .0) in
+      let l = record-room n two small t r u run (firstWord change.PLACING x) (setOf b x) (placedAfter b p x)
+      (places p x (record { node = a .0; leg = a .1; off = not-true (onRoute b x) (o .0); on = q .0 }) (w .0) refl refl refl) in
+      omega (arith, l, room-is, space, ltb-false (r .records) (roomOf u) (last (ltb (r .records) (roomOf u)) (w .1)))
+
+  pub exclude-roomy : (owed : Bool) (x : ℕ) → excludeRefusal n (boardOf r) (r .records) (roomOf u) owed x ≡ refusal.ROOM → ⊥
+  unfolding excludeRefusal
+  exclude-roomy owed x e =
+      let b = boardOf r in
+      let i = skip (isInner n x) refusal.NODE _ refl refl e in
+      let o = skip (not (onRoute b x)) refusal.PLACED _ refl refl (i .1) in
+      let q = skip (not owed) refusal.OWED _ refl refl (o .1) in
+      let z = neither (eqb (setOf b x) 0) (ltb (r .records) (roomOf u)) (last (eqb (setOf b x) 0 || ltb (r .records) (roomOf u)) (q .1)) in
+      let h = reached n two small t r u run .held .words .fits x (omega (arith, is-inner n x (i .0) .1, small)) in
+      let l = record-room n two small t r u run (firstWord change.SHRINKING x) (setOf b x) (putSet b x 0)
+      (shrinks x 0 (record { node = i .0; off = not-true (onRoute b x) (o .0) }) (strict 0 (setOf b x) (omega arith) h (within-none (setOf b x)) (eqb-false (setOf b x) 0 (z .0))) (omega arith) refl refl refl) in
+      omega (arith, l, room-is, space, ltb-false (r .records) (roomOf u) (z .1))
+
+  pub require-roomy : (x : ℕ) → requireRefusal n (boardOf r) (r .records) (roomOf u) x ≡ refusal.ROOM → ⊥
+  unfolding requireRefusal
+  require-roomy x e =
+      let b = boardOf r in
+      let i = skip (isInner n x) refusal.NODE _ refl refl e in
+      let o = skip (not (onRoute b x)) refusal.PLACED _ refl refl (i .1) in
+      let z = neither (has (r .marks) x) (ltb (r .records) (roomOf u)) (last (has (r .marks) x || ltb (r .records) (roomOf u)) (o .1)) in
+      let l = record-room n two small t r u run (firstWord change.MARKING x) 0 (marked b x)
+      (marks x (record { node = i .0; off = not-true (onRoute b x) (o .0) }) (z .0) refl refl refl) in
+      omega (arith, l, room-is, space, ltb-false (r .records) (roomOf u) (z .1))
+
+  pub settle-roomy : (new : List ℕ) → Smaller (r .sets) new → unless (leb (r .records + shrunk (r .sets) new 64) (roomOf u)) refusal.ROOM ≡ refusal.ROOM → ⊥
+  settle-roomy new g e =
+      omega (
+        arith,
+        room-is,
+        space,
+        settle-room n two small t r u run new g,
+        leb-false (r .records + shrunk (r .sets) new 64) (roomOf u) (last (leb (r .records + shrunk (r .sets) new 64) (roomOf u)) e),
+      )
+
+  -- the records stay within the trail's room
+  pub records-room : r .records ≤ roomOf u
+  records-room = reached n two small t r u run .room
+
+  -- every record above the last level fits
+  pub back-fitting : 0 < r .depth → unless (undoLevel n r u .0) refusal.MISFIT ≡ 0
+  back-fitting h = rw (reached-fits n two small t r u run h)

@@ -1,0 +1,118 @@
+-- Each step refused and accepted, and what an accepted one knows.
+use mathlib.Core.Path.{_≡_, refl, ap, ap₂, sym, _∙_}
+use mathlib.Core.Bool.{Bool, true, false, not, _&&_, _||_}
+use mathlib.Core.List.{List}
+use Prim.Native.Nat.{ℕ, _+_, _-_, _≤_, _<_}
+use native.Mathlib.Omega.{arith}
+use lib.Dec.{eqb, ltb}
+use borrow.Author.Tests.{eqb-true, eqb-false, ne-eqb, ltb-true, not-true, lt-ltb, le-ltb, le-leb}
+use Rattle.laws.proofs.Logic.{decided, and-true}
+use Rattle.laws.proofs.Choice.{or-else-zero, passed}
+use Rattle.laws.specs.Basic.{orElse, unless}
+use Rattle.bits.specs.Places.{has}
+use Rattle.bits.proofs.Members.{false-true}
+use Rattle.rules.specs.Numbers.{refusal}
+use Rattle.rules.specs.Day.{isInner}
+use Rattle.board.specs.Board.{Board, boardOf, onBoard, onRoute, setOf, openAt, legNode}
+use Rattle.board.specs.Held.{InForm, Splits}
+use Rattle.board.specs.declared.State.{State}
+use Rattle.trail.specs.Trail.{roomOf, shrunk}
+use Rattle.trail.proofs.TrailLaws.{shrunk-still, note-still, Noted}
+use Rattle.trail.specs.Refusals.{placeRefusal, excludeRefusal, requireRefusal}
+use Rattle.trail.specs.Steps.{Ran, answered, unlessRefused, settleStep, baseOf, undoLevel, dropped, backStep}
+
+pub step-no : (k : ℕ) (s : State) (t : List ℕ) (ran : Ran) → (k ≡ 0 → ⊥) → unlessRefused k s t ran ≡ answered k s t
+unfolding unlessRefused
+step-no k s t ran h = rw (ne-eqb k 0 h)
+
+pub step-yes : (k : ℕ) (s : State) (t : List ℕ) (ran : Ran) → k ≡ 0 → unlessRefused k s t ran ≡ ran
+unfolding unlessRefused
+step-yes k s t ran h = rw h
+
+-- a step that gave 0 was not refused
+pub step-zero : (k : ℕ) (s : State) (t : List ℕ) (ran : Ran) → unlessRefused k s t ran .0 .answer ≡ 0 → k ≡ 0
+step-zero k s t ran e =
+    decided (eqb k 0) (λ q. eqb-true k 0 q)
+    (λ q. sym (ap (λ (r : Ran). r .0 .answer) (step-no k s t ran (eqb-false k 0 q))) ∙ e)
+
+-- ---- what an accepted step knows
+
+pub record Placeable (n : ℕ) (b : Board) (records room p x : ℕ) : Type 0 where
+  pub split : Splits n b p x
+  pub place : openAt b x p ≡ true
+  pub left : records < room
+
+pub placeable : (n : ℕ) (b : Board) (records room p x : ℕ) → placeRefusal n b records room p x ≡ 0 → Placeable n b records room p x
+unfolding placeRefusal
+placeable n b records room p x e =
+    let h = or-else-zero (unless (isInner n x && legNode n p) refusal.NODE) _ e in
+    let i = and-true (isInner n x) (legNode n p) (passed (isInner n x && legNode n p) refusal.NODE refl (h .0)) in
+    let o = or-else-zero (unless (not (onRoute b x)) refusal.PLACED) _ (h .1) in
+    let q = or-else-zero (unless (onRoute b p) refusal.UNPLACED) _ (o .1) in
+    let r = or-else-zero (unless (openAt b x p) refusal.SHUT) _ (q .1) in
+    record {
+      split = record { node = i .0; leg = i .1; off = not-true (onRoute b x) (passed (not (onRoute b x)) refusal.PLACED refl (o .0)); on = passed (onRoute b p) refusal.UNPLACED refl (q .0) };
+      place = passed (openAt b x p) refusal.SHUT refl (r .0);
+      left = ltb-true records room (passed (ltb records room) refusal.ROOM refl (r .1));
+    }
+
+-- x may change: it is an inner node off the route
+pub record Free (n : ℕ) (b : Board) (x : ℕ) : Type 0 where
+  pub node : isInner n x ≡ true
+  pub off : onRoute b x ≡ false
+
+or-left : (a b : Bool) → a || b ≡ true → a ≡ false → b ≡ true
+or-left true b e f = absurd (false-true (sym f))
+or-left false b e f = e
+
+pub excludable : (n : ℕ) (b : Board) (records room : ℕ) (owed : Bool) (x : ℕ) → excludeRefusal n b records room owed x ≡ 0
+    → Free n b x × ((setOf b x ≡ 0 → ⊥) → records < room)
+unfolding excludeRefusal
+excludable n b records room owed x e =
+    let h = or-else-zero (unless (isInner n x) refusal.NODE) _ e in
+    let o = or-else-zero (unless (not (onRoute b x)) refusal.PLACED) _ (h .1) in
+    let w = or-else-zero (unless (not owed) refusal.OWED) _ (o .1) in
+    let r = passed (eqb (setOf b x) 0 || ltb records room) refusal.ROOM refl (w .1) in (
+      record { node = passed (isInner n x) refusal.NODE refl (h .0); off = not-true (onRoute b x) (passed (not (onRoute b x)) refusal.PLACED refl (o .0)) },
+      λ d. ltb-true records room (or-left (eqb (setOf b x) 0) (ltb records room) r (ne-eqb (setOf b x) 0 d)),
+    )
+
+pub requirable : (n : ℕ) (b : Board) (records room x : ℕ) → requireRefusal n b records room x ≡ 0
+    → Free n b x × (has (b .marks) x ≡ false → records < room)
+unfolding requireRefusal
+requirable n b records room x e =
+    let h = or-else-zero (unless (isInner n x) refusal.NODE) _ e in
+    let o = or-else-zero (unless (not (onRoute b x)) refusal.PLACED) _ (h .1) in
+    let r = passed (has (b .marks) x || ltb records room) refusal.ROOM refl (o .1) in (
+      record { node = passed (isInner n x) refusal.NODE refl (h .0); off = not-true (onRoute b x) (passed (not (onRoute b x)) refusal.PLACED refl (o .0)) },
+      λ d. ltb-true records room (or-left (has (b .marks) x) (ltb records room) r d),
+    )
+
+-- ---- settling
+
+-- sets that stay: nothing changes
+pub settle-still : (s : State) (t : List ℕ) → s .records ≤ roomOf t → settleStep s t 0 (s .sets) ≡ answered 0 s t
+unfolding settleStep
+settle-still s t h =
+    let e : s .records + shrunk (s .sets) (s .sets) 64 ≡ s .records = omega (arith, shrunk-still (s .sets) 64) in
+    step-yes _ s t _ (ap (λ (b : Bool). unless b refusal.ROOM) (le-leb _ (roomOf t) (omega (arith, e))))
+    ∙ ap₂ (λ (k : ℕ) (b : Noted). answered 0 (onBoard s (boardOf s) k) (b .1)) e (note-still (s .sets) 64 (s .records, t))
+
+-- ---- stepping back
+
+pub base-low : (n : ℕ) (s : State) → InForm n s → 0 < s .depth → baseOf s ≤ s .records
+unfolding baseOf
+base-low n s f h = f .levels .held (s .depth - 1) (omega arith)
+
+pub back-none : (n : ℕ) (s : State) (t : List ℕ) → s .depth < 1 → backStep n s t ≡ answered refusal.DEPTH s t
+unfolding backStep orElse
+back-none n s t h = rw (le-ltb 0 (s .depth) (omega arith)) (step-no refusal.DEPTH s t _ (eqb-false refusal.DEPTH 0 refl))
+
+module _ (n : ℕ) (s : State) (t : List ℕ) (f : Bool) (b : Board) (h : 0 < s .depth) (e : undoLevel n s t ≡ (f, b)) where
+  pub back-misfit : f ≡ false → backStep n s t ≡ answered refusal.MISFIT s t
+  unfolding backStep orElse
+  back-misfit z = rw (lt-ltb 0 (s .depth) h, e, z) (step-no refusal.MISFIT s t _ (eqb-false refusal.MISFIT 0 refl))
+
+  pub back-fits : f ≡ true → backStep n s t ≡ answered 0 (dropped s b) t
+  unfolding backStep orElse
+  back-fits z = rw (lt-ltb 0 (s .depth) h, e, z) (step-yes 0 s t _ refl)

@@ -1,0 +1,188 @@
+-- Undoing one record and many: loops, and the form that stays.
+use mathlib.Core.Path.{_≡_, refl, ap, sym, _∙_, subst}
+use mathlib.Core.Bool.{Bool, true, false, cond, not, _&&_, and-false}
+use mathlib.Core.List.{List}
+use Prim.Native.Nat.{ℕ, zero, suc, _-_, _≤_, _<_}
+use native.Mathlib.Omega.{arith}
+use lib.Dec.{eqb, leb, ltb}
+use borrow.Author.Tests.{ne-eqb, not-true, ltb-true, ltb-false, lt-ltb, le-ltb, lt-leb, le-leb}
+use Rattle.laws.proofs.Logic.{decided, and-true}
+use Rattle.bits.specs.Places.{has, without, within}
+use Rattle.rules.specs.Day.{isInner}
+use Rattle.rules.proofs.Inner.{is-inner}
+use Rattle.board.specs.Board.{Board, routeOf, onRoute, legsOf, setOf}
+use Rattle.board.specs.Change.{putSet, unplaced, unmarked}
+use Rattle.board.proofs.FormLaws.{on-leg, route-long}
+use Rattle.board.specs.Held.{Wide, Sound}
+use Rattle.board.specs.Route.{indexOf}
+use Rattle.board.proofs.RouteLaws.{index-mem}
+use Rattle.board.proofs.Keep.{put-wide, put-formed, unplaced-wide, unplaced-formed, unmarked-formed}
+use Rattle.trail.specs.Trail.{firstOf, secondOf, change, recordKind, recordNode}
+use Rattle.trail.specs.Undo.{strictly, stopBefore, fitsShrunk, fitsPlaced, fitsMarked, Undone, undone, undoShrunk, undoPlaced, undoMarked, undoOne, undoMany, Readable}
+
+pub readable : (n : ℕ) (b : Board) → Sound n b → Readable n (b .stops) (b .route)
+readable n b s = (s .small, omega (arith, s .small, s .form .route .most), s .wide .route, λ i h. omega (arith, s .small, s .form .route .below i h))
+
+-- ---- each kind
+
+pub undone-no : (b c : Board) {t : Bool} → t ≡ false → undone t c b ≡ (false, b)
+unfolding undone
+undone-no b c e = rw e
+
+pub undone-yes : (b c : Board) {t : Bool} → t ≡ true → undone t c b ≡ (true, c)
+unfolding undone
+undone-yes b c e = rw e
+
+pub one-shrunk : (n : ℕ) (b : Board) (a w : ℕ) → recordKind a ≡ change.SHRINKING → undoOne n b a w ≡ undoShrunk n b (recordNode a) w
+unfolding undoOne
+one-shrunk n b a w e = rw e
+
+pub one-placed : (n : ℕ) (b : Board) (a w : ℕ) → recordKind a ≡ change.PLACING → undoOne n b a w ≡ undoPlaced n b (recordNode a) w
+unfolding undoOne
+one-placed n b a w e = rw e
+
+pub one-marked : (n : ℕ) (b : Board) (a w : ℕ) → recordKind a ≡ change.MARKING → undoOne n b a w ≡ undoMarked b (recordNode a) w
+unfolding undoOne
+one-marked n b a w e = rw e
+
+pub one-other : (n : ℕ) (b : Board) (a w : ℕ) → (recordKind a ≡ change.SHRINKING → ⊥) → (recordKind a ≡ change.PLACING → ⊥) → (recordKind a ≡ change.MARKING → ⊥) → undoOne n b a w ≡ (false, b)
+unfolding undoOne
+one-other n b a w e f g = rw (ne-eqb (recordKind a) change.SHRINKING e, ne-eqb (recordKind a) change.PLACING f, ne-eqb (recordKind a) change.MARKING g)
+
+-- ---- the tests as the code makes them, on a board in form
+
+pub shrunk-out : (n : ℕ) (b : Board) (x w : ℕ) → isInner n x ≡ false → fitsShrunk n b x w ≡ false
+unfolding fitsShrunk
+shrunk-out n b x w e = rw e
+
+pub placed-out : (n : ℕ) (b : Board) (x w : ℕ) → isInner n x ≡ false → fitsPlaced n b x w ≡ false
+unfolding fitsPlaced
+placed-out n b x w e = rw e
+
+pub shrunk-test : (n : ℕ) (b : Board) (x w : ℕ) → Sound n b → isInner n x ≡ true
+    → fitsShrunk n b x w ≡ not (has (legsOf b) x) && (strictly (setOf b x) w && within w (legsOf b))
+unfolding fitsShrunk
+shrunk-test n b x w s e = rw (e, on-leg n b (s .small) (s .wide) (s .form) x e)
+
+on-index : (n : ℕ) (b : Board) (x : ℕ) → Sound n b → ltb (indexOf x (routeOf b)) (b .stops) ≡ onRoute b x
+unfolding onRoute
+on-index n b x s = ap (λ (k : ℕ). ltb (indexOf x (routeOf b)) k) (sym (route-long n b (s .small) (s .wide) (s .form .route))) ∙ index-mem x (routeOf b)
+
+pub placed-on : (n : ℕ) (b : Board) (x : ℕ) → Sound n b → indexOf x (routeOf b) < b .stops → onRoute b x ≡ true
+placed-on n b x s h = sym (on-index n b x s) ∙ lt-ltb (indexOf x (routeOf b)) (b .stops) h
+
+pub placed-off : (n : ℕ) (b : Board) (x w : ℕ) → Sound n b → b .stops ≤ indexOf x (routeOf b) → fitsPlaced n b x w ≡ false
+unfolding fitsPlaced
+placed-off n b x w s h = rw (sym (on-index n b x s) ∙ le-ltb (indexOf x (routeOf b)) (b .stops) h, and-false (isInner n x))
+
+pub placed-test : (n : ℕ) (b : Board) (x w : ℕ) → isInner n x ≡ true → onRoute b x ≡ true
+    → fitsPlaced n b x w ≡ within w (without (legsOf b) x) && has w (stopBefore b x)
+unfolding fitsPlaced
+placed-test n b x w e m = rw (e, m)
+
+pub marked-test : (n : ℕ) (b : Board) (x w : ℕ) → Sound n b → fitsMarked b x w ≡ leb (b .stops) (indexOf x (routeOf b)) && (has (b .marks) x && eqb w 0)
+unfolding fitsMarked
+marked-test n b x w s =
+    rw (← on-index n b x s) (ap (λ (t : Bool). t && (has (b .marks) x && eqb w 0)) (turn (indexOf x (routeOf b)) (b .stops)))
+  where
+    turn : (i k : ℕ) → not (ltb i k) ≡ leb k i
+    turn i k = decided (ltb i k) (λ e. rw (e, lt-leb k i (ltb-true i k e))) (λ e. rw (e, le-leb k i (ltb-false i k e)))
+
+-- ---- a record that fits leaves the board in form, whoever wrote it
+
+undone-keeps : (n : ℕ) (t : Bool) (b c : Board) → (t ≡ true → Sound n c) → Sound n b → Sound n (undone t c b .1)
+unfolding undone
+undone-keeps n true b c f s = f refl
+undone-keeps n false b c f s = s
+
+shrunk-sound : (n : ℕ) (b : Board) (x w : ℕ) → Sound n b → fitsShrunk n b x w ≡ true → Sound n (putSet b x w)
+unfolding fitsShrunk
+shrunk-sound n b x w s e =
+    let p = and-true (isInner n x && not (onRoute b x)) _ e in
+    let q = and-true (isInner n x) (not (onRoute b x)) (p .0) in
+    let r = and-true (strictly (setOf b x) w) (within w (legsOf b)) (p .1) in
+    record {
+      small = s .small;
+      wide = put-wide b x w (s .wide);
+      form = put-formed n b x w (s .wide) (s .form) (omega (arith, is-inner n x (q .0) .1, s .small)) (q .0) (not-true (onRoute b x) (q .1)) (r .1);
+    }
+
+placed-sound : (n : ℕ) (b : Board) (x w : ℕ) → Sound n b → fitsPlaced n b x w ≡ true → Sound n (unplaced b x w)
+unfolding fitsPlaced
+placed-sound n b x w s e =
+    let p = and-true (isInner n x && onRoute b x) _ e in
+    let q = and-true (isInner n x) (onRoute b x) (p .0) in
+    let r = and-true (within w (without (legsOf b) x)) _ (p .1) in
+    record {
+      small = s .small;
+      wide = unplaced-wide n b x w (s .small) (s .wide) (s .form) (q .0) (q .1);
+      form = unplaced-formed n b x w (s .small) (s .wide) (s .form) (q .0) (q .1) (r .0);
+    }
+
+unmarked-wide : (b : Board) (x : ℕ) → Wide b → Wide (unmarked b x)
+unfolding unmarked
+unmarked-wide b x h = record { route = h .route; sets = h .sets }
+
+marked-sound : (n : ℕ) (b : Board) (x : ℕ) → Sound n b → Sound n (unmarked b x)
+marked-sound n b x s = record { small = s .small; wide = unmarked-wide b x (s .wide); form = unmarked-formed n b x (s .form) }
+
+-- what holds after a record of each kind, and where none fits, holds after any
+pub one-by : (P : Undone → Type 0) (n : ℕ) (b : Board) (a w : ℕ) → P (undoShrunk n b (recordNode a) w) → P (undoPlaced n b (recordNode a) w) → P (undoMarked b (recordNode a) w)
+    → P (false, b) → P (undoOne n b a w)
+unfolding undoOne
+one-by P n b a w p q r s = pick (eqb (recordKind a) change.SHRINKING) p (pick (eqb (recordKind a) change.PLACING) q (pick (eqb (recordKind a) change.MARKING) r s))
+  where
+    pick : (t : Bool) {x y : Undone} → P x → P y → P (cond t x y)
+    pick true h g = h
+    pick false h g = g
+
+pub one-sound : (n : ℕ) (b : Board) (a w : ℕ) → Sound n b → Sound n (undoOne n b a w .1)
+one-sound n b a w s =
+    one-by (λ (u : Undone). Sound n (u .1)) n b a w
+    (undone-keeps n (fitsShrunk n b (recordNode a) w) b _ (shrunk-sound n b (recordNode a) w s) s)
+    (undone-keeps n (fitsPlaced n b (recordNode a) w) b _ (placed-sound n b (recordNode a) w s) s)
+    (undone-keeps n (fitsMarked b (recordNode a) w) b _ (λ h. marked-sound n b (recordNode a) s) s)
+    s
+
+-- ---- many
+
+pub many-none : (n : ℕ) (b : Board) (records : ℕ) (t : List ℕ) → undoMany 0 n b records t ≡ (true, b)
+unfolding undoMany
+many-none n b records t = refl
+
+-- a turn of the loop: the newest record, undone, goes on; where it does not fit all stops
+module _ (n : ℕ) (b : Board) (t : List ℕ) (f : Bool) (c : Board) where
+  pub many-on : (left base : ℕ) → base < left → undoOne n b (firstOf t (left - 1)) (secondOf t (left - 1)) ≡ (f, c) → f ≡ true
+      → undoMany (left - base) n b left t ≡ undoMany (left - 1 - base) n c (left - 1) t
+  unfolding undoMany
+  many-on left base h e z =
+      let d : left - base ≡ suc (left - 1 - base) = omega arith in
+      rw (d, e, z)
+
+  pub many-stop : (left base : ℕ) → base < left → undoOne n b (firstOf t (left - 1)) (secondOf t (left - 1)) ≡ (f, c) → f ≡ false
+      → undoMany (left - base) n b left t ≡ (f, c)
+  unfolding undoMany
+  many-stop left base h e z =
+      let d : left - base ≡ suc (left - 1 - base) = omega arith in
+      rw (d, e, z)
+
+  pub one-next : (a w : ℕ) → Sound n b → undoOne n b a w ≡ (f, c) → Sound n c
+  one-next a w s e = subst (λ (u : Undone). Sound n (u .1)) e (one-sound n b a w s)
+
+-- what each record of a trail keeps, undoing many keeps
+pub many-keeps : (P : Board → Type 0) (n : ℕ) (t : List ℕ) → ((b : Board) (i : ℕ) → P b → P (undoOne n b (firstOf t i) (secondOf t i) .1))
+    → (k : ℕ) (b : Board) (records : ℕ) → P b → P (undoMany k n b records t .1)
+unfolding undoMany
+many-keeps P n t one zero b records h = h
+many-keeps P n t one (suc k) b records h =
+    let o = undoOne n b (firstOf t (records - 1)) (secondOf t (records - 1)) in
+    let g : P (o .1) = one b (records - 1) h in
+    go (o .0) (undoMany k n (o .1) (records - 1) t) o (many-keeps P n t one k (o .1) (records - 1) g) g
+  where
+    go : (f : Bool) (x y : Undone) → P (x .1) → P (y .1) → P (cond f x y .1)
+    go true x y p q = p
+    go false x y p q = q
+
+-- stepping back keeps the form, whatever the trail holds
+pub many-sound : (k n : ℕ) (b : Board) (records : ℕ) (t : List ℕ) → Sound n b → Sound n (undoMany k n b records t .1)
+many-sound k n b records t s = many-keeps (Sound n) n t (λ c i h. one-sound n c (firstOf t i) (secondOf t i) h) k b records s

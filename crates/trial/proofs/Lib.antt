@@ -1,0 +1,2 @@
+-- Trial: what a trial gives, by what its steps gave.
+pub mod Trial

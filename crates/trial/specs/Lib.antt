@@ -1,0 +1,2 @@
+-- Tried: what a trial of a place gives.
+pub mod Tried

@@ -1,0 +1,125 @@
+// One van, on a sheet that no call refuses and a state in form, neither asked again: its step, and its verdict.
+ghost use mathlib.Core.Path.{_≡_};
+ghost use mathlib.Core.List.{List};
+ghost use Prim.Native.Nat.{ℕ, _≤_};
+ghost use Rattle.day.specs.Tell.{dayOf};
+ghost use Rattle.rules.specs.Numbers.{kinds};
+ghost use Rattle.rules.specs.Verdict.{alive};
+ghost use Rattle.rules.specs.declared.Van.{Van};
+ghost use Rattle.board.specs.Board.{stateWith};
+ghost use Rattle.trail.specs.Trail.{roomOf};
+ghost use Rattle.trail.specs.Steps.{ran, settleStep};
+ghost use Rattle.along.specs.Ready.{Ready};
+ghost use Rattle.van.specs.Act.{planIn, settledSets, settlingRounds, actOf};
+ghost use Rattle.van.specs.Known.{Known};
+use board::Figures;
+use board::State;
+use rules::Node;
+use rules::Refusal;
+use rules::Step;
+use rules::Van;
+use sheet::Layout;
+use trail::Outcome;
+use trail::steps::back;
+use trail::steps::close;
+use trail::steps::exclude;
+use trail::steps::level;
+use trail::steps::place;
+use trail::steps::require;
+use trail::steps::same;
+
+// The steps other than settling: they ask for no van.
+fn change(
+    sheet: &[u8],
+    at: Layout,
+    route: &mut [usize; Node::MOST],
+    sets: &mut [u64; Node::MOST],
+    levels: &mut [usize; State::LEVELS],
+    f: Figures,
+    trail: &mut [u64],
+    step: Step,
+) -> Outcome
+    requires { ⌜ Known (now sheet) at (stateWith (now route) (now sets) (now levels) f) (now trail) × (step .kind ≡ kinds.SETTLE → ⊥) ⌝ }
+    ensures { λ r. ⌜ ((v : Van) →
+        actOf v (dayOf (now (sheet .entry))) (stateWith (now (route .entry)) (now (sets .entry)) (now (levels .entry)) f)
+        (now (trail .entry)) (step .kind) (step .first) (step .second)
+        ≡ ran r (now (route .exit)) (now (sets .exit)) (now (levels .exit)) (now (trail .exit))) ⌝ }
+{
+    let n = at.nodes;
+    let kind = step.kind;
+    let first = step.first;
+    let second = step.second;
+    match kind {
+        Step::PLACE => place(route, sets, f, n, first, second, trail),
+        Step::CLOSE => close(route, sets, f, n, first, second, trail),
+        Step::EXCLUDE => {
+            let owed = verdict::owed(sheet, at, route, f.stops, f.marks, first);
+            exclude(route, sets, f, n, owed, first, trail)
+        },
+        Step::REQUIRE => require(route, f, n, first, trail),
+        Step::LEVEL => level(levels, f),
+        Step::BACK => back(route, sets, levels, f, n, trail),
+        _ => same(Refusal::KIND, f),
+    }
+}
+
+// Settling, with the rounds that struck something.
+fn settling(
+    sheet: &[u8],
+    at: Layout,
+    van: Van,
+    route: &[usize; Node::MOST],
+    sets: &mut [u64; Node::MOST],
+    f: Figures,
+    trail: &mut [u64],
+) -> Outcome
+    requires { ⌜ Ready (now sheet) at (now route) (f .stops) (now sets) (f .marks) × (f .records ≤ roomOf (now trail)) × (van .limit ≤ 1000000) ⌝ }
+    ensures { λ r. ⌜ ((levels : List ℕ) →
+        settleStep (stateWith (now (route .entry)) (now (sets .entry)) levels f) (now (trail .entry))
+        (settlingRounds van (dayOf (now (sheet .entry))) (stateWith (now (route .entry)) (now (sets .entry)) levels f))
+        (settledSets van (dayOf (now (sheet .entry))) (stateWith (now (route .entry)) (now (sets .entry)) levels f))
+        ≡ ran r (now (route .entry)) (now (sets .exit)) levels (now (trail .exit))) ⌝ }
+{
+    let mut new = *sets;
+    let rounds = settle::settling::settle(sheet, at, van, route, f.stops, sets, &mut new);
+    trail::steps::settle(sets, f, rounds, &new, at.nodes, trail)
+}
+
+// One step of a van: the arrays and the trail are changed in place.
+pub fn act(
+    sheet: &[u8],
+    at: Layout,
+    van: Van,
+    route: &mut [usize; Node::MOST],
+    sets: &mut [u64; Node::MOST],
+    levels: &mut [usize; State::LEVELS],
+    f: Figures,
+    trail: &mut [u64],
+    step: Step,
+) -> Outcome
+    requires { ⌜ Known (now sheet) at (stateWith (now route) (now sets) (now levels) f) (now trail) × (van .limit ≤ 1000000) ⌝ }
+    ensures { λ r. ⌜ actOf van (dayOf (now (sheet .entry))) (stateWith (now (route .entry)) (now (sets .entry)) (now (levels .entry)) f)
+        (now (trail .entry)) (step .kind) (step .first) (step .second)
+        ≡ ran r (now (route .exit)) (now (sets .exit)) (now (levels .exit)) (now (trail .exit)) ⌝ }
+{
+    if step.kind == Step::SETTLE {
+        return settling(sheet, at, van, route, sets, f, trail);
+    }
+    change(sheet, at, route, sets, levels, f, trail, step)
+}
+
+// The verdict of a van.
+pub fn alive<'a>(
+    sheet: &[u8],
+    at: Layout,
+    van: Van,
+    route: &'a [usize; Node::MOST],
+    sets: &'a [u64; Node::MOST],
+    f: Figures,
+) -> bool
+    requires { ⌜ Ready (now sheet) at (now route) (f .stops) (now sets) (f .marks) ⌝ }
+    ensures { λ r. ⌜ ((levels : List ℕ) →
+        r ≡ alive van (dayOf (now (sheet .entry))) (planIn (stateWith (now (route .entry)) (now (sets .entry)) levels f))) ⌝ }
+{
+    verdict::alive(sheet, at, van, route, f.stops, sets, f.marks)
+}
