@@ -1,17 +1,20 @@
 /* `probe` over the plain version, so that its every call can be compared, not only listings.
-   The format is that of the planner's own `probe`; see tests/README.md. */
+   The format is that of the planner's own `probe`; see docs/PROBE.md. */
 
 #include "plain/types.h"
 #include "plain/sheet.h"
+#include "plain/section.h"
 #include "plain/open.h"
 #include "plain/form.h"
 #include "plain/route.h"
 #include "plain/settle.h"
+#include "plain/work.h"
 #include "plain/undo.h"
 #include "plain/step.h"
 #include "plain/verdict.h"
+#include "plain/face.h"
 
-enum { MOST_SHEET = 61440, MOST_TRAIL = 8192, NUMBERS = 196, BUFFER = 1 << 16 };
+enum { MOST_SHEET = 61440, MOST_TRAIL = 65536, NUMBERS = 196 * MOST_VANS + 1, BUFFER = 1 << 16 };
 
 static u8 in_buffer[BUFFER], out_buffer[BUFFER], sheet[MOST_SHEET];
 static u64 in_at, in_end, out_length, trail[MOST_TRAIL];
@@ -66,37 +69,27 @@ static void put_words(const char *words)
 
 static void answer_section(u64 length, u64 number)
 {
-    Sheet s;
-    const u8 *begin[6] = {0};
-    u64 size = 0;
-    if (number >= 1 && number <= 6 && !read_sheet(sheet, length, &s)) {
-        u64 table = 4 * (u64)s.n * s.n;
-        u64 nodes = 16, jobs = nodes + 12 * s.n + 4;
-        u64 job_bytes = (u64)(s.seconds - sheet) - 4 - jobs;
-        u64 sizes[6] = {8, 12 * s.n, job_bytes, table, table, 12 * s.step_count};
-        const u8 *begins[6] = {sheet + 4, sheet + nodes, sheet + jobs, s.seconds, s.metres, s.steps};
-        __builtin_memcpy(begin, begins, sizeof begin);
-        size = sizes[number - 1];
-    }
+    const u8 *begin;
+    u64 size = section(sheet, length, number, &begin);
     put_number(size, size ? ' ' : '\n');
-    for (u64 i = 0; i < size; i++) put_number(begin[number - 1][i], i + 1 < size ? ' ' : '\n');
+    for (u64 i = 0; i < size; i++) put_number(begin[i], i + 1 < size ? ' ' : '\n');
 }
 
-static void answer_rest(const u64 *head, State *state)
+static void answer_rest(const u64 *head, Fleet *fleet)
 {
     Answer a = {0, 0};
     u64 places = 0;
     int alive = 0;
-    if (head[2] == 0) a.answer = open_sheet(sheet, head[0], state);
-    if (head[2] == 1) a = step(sheet, head[0], state, trail, head[1], head[3], head[4], head[5]);
-    if (head[2] == 2) a.answer = open_places(sheet, head[0], state, &places);
-    if (head[2] == 3) a.answer = verdict(sheet, head[0], state, &alive);
+    if (head[2] == 0) a.answer = open_sheet(sheet, head[0], fleet);
+    if (head[2] == 1) a = step(sheet, head[0], fleet, trail, head[1], head[3], head[4], head[5]);
+    if (head[2] == 2) a.answer = open_places(sheet, head[0], fleet, &places);
+    if (head[2] == 3) a.answer = verdict(sheet, head[0], fleet, &alive);
     put_number(a.answer, ' ');
     put_number(a.rounds, ' ');
     put_number(places, ' ');
     put_number((u64)alive, ' ');
     u64 numbers[NUMBERS];
-    __builtin_memcpy(numbers, state, sizeof numbers);
+    __builtin_memcpy(numbers, fleet, sizeof numbers);
     for (u32 i = 0; i < NUMBERS; i++) put_number(numbers[i], i + 1 < NUMBERS || head[1] ? ' ' : '\n');
     for (u64 i = 0; i < head[1]; i++) put_number(trail[i], i + 1 < head[1] ? ' ' : '\n');
 }
@@ -105,18 +98,18 @@ static void answer_rest(const u64 *head, State *state)
 static int one_case(void)
 {
     u64 head[6];
-    State state;
+    static Fleet fleet;
     int some = 0;
     int well = take((u8 *)head, sizeof head, &some);
     if (!some) return 0;
     well = well && head[0] <= MOST_SHEET && head[1] <= MOST_TRAIL && head[2] <= 4;
-    well = well && take((u8 *)&state, sizeof state, &some) && take(sheet, head[0], &some) && take((u8 *)trail, 8 * head[1], &some);
+    well = well && take((u8 *)&fleet, sizeof fleet, &some) && take(sheet, head[0], &some) && take((u8 *)trail, 8 * head[1], &some);
     if (!well) {
         put_words("bad case\n");
         return 0;
     }
     if (head[2] == 4) answer_section(head[0], head[3]);
-    else answer_rest(head, &state);
+    else answer_rest(head, &fleet);
     return 1;
 }
 

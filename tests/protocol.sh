@@ -1,10 +1,11 @@
 #!/usr/bin/env bash
-# Holds the planner's measuring program to the plain version's answers: every operation, on sheets that open and that do not, on numbers
-# above 32 bits, and on input that is too short. Times are left out.
-# usage: tests/protocol.sh COMMAND, the planner's measuring program
+# Holds the planner's measuring program to the plain version's answers: every operation, on sheets of one van and of several that open, on
+# one that does not, on numbers above 32 bits, and on input that is too short. Times are left out.
+# usage: tests/protocol.sh COMMAND [folder of the plain version], the command being the planner's measuring program
 set -uo pipefail
 here=$(cd "$(dirname "$0")" && pwd)
 ours=${1:?the measuring program}
+bench=${2:-$here/../bench}
 work=$(mktemp -d)
 trap 'rm -rf "$work"' EXIT
 passed=0
@@ -32,19 +33,19 @@ try() {
     fi
 }
 
-if ! ${CC:-cc} -O2 -o "$work/plain" "$here/../bench/plain.c"; then
+if ! ${CC:-cc} -O2 -o "$work/plain" "$bench/plain.c"; then
     echo '0 passed, 1 failed'
     exit 1
 fi
-for name in ward paper full; do
+for name in ward paper full morning; do
     "$here/second/target/release/sheet_text" bytes < "$here/../samples/$name.txt" > "$work/$name"
-    for operation in 0 1 2 3 4 5 6 7 8 9; do
+    for operation in 0 1 2 3 4 5 6 7 8 9 10; do
         try "operation $operation on $name" "$operation" 3 "$work/$name"
     done
 done
 # The last byte is missing: the sheet is refused.
 head -c -1 "$work/ward" > "$work/cut"
-for operation in 0 1 2 3 4 5 6 7 8; do
+for operation in 0 1 2 3 4 5 6 7 8 9; do
     try "operation $operation on a refused sheet" "$operation" 2 "$work/cut"
 done
 try 'an operation above 32 bits' $((4294967296 + 1)) 1 "$work/ward"

@@ -4,8 +4,8 @@ enum { MOST_INPUT = 16 + 61440 + 4 };
 
 static u8 input[MOST_INPUT];
 static u64 input_length;
-static u64 trail[2 * ROOM];
-static Text text;
+static u64 trail[2 * ROOM * MOST_VANS];
+static char text[MOST_TEXT];
 
 static void read_input(void)
 {
@@ -14,11 +14,11 @@ static void read_input(void)
         input_length += (u64)got;
 }
 
-static void write_text(const Text *t)
+static void write_text(u64 length)
 {
     u64 done = 0;
-    while (done < t->length) {
-        long put_now = write(1, t->bytes + done, t->length - done);
+    while (done < length) {
+        long put_now = write(1, text + done, length - done);
         if (put_now <= 0) return;
         done += (u64)put_now;
     }
@@ -33,90 +33,123 @@ static u64 now(void)
     return (u64)t.seconds * 1000000000 + (u64)t.nanoseconds;
 }
 
-/* Stops 0, 1, 2, ... in order, `stops` in all with the end. */
-static void build(const u8 *sheet, u64 length, u64 stops, State *state)
+/* What is measured, and on what. */
+typedef struct {
+    u64 operation;
+    u8 *sheet;
+    u64 length, n, vans;
+    Fleet from; /* what each time starts from */
+    Fleet now;  /* and works on */
+} Task;
+
+static Answer take_step(const Task *t, Fleet *fleet, u64 code, u64 first, u64 second)
 {
-    open_sheet(sheet, length, state);
-    for (u64 x = 1; x + 1 < stops; x++) step(sheet, length, state, trail, 2 * ROOM, 1, x - 1, x);
+    return step(t->sheet, t->length, fleet, trail, 2 * ROOM * t->vans, code, first, second);
 }
 
-static __attribute__((noinline)) u64 one_step(const u8 *sheet, u64 length, const State *from, u64 kind, u64 first, u64 second)
+/* The vans get the wards by turns, each after the last one its van has: the stop before the end.
+   That may be an older one, since a ward that another van owes is refused. */
+static Answer next_ward(const Task *t, Fleet *fleet, u64 x)
 {
-    State state = *from;
-    Answer a = step(sheet, length, &state, trail, 2 * ROOM, kind, first, second);
-    return a.answer + a.rounds + state.records + count_places(&state, MOST_NODES);
+    if (!x) return take_step(t, fleet, 1, x - 1, x);
+    const State *van = &fleet->vans[(x - 1) % t->vans];
+    return take_step(t, fleet, 256 * ((x - 1) % t->vans) + 1, van->route[van->stops - 2], x);
 }
 
-static __attribute__((noinline)) u64 one_listing(const u8 *sheet, u64 length)
+/* Wards 1, 2, ... in order, `stops` in all with start and end. */
+static void build(Task *t, u64 stops)
 {
+    for (u64 x = 1; x + 1 < stops; x++) next_ward(t, &t->from, x);
+}
+
+/* No step writes to a state that is no van, so only the vans are copied each time. */
+static __attribute__((noinline)) u64 one_step(Task *t)
+{
+    Answer a;
     u64 sum = 0;
-    listing(sheet, length, &text);
-    for (u64 i = 0; i < text.length; i++) sum += text.bytes[i];
-    return text.length + sum;
+    __builtin_memcpy(t->now.vans, t->from.vans, t->vans * sizeof(State));
+    t->now.must = t->from.must;
+    if (t->operation == 2) a = next_ward(t, &t->now, t->n / 2 - 1);
+    else a = take_step(t, &t->now, t->operation == 9 ? 7 : 5, 0, 0);
+    for (u64 v = 0; v < t->vans; v++) sum += t->now.vans[v].records + count_places(&t->now.vans[v], MOST_NODES);
+    return a.answer + a.rounds + sum;
 }
 
-static __attribute__((noinline)) u64 one_question(u64 operation, const u8 *sheet, u64 length, const State *state)
+static __attribute__((noinline)) u64 one_listing(const Task *t)
 {
-    State opened;
-    u64 places, answer;
+    u64 length = listing(t->sheet, t->length, text);
+    u32 sum = 0;
+    for (u64 i = 0; i < length; i++) sum += (u8)text[i];
+    return length + sum;
+}
+
+static __attribute__((noinline)) u64 one_question(Task *t)
+{
+    u64 places, answer, stops = 0;
     int alive;
-    if (operation == 1) {
-        answer = open_sheet(sheet, length, &opened);
-        return answer + opened.stops;
+    if (t->operation == 1) {
+        answer = open_sheet(t->sheet, t->length, &t->now);
+        for (u32 v = 0; v < MOST_VANS; v++) stops += t->now.vans[v].stops;
+        return answer + stops;
     }
-    if (operation == 6) {
-        answer = verdict(sheet, length, state, &alive);
+    if (t->operation == 6) {
+        answer = verdict(t->sheet, t->length, &t->from, &alive);
         return answer + (u64)alive;
     }
-    answer = open_places(sheet, length, state, &places);
+    answer = open_places(t->sheet, t->length, &t->from, &places);
     return answer + places;
 }
 
-static u64 one_time(u64 operation, const u8 *sheet, u64 length, const State *state, u64 half)
+static u64 one_time(Task *t)
 {
-    if (operation == 2) return one_step(sheet, length, state, 1, half - 2, half - 1);
-    if (operation >= 3 && operation <= 5) return one_step(sheet, length, state, 5, 0, 0);
-    if (operation == 7) return one_listing(sheet, length);
-    return one_question(operation, sheet, length, state);
+    if (t->operation == 1 || t->operation == 6 || t->operation == 8) return one_question(t);
+    return t->operation == 7 ? one_listing(t) : one_step(t);
 }
 
-/* Where seconds(0, 0) stands, or 0 if the sheet is not read. */
-static u64 diagonal(const u8 *sheet, u64 length)
+/* Where seconds(0, 0) stands, or 0 if the sheet is not read; also its nodes and vans. */
+static u64 diagonal(Task *t)
 {
     Sheet s;
-    return read_sheet(sheet, length, &s) ? 0 : (u64)(s.seconds - sheet);
+    if (read_sheet(t->sheet, t->length, &s)) return 0;
+    t->n = s.n;
+    t->vans = s.vans;
+    return (u64)(s.seconds - t->sheet);
 }
 
-static int repeat(u64 operation, u64 count, u8 *sheet, u64 length)
+/* The length of the text, or 0 if it cannot be done. */
+static u64 repeat(u64 operation, u64 count, u8 *sheet, u64 length)
 {
-    State state = {0};
-    u64 opened = open_sheet(sheet, length, &state);
-    u64 n = opened ? 0 : state.route[1] + 1, spot = diagonal(sheet, length), sum = 0;
+    static Task t;
+    t.operation = operation;
+    t.sheet = sheet;
+    t.length = length;
+    u64 spot = diagonal(&t), opened = open_sheet(sheet, length, &t.from), sum = 0;
     if (opened && operation != 1 && operation != 7) return 0;
-    if (operation == 5) build(sheet, length, n, &state);
-    else if (operation == 2 || operation == 4 || operation == 6 || operation == 8) build(sheet, length, n / 2, &state);
+    if (operation == 9) take_step(&t, &t.from, 6, 0, 0);
+    if (operation == 5) build(&t, t.n);
+    else if (operation != 3 && !opened) build(&t, t.n / 2);
+    t.now = t.from;
     u64 begin = now();
     for (u64 i = 0; i < count; i++) {
         u32 mark = (u32)(i % 1000);
         if (spot) __builtin_memcpy(sheet + spot, &mark, 4);
-        sum += one_time(operation, sheet, length, &state, n / 2);
+        sum += one_time(&t);
     }
     u64 end = now();
-    text.length = 0;
-    put_field(&text, "result ", sum);
-    put_field(&text, "\nnanoseconds ", end - begin);
-    put(&text, "\n");
-    return 1;
+    char *at = put_number(PUT(text, "result "), sum);
+    at = put_number(PUT(at, "\nnanoseconds "), end - begin);
+    *at = '\n';
+    return (u64)(at + 1 - text);
 }
 
 static int measure(void)
 {
     read_input();
-    text.length = 0;
+    u64 operation = number_at(input), count = number_at(input + 8), done = 0;
     int well = input_length >= 16;
-    u64 operation = number_at(input), count = number_at(input + 8);
-    if (well && operation == 0) listing(input + 16, input_length - 16, &text);
-    else if (!well || operation > 8 || !repeat(operation, count, input + 16, input_length - 16)) put(&text, "cannot\n");
-    write_text(&text);
+    if (well && operation == 0) done = listing(input + 16, input_length - 16, text);
+    else if (well && operation <= 9) done = repeat(operation, count, input + 16, input_length - 16);
+    if (!done) done = (u64)(PUT(text, "cannot\n") - text);
+    write_text(done);
     return 0;
 }

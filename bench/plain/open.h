@@ -1,9 +1,10 @@
-/* Opening: the triangles, and the fresh state. */
+/* Opening: the triangles, and the fresh fleet. */
 
 static i32 square[MOST_NODES][MOST_NODES];
 
-/* With a diagonal of 0, triples that are not different can never break the rule, so the inner
-   loop needs no question about them. */
+/* Two rows at a time, both ways round: what (i, k) is above (j, k) must be within (i, j), and the
+   other way within (j, i); what is left of either is negative if the rule is broken. With a
+   diagonal of 0, triples that are not different can never break it, so nothing is asked of k. */
 static int triangle_broken(const u8 *table, u64 n)
 {
     i32 bad = 0;
@@ -11,39 +12,39 @@ static int triangle_broken(const u8 *table, u64 n)
         for (u64 k = 0; k < n; k++) square[i][k] = (i32)word(table + 4 * (i * n + k));
         square[i][i] = 0;
     }
-    for (u64 i = 0; i < n && !bad; i++)
-        for (u64 j = 0; j < n; j++) {
-            i32 first = square[i][j];
-            for (u64 k = 0; k < n; k++) bad |= square[i][k] > first + square[j][k];
+    for (u64 i = 1; i < n && bad >= 0; i++)
+        for (u64 j = 0; j < i; j++) {
+            i32 there = square[i][j], back = square[j][i];
+            for (u64 k = 0; k < n; k++) {
+                i32 above = square[i][k] - square[j][k];
+                bad |= (there - above) | (back + above);
+            }
         }
-    return bad;
+    return bad < 0;
 }
 
-static void fresh(State *state, u32 n)
+static void fresh(const Sheet *s, Fleet *fleet)
 {
-    *state = (State){0};
-    state->route[1] = n - 1;
-    state->stops = 2;
-    for (u32 x = 1; x + 1 < n; x++) state->sets[x] = 1;
-}
-
-static u64 open_read(const Sheet *s, State *state)
-{
-    if (triangle_broken(s->seconds, s->n) || triangle_broken(s->metres, s->n)) {
-        *state = (State){0};
-        return 5;
+    *fleet = (Fleet){0};
+    for (u32 v = 0; v < s->vans; v++) {
+        State *state = &fleet->vans[v];
+        state->route[1] = s->n - 1;
+        state->stops = 2;
+        for (u32 x = 1; x + 1 < s->n; x++) state->sets[x] = 1;
     }
-    fresh(state, s->n);
-    return 0;
 }
 
-static u64 open_sheet(const u8 *bytes, u64 length, State *state)
+static int triangles_broken(const Sheet *s)
+{
+    return triangle_broken(s->seconds, s->n) || triangle_broken(s->metres, s->n);
+}
+
+static u64 open_sheet(const u8 *bytes, u64 length, Fleet *fleet)
 {
     Sheet s;
     u64 no = read_sheet(bytes, length, &s);
-    if (no) {
-        *state = (State){0};
-        return no;
-    }
-    return open_read(&s, state);
+    if (!no && triangles_broken(&s)) no = 5;
+    if (no) *fleet = (Fleet){0};
+    else fresh(&s, fleet);
+    return no;
 }

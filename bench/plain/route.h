@@ -1,90 +1,117 @@
-/* What the tests ask of the route, in linear passes: E, L, H by differences, metres, and the
-   greatest H up to and from each leg. */
+/* What the tests ask of a van's route, in linear passes. All of it hangs on the route alone, so
+   it is looked at when first asked for and stands until the route changes. */
 
 typedef struct {
-    u32 stops;
+    u64 on;                  /* nodes on the route; always true, the rest only once looked at */
+    u8 along, back;          /* looked along, looked back */
+    u8 sound;                /* keeps windows, metres, loads and the order of transfers */
+    u8 tested;               /* every open place is known to keep what hangs on the route alone */
+    u32 legs;                /* leg i leaves stop i */
     u8 at[MOST_NODES];       /* node at each stop */
     u8 stop_of[MOST_NODES];  /* stop of each node on the route */
-    i32 e[MOST_NODES], l[MOST_NODES], h[MOST_NODES];
-    i32 most_before[MOST_NODES], most_after[MOST_NODES];
-    i32 metres;
+    i32 h[MOST_NODES];       /* H of each leg */
+    u64 before[MOST_NODES];  /* legs that leave the stops before this one */
+    u8 next[MOST_NODES];     /* by node, as all below: who comes after it */
+    i32 leave[MOST_NODES];   /* E + service */
+    i32 hop[MOST_NODES];     /* service + seconds to the next */
+    i32 leg[MOST_NODES];     /* metres to the next */
+    i32 by[MOST_NODES];      /* L of the next */
+    i32 spare[MOST_NODES];   /* metres there may be from here to the next by way of another */
+    i32 metres, most;        /* of the whole route; the greatest H */
+    u64 called;              /* partners of the nodes on the route */
 } Route;
 
-/* E and the metres. */
-static void starts(const Sheet *s, Route *r)
+static void changed(Route *r, u64 on)
 {
-    u32 last = r->stops - 1;
-    r->e[0] = s->earliest[0];
-    r->metres = 0;
-    for (u32 i = 1; i <= last; i++) {
-        u32 p = r->at[i - 1], x = r->at[i];
-        i32 arrival = r->e[i - 1] + s->service[p] + seconds(s, p, x);
-        r->e[i] = arrival > s->earliest[x] ? arrival : s->earliest[x];
-        r->metres += metres(s, p, x);
-    }
+    r->on = on;
+    r->along = r->back = r->tested = 0;
 }
 
-/* L. */
-static void lasts(const Sheet *s, Route *r)
+/* Who stands where; the clean load at the start. */
+static i32 find_stops(const Sheet *s, const State *state, Route *r)
 {
-    u32 last = r->stops - 1;
-    r->l[last] = s->latest[s->n - 1];
-    for (u32 i = last; i-- > 0;) {
-        u32 x = r->at[i];
-        i32 by_next = r->l[i + 1] - s->service[x] - seconds(s, x, r->at[i + 1]);
-        r->l[i] = by_next < s->latest[x] ? by_next : s->latest[x];
+    i32 clean = 0;
+    r->legs = (u32)state->stops - 1;
+    for (u32 i = 0; i <= r->legs; i++) {
+        u32 x = (u32)state->route[i];
+        r->at[i] = (u8)x;
+        r->stop_of[x] = (u8)i;
+        clean += s->load[CLEAN][x];
     }
+    return clean;
 }
 
-/* H, and the greatest of it up to each leg. */
-static void loads(const Sheet *s, u64 on, Route *r)
+/* H, the partners, and whether no transfer has its second node before its first. A node without
+   a transfer has load 0 and partner 0, so it needs no question. */
+static int loads(const Sheet *s, Route *r, i32 aboard)
 {
-    i32 change[MOST_NODES] = {0}, aboard = 0;
-    for (u32 i = 1; i + 1 < r->stops; i++) {
-        u32 x = r->at[i];
-        aboard += s->clean[x];
-        change[i] += s->soiled[x] - s->clean[x];
-        if (s->pickups >> x & 1 && on >> s->partner[x] & 1) {
-            u32 to = r->stop_of[s->partner[x]];
-            if (to > i) {
-                change[i] += s->carried[x];
-                change[to] -= s->carried[x];
-            }
-        }
-    }
-    i32 most = 0;
-    for (u32 i = 0; i + 1 < r->stops; i++) {
-        aboard += change[i];
+    i32 most = aboard;
+    u64 seen = 0, called = 0, wrong = 0;
+    r->h[0] = aboard;
+    for (u32 i = 1; i < r->legs; i++) {
+        u32 x = r->at[i], other = s->partner[x];
+        u64 came = seen >> other & 1, starts = s->pickups >> x & r->on >> other & 1;
+        i32 load = starts ? s->load[TRANSFER][x] : -s->load[TRANSFER][x];
+        aboard += s->load[SOILED][x] - s->load[CLEAN][x] + (came ^ starts ? load : 0);
+        wrong |= came & starts;
         r->h[i] = aboard;
         most = aboard > most ? aboard : most;
-        r->most_before[i] = most;
+        seen |= bit(x);
+        called |= bit(other);
     }
+    r->most = most;
+    r->called = called;
+    return !wrong;
 }
 
-static void peaks_after(Route *r)
+/* E and the metres; is no stop late? */
+static int starts(const Sheet *s, Route *r)
 {
-    i32 most = 0;
-    for (u32 i = r->stops - 1; i-- > 0;) {
-        most = r->h[i] > most ? r->h[i] : most;
-        r->most_after[i] = most;
+    i32 e = s->earliest[0], total = 0, late = 0;
+    u32 p = 0;
+    for (u32 i = 1; i <= r->legs; i++) {
+        u32 x = r->at[i];
+        i32 hop = s->service[p] + seconds(s, p, x), leg = metres(s, p, x);
+        r->leave[p] = e + s->service[p];
+        r->hop[p] = hop;
+        r->leg[p] = leg;
+        total += leg;
+        e = e + hop > s->earliest[x] ? e + hop : s->earliest[x];
+        late |= e > s->latest[x];
+        p = x;
     }
+    r->metres = total;
+    return !late;
 }
 
-/* What the verdict asks: where the stops are, E, metres and H. */
-static void look_along(const Sheet *s, const State *state, u64 on, Route *r)
+/* What the verdict asks. */
+static void look_along(const Sheet *s, u32 van, const State *state, Route *r)
 {
-    r->stops = (u32)state->stops;
-    for (u32 i = 0; i < r->stops; i++) {
-        r->at[i] = (u8)state->route[i];
-        r->stop_of[state->route[i]] = (u8)i;
-    }
-    starts(s, r);
-    loads(s, on, r);
+    if (r->along) return;
+    int ordered = loads(s, r, find_stops(s, state, r));
+    int timely = starts(s, r);
+    r->sound = ordered && timely && r->metres <= s->limit[van] && r->most <= s->capacity[van];
+    r->along = 1;
 }
 
-/* And what settling asks besides. */
-static void look_back(const Sheet *s, Route *r)
+/* And what settling asks besides: L, the metres to spare, and the legs before each stop. */
+static void look_back(const Sheet *s, u32 van, const State *state, Route *r)
 {
-    lasts(s, r);
-    peaks_after(r);
+    look_along(s, van, state, r);
+    if (r->back) return;
+    i32 l = s->latest[s->n - 1], spare = s->limit[van] - r->metres;
+    u64 before = 0;
+    for (u32 i = 0; i < r->legs; i++) {
+        r->before[i] = before;
+        before |= bit(r->at[i]);
+    }
+    r->before[r->legs] = before;
+    for (u32 i = r->legs; i-- > 0;) {
+        u32 p = r->at[i];
+        r->next[p] = r->at[i + 1];
+        r->by[p] = l;
+        r->spare[p] = spare + r->leg[p];
+        l = l - r->hop[p] < s->latest[p] ? l - r->hop[p] : s->latest[p];
+    }
+    r->back = 1;
 }

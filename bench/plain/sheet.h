@@ -1,16 +1,17 @@
 /* Reading a sheet: refusals 1 to 4, with all that the steps need laid out by node. */
 
+enum { CLEAN = 1, SOILED = 2, TRANSFER = 3 };
+
 typedef struct {
-    u32 n;
-    i32 capacity, limit;
+    u32 n, vans;
+    i32 capacity[MOST_VANS], limit[MOST_VANS];
     i32 earliest[MOST_NODES], latest[MOST_NODES], service[MOST_NODES];
-    i32 clean[MOST_NODES], soiled[MOST_NODES]; /* 0: none */
-    i32 carried[MOST_NODES];                   /* load of its transfer, 0: none */
-    u8 partner[MOST_NODES];
-    u64 pickups;                               /* nodes that are the first of a transfer */
-    u64 transfers;                             /* nodes that have a transfer end */
-    const u8 *seconds, *metres, *steps;
-    u32 step_count;
+    i32 load[TRANSFER + 1][MOST_NODES]; /* by kind of job; 0: none */
+    u8 partner[MOST_NODES];             /* 0: none */
+    u64 pickups;                        /* nodes that are the first of a transfer */
+    u64 transfers;                      /* nodes that have a transfer end */
+    const u8 *nodes, *jobs, *seconds, *metres, *steps;
+    u32 job_count, step_count;
 } Sheet;
 
 typedef struct {
@@ -21,24 +22,45 @@ typedef struct {
 static inline i32 seconds(const Sheet *s, u64 from, u64 to) { return (i32)word(s->seconds + 4 * (from * s->n + to)); }
 static inline i32 metres(const Sheet *s, u64 from, u64 to) { return (i32)word(s->metres + 4 * (from * s->n + to)); }
 
+/* Nodes 1 to n - 2. */
+static inline u64 wards(const Sheet *s) { return (bit(s->n - 1) - 1) & ~1ULL; }
+
 /* Count, then shortness. */
-static u64 section(Reader *r, u32 low, u32 high, u64 width, const u8 **entries, u32 *count)
+static u64 entries(Reader *r, u32 low, u32 high, u64 width, const u8 **begin, u32 *count)
 {
     if (r->at >= r->words) return 1;
     *count = word(r->bytes + 4 * r->at);
     if (*count < low || *count > high) return 2;
     if (*count * width > r->words - r->at - 1) return 1;
-    *entries = r->bytes + 4 * (r->at + 1);
+    *begin = r->bytes + 4 * (r->at + 1);
     r->at += 1 + *count * width;
     return 0;
 }
 
-static u64 read_nodes(Reader *r, Sheet *s)
+static u64 read_limits(Reader *r, Sheet *s)
 {
     const u8 *e;
-    u64 no = section(r, 2, MOST_NODES, 3, &e, &s->n);
+    u32 count, bad = 0;
+    /* an odd count is out of range, and that comes before shortness */
+    if (r->words && word(r->bytes) % 2) return 2;
+    u64 no = entries(r, 2, 2 * MOST_VANS, 1, &e, &count);
+    if (no) return no;
+    s->vans = count / 2;
+    for (u32 v = 0; v < s->vans; v++) {
+        u32 capacity = word(e + 8 * v), limit = word(e + 8 * v + 4);
+        bad |= (capacity > 1000) | (limit > 1000000);
+        s->capacity[v] = (i32)capacity;
+        s->limit[v] = (i32)limit;
+    }
+    return bad ? 3 : 0;
+}
+
+static u64 read_nodes(Reader *r, Sheet *s)
+{
+    u64 no = entries(r, 2, MOST_NODES, 3, &s->nodes, &s->n);
     u32 bad = 0;
     if (no) return no;
+    const u8 *e = s->nodes;
     for (u32 x = 0; x < s->n; x++) {
         u32 early = word(e + 12 * x), late = word(e + 12 * x + 4), service = word(e + 12 * x + 8);
         bad |= (late > 1000000) | (early > late) | (service > 1000000);
@@ -49,72 +71,85 @@ static u64 read_nodes(Reader *r, Sheet *s)
     return bad ? 3 : 0;
 }
 
-static int inner(const Sheet *s, u32 x) { return x >= 1 && x + 1 < s->n; }
+static int outside(const Sheet *s, u32 x) { return x - 1 >= s->n - 2; }
 
 /* One job; a node met twice shows in *twice and is judged later. */
 static u64 read_job(Sheet *s, const u8 *e, u64 has[4], int *twice)
 {
     u32 kind = word(e), a = word(e + 4), b = word(e + 8), load = word(e + 12);
-    if (kind < 1 || kind > 3 || a > 63 || !inner(s, a) || load < 1 || load > 1000) return 3;
-    if (kind == 3 ? b > 63 || !inner(s, b) || a == b : b != 0) return 3;
-    u64 nodes = kind == 3 ? bit(a) | bit(b) : bit(a);
-    *twice |= (has[kind] & nodes) != 0;
-    has[kind] |= nodes;
-    if (kind == 1) s->clean[a] = (i32)load;
-    if (kind == 2) s->soiled[a] = (i32)load;
-    if (kind == 3) {
-        s->carried[a] = s->carried[b] = (i32)load;
+    if (kind < CLEAN || kind > TRANSFER || outside(s, a) || load < 1 || load > 1000) return 3;
+    u64 nodes = bit(a);
+    s->load[kind][a] = (i32)load;
+    if (kind == TRANSFER) {
+        if (outside(s, b) || a == b) return 3;
+        nodes |= bit(b);
+        s->load[TRANSFER][b] = (i32)load;
         s->partner[a] = (u8)b;
         s->partner[b] = (u8)a;
         s->pickups |= bit(a);
-        s->transfers |= nodes;
-    }
+    } else if (b != 0) return 3;
+    *twice |= (has[kind] & nodes) != 0;
+    has[kind] |= nodes;
     return 0;
 }
 
 static u64 read_jobs(Reader *r, Sheet *s, int *twice)
 {
-    const u8 *e;
-    u32 count;
-    u64 has[4] = {0};
-    u64 no = section(r, 0, MOST_JOBS, 4, &e, &count);
+    u64 has[TRANSFER + 1] = {0};
+    u64 no = entries(r, 0, MOST_JOBS, 4, &s->jobs, &s->job_count);
     if (no) return no;
-    for (u32 x = 0; x < s->n; x++) s->clean[x] = s->soiled[x] = s->carried[x] = 0;
-    s->pickups = s->transfers = 0;
-    for (u32 j = 0; j < count; j++) {
-        no = read_job(s, e + 16 * j, has, twice);
+    for (u32 x = 0; x < s->n; x++) {
+        s->load[CLEAN][x] = s->load[SOILED][x] = s->load[TRANSFER][x] = 0;
+        s->partner[x] = 0;
+    }
+    s->pickups = 0;
+    for (u32 j = 0; j < s->job_count; j++) {
+        no = read_job(s, s->jobs + 16 * j, has, twice);
         if (no) return no;
     }
+    s->transfers = has[TRANSFER];
     return 0;
 }
 
+/* All ones that occur in the words. Four sums side by side, so that none waits for another. */
+static u32 ones(const u8 *e, u64 count)
+{
+    u64 part = count / 4;
+    const u8 *f = e + 4 * part, *g = f + 4 * part, *h = g + 4 * part;
+    u32 a = 0, b = 0, c = 0, d = 0;
+    for (u64 i = 0; i < part; i++) {
+        a |= word(e + 4 * i);
+        b |= word(f + 4 * i);
+        c |= word(g + 4 * i);
+        d |= word(h + 4 * i);
+    }
+    for (u64 i = 4 * part; i < count; i++) a |= word(e + 4 * i);
+    return a | b | c | d;
+}
+
+/* No entry is above all ones together; only where these are above the bound each entry is asked. */
 static u64 read_table(Reader *r, const Sheet *s, const u8 **table)
 {
     u32 count, bad = 0;
-    u64 no = section(r, s->n * s->n, s->n * s->n, 1, table, &count);
-    if (no) return no;
-    const u8 *entries = *table;
-    for (u64 i = 0; i < count; i++) bad |= word(entries + 4 * i) > 1000000;
+    u64 no = entries(r, s->n * s->n, s->n * s->n, 1, table, &count);
+    if (no || ones(*table, count) <= 1000000) return no;
+    const u8 *e = *table;
+    for (u64 i = 0; i < count; i++) bad |= word(e + 4 * i) > 1000000;
     return bad ? 3 : 0;
 }
 
 static u64 read_sheet(const u8 *bytes, u64 length, Sheet *s)
 {
     Reader r = {bytes, length / 4, 0};
-    const u8 *limits;
-    u32 two;
     int twice = 0;
     u64 no;
     if (length % 4) return 1;
-    if ((no = section(&r, 2, 2, 1, &limits, &two))) return no;
-    if (word(limits) > 1000 || word(limits + 4) > 1000000) return 3;
-    s->capacity = (i32)word(limits);
-    s->limit = (i32)word(limits + 4);
+    if ((no = read_limits(&r, s))) return no;
     if ((no = read_nodes(&r, s))) return no;
     if ((no = read_jobs(&r, s, &twice))) return no;
     if ((no = read_table(&r, s, &s->seconds))) return no;
     if ((no = read_table(&r, s, &s->metres))) return no;
-    if ((no = section(&r, 0, MOST_STEPS, 3, &s->steps, &s->step_count))) return no;
+    if ((no = entries(&r, 0, MOST_STEPS, 3, &s->steps, &s->step_count))) return no;
     if (r.at != r.words) return 1;
     return twice ? 4 : 0;
 }

@@ -1,4 +1,4 @@
-/* Numbers, the state, and the little that is wanted of the system. The compiler at hand may
+/* Numbers, the fleet, and the little that is wanted of the system. The compiler at hand may
    have no library headers, so nothing is included and the system calls are declared here. */
 
 typedef unsigned char u8;
@@ -16,9 +16,10 @@ long read(int file, void *to, unsigned long count);
 long write(int file, const void *from, unsigned long count);
 int clock_gettime(int which, struct clock_time *to);
 
-enum { MOST_NODES = 64, MOST_JOBS = 155, MOST_LEVELS = 64, MOST_STEPS = 2000 };
-enum { PROGRAM_BYTES = 60048, ROOM = 3968 };
+enum { MOST_NODES = 64, MOST_JOBS = 155, MOST_LEVELS = 64, MOST_STEPS = 2000, MOST_VANS = 8 };
+enum { PROGRAM_BYTES = 60104, ROOM = 4030 };
 
+/* One van. */
 typedef struct {
     u64 route[MOST_NODES];
     u64 stops;
@@ -29,12 +30,19 @@ typedef struct {
     u64 records;
 } State;
 
+/* The sheet tells how many of the states are vans; the others are zero. */
+typedef struct {
+    State vans[MOST_VANS];
+    u64 must; /* wards that must go somewhere */
+} Fleet;
+
 typedef struct {
     u64 answer;
     u64 rounds;
 } Answer;
 
 static inline u64 bit(u64 at) { return 1ULL << at; }
+static inline u32 lowest(u64 set) { return (u32)__builtin_ctzll(set); }
 
 static inline u32 word(const u8 *at)
 {

@@ -1,4 +1,4 @@
-/* Open places in all, and the verdict. */
+/* Open places, and the verdict. */
 
 /* Of the first n nodes. */
 static u64 count_places(const State *state, u32 n)
@@ -8,40 +8,26 @@ static u64 count_places(const State *state, u32 n)
     return sum;
 }
 
-static int alive_formed(const Sheet *s, const State *state, u64 on)
+/* One van: its route, and a place for each ward it owes. */
+static int van_alive(const Sheet *s, u32 van, const State *state, Route *r)
 {
-    Route r;
-    int dead = 0;
-    look_along(s, state, on, &r);
-    for (u32 x = 1; x + 1 < s->n; x++) {
-        int placed = on >> x & 1;
-        if (!placed) dead |= !state->sets[x] && owed(s, state, on, x);
-        else if (s->pickups >> x & 1 && on >> s->partner[x] & 1) dead |= r.stop_of[x] > r.stop_of[s->partner[x]];
+    look_along(s, van, state, r);
+    if (!r->sound) return 0;
+    u64 owing = state->marks | r->called;
+    for (u64 left = state->marks & s->transfers; left; left &= left - 1) owing |= bit(s->partner[lowest(left)]);
+    for (u64 left = owing & ~r->on; left; left &= left - 1)
+        if (!state->sets[lowest(left)]) return 0;
+    return 1;
+}
+
+/* Wards that must go somewhere and are placed or open in no van; `all` are those on any route. */
+static u64 must_lost(const Sheet *s, const Fleet *fleet, u64 all)
+{
+    u64 lost = 0;
+    for (u64 left = fleet->must & ~all; left; left &= left - 1) {
+        u64 open = 0;
+        for (u32 v = 0; v < s->vans; v++) open |= fleet->vans[v].sets[lowest(left)];
+        if (!open) lost |= left & -left;
     }
-    for (u32 i = 0; i < r.stops; i++) dead |= r.e[i] > s->latest[r.at[i]];
-    return !dead && r.metres <= s->limit && r.most_before[r.stops - 2] <= s->capacity;
-}
-
-static u64 verdict(const u8 *bytes, u64 length, const State *state, int *alive)
-{
-    Sheet s;
-    u64 on;
-    u64 no = read_sheet(bytes, length, &s);
-    *alive = 0;
-    if (no) return no;
-    if (!in_form(&s, state, &on)) return 19;
-    *alive = alive_formed(&s, state, on);
-    return 0;
-}
-
-static u64 open_places(const u8 *bytes, u64 length, const State *state, u64 *places)
-{
-    Sheet s;
-    u64 on;
-    u64 no = read_sheet(bytes, length, &s);
-    *places = 0;
-    if (no) return no;
-    if (!in_form(&s, state, &on)) return 19;
-    *places = count_places(state, s.n);
-    return 0;
+    return lost;
 }

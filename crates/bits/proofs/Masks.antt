@@ -1,18 +1,18 @@
 -- What the machine's operations on words do to the sets: or, and, complement, the lowest set bit.
 use mathlib.Core.Path.{_≡_, refl, ap, sym, _∙_, subst}
-use mathlib.Core.Bool.{Bool, true, false, not, _&&_, and-true, and-false}
-use Prim.Native.Nat.{ℕ, zero, suc, _+_, _-_, _*_, _/_, _%_, _^_, _<_, min}
+use mathlib.Core.Bool.{Bool, true, false, not, _&&_, _||_, and-true, and-false}
+use Prim.Native.Nat.{ℕ, zero, suc, _+_, _-_, _*_, _/_, _%_, _^_, _<_, min, max}
 use native.Mathlib.Nat.{pow-succ', mod-eq-of-lt, zero-add}
 use native.Mathlib.Numerals.{one-add}
 use native.Mathlib.Omega.{arith}
 use lib.Pow.{pow-lt}
-use lib.Bits.{bitAnd, bitOr, and-step, and-shr, and-high, and-lt, and-self, and-mask, and-le-r, or-zero-l, or-add-and}
+use lib.Bits.{bitAnd, bitOr, and-step, and-shr, and-high, and-lt, and-self, and-mask, and-le-r, or-zero-l, or-add-and, or-step, or-shr, or-lt}
 use lib.Count.{trailingZeros}
 use lib.Dec.{eqb}
 use borrow.Author.Tests.{eqb-true, eqb-false, eq-eqb, ne-eqb}
 use Rattle.laws.proofs.Logic.{decided}
-use Rattle.bits.specs.Places.{digit, has, with, without, minus, within, lowest}
-use Rattle.bits.proofs.Digits.{digit-zero, digit-suc, digit-none, add-same, add-other}
+use Rattle.bits.specs.Places.{digit, has, with, without, minus, join, within, lowest}
+use Rattle.bits.proofs.Digits.{digit-zero, digit-suc, digit-lt, digit-none, add-same, add-other}
 use Rattle.bits.proofs.Members.{digit-has, digit-not, has-digit, not-digit, has-same, has-none, has-ext, false-true, with-yes, with-no, without-yes, without-same, without-other, without-fits, within-has, within-make, within-misses}
 
 -- 1 << p is 2 ^ p
@@ -66,6 +66,30 @@ has-and a b p =
     (λ k. rw (h, k) (has-digit _ p (omega (arith, and-digit a b p, digit-has a p h, digit-has b p k))))
     (λ k. rw (h, k) (not-digit _ p (omega (arith, and-digit a b p, digit-not b p k)))))
     (λ h. rw h (not-digit _ p (omega (arith, and-digit a b p, digit-not a p h))))
+
+-- ---- or, digit by digit
+
+or-low : (a b : ℕ) → bitOr a b % 2 ≡ max (a % 2) (b % 2)
+or-low a b =
+    let m : max (a % 2) (b % 2) < 2 = omega arith in
+    ap (λ (x : ℕ). x % 2) (or-step a b) ∙ (let e : (bitOr (a / 2) (b / 2) * 2 + max (a % 2) (b % 2)) % 2 ≡ max (a % 2) (b % 2) = omega arith in e)
+
+or-digit : (a b p : ℕ) → digit (bitOr a b) p ≡ max (digit a p) (digit b p)
+unfolding digit
+or-digit a b p = ap (λ (x : ℕ). x % 2) (or-shr a b p) ∙ or-low (a / 2 ^ p) (b / 2 ^ p)
+
+pub has-join : (a b p : ℕ) → has (join a b) p ≡ has a p || has b p
+unfolding join
+has-join a b p =
+    decided (has a p)
+    (λ h. rw h (has-digit _ p (omega (arith, or-digit a b p, digit-has a p h, digit-lt b p))))
+    (λ h. decided (has b p)
+    (λ k. rw (h, k) (has-digit _ p (omega (arith, or-digit a b p, digit-not a p h, digit-has b p k))))
+    (λ k. rw (h, k) (not-digit _ p (omega (arith, or-digit a b p, digit-not a p h, digit-not b p k)))))
+
+pub join-fits : (a b : ℕ) → a < 2 ^ 64 → b < 2 ^ 64 → join a b < 2 ^ 64
+unfolding join
+join-fits a b f g = or-lt 64 a b f g
 
 -- a & b == a asks whether a is within b
 pub within-mask : (a b : ℕ) → a < 2 ^ 64 → b < 2 ^ 64 → eqb (bitAnd a b) a ≡ within a b

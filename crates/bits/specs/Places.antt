@@ -2,7 +2,7 @@
 use mathlib.Core.Bool.{Bool, cond, not, _||_}
 use Prim.Native.Nat.{ℕ, _+_, _-_, _/_, _%_, _^_}
 use lib.Dec.{eqb, ltb}
-use lib.Bits.{bitAnd}
+use lib.Bits.{bitAnd, bitOr}
 use lib.Count.{trailingZeros}
 use Rattle.laws.specs.Basic.{allBelow}
 
@@ -25,6 +25,10 @@ without w p = cond (has w p) (w - 2 ^ p) w
 -- the members of a that are none of b
 unfoldable pub minus : ℕ → ℕ → ℕ
 minus a b = bitAnd a (2 ^ 64 - 1 - b)
+
+-- the members of both
+unfoldable pub join : ℕ → ℕ → ℕ
+join a b = bitOr a b
 
 -- each member of a is one of b
 unfoldable pub within : ℕ → ℕ → Bool

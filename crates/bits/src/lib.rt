@@ -2,7 +2,7 @@
 ghost use mathlib.Core.Path.{_≡_};
 ghost use Prim.Native.Nat.{_<_, _≤_};
 ghost use lib.Count.{ones};
-ghost use Rattle.bits.specs.Places.{has, with, without, minus, within, lowest};
+ghost use Rattle.bits.specs.Places.{has, with, without, minus, join, within, lowest};
 
 // The places of a word.
 const PLACES: usize = 64;
@@ -57,6 +57,13 @@ pub fn minus(a: u64, b: u64) -> u64
     ensures { λ r. ⌜ r ≡ minus a b ⌝ }
 {
     a & !b
+}
+
+// The members of both.
+pub fn join(a: u64, b: u64) -> u64
+    ensures { λ r. ⌜ r ≡ join a b ⌝ }
+{
+    a | b
 }
 
 // Whether each member of a is one of b.

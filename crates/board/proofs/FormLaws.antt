@@ -19,7 +19,7 @@ use Rattle.rules.proofs.Inner.{is-inner}
 use Rattle.board.specs.Route.{indexOf, wordOf}
 use Rattle.board.proofs.RouteLaws.{index-hit, entry-mem, mem-none, mem-absent, mem-index, word-mem, word-not, word-find, word-has, word-members}
 use Rattle.board.specs.Board.{Board, boardOf, routeOf, onRoute, legsOf, setOf, legNode}
-use Rattle.board.specs.Form.{stopOk, setOk, markOk, boardOk, levelOk, levelsOk, inForm, formWith}
+use Rattle.board.specs.Form.{stopOk, setOk, markOk, mustOk, boardOk, levelOk, levelsOk, inForm, formWith}
 use Rattle.board.specs.declared.State.{State}
 use Rattle.board.specs.Held.{Wide, Routed, FormedBoard, Levels, InForm}
 
@@ -56,10 +56,10 @@ module _ (n : ℕ) (b : Board) (small : n ≤ 64) (wide : Wide b) where
       let p' = and-true (leb 2 (b .stops)) (leb (b .stops) n) (p .0) in
       let q = and-true (eqb (getD (b .route) 0 0) 0 && eqb (getD (b .route) (b .stops - 1) 0) (n - 1)) _ (p .1) in
       let q' = and-true (eqb (getD (b .route) 0 0) 0) (eqb (getD (b .route) (b .stops - 1) 0) (n - 1)) (q .0) in
-      let r = and-true (allBelow 64 (stopOk n (b .stops) (b .route))) (allBelow 64 (λ y. setOk n b y && markOk n b y)) (q .1) in
+      let r = and-true (allBelow 64 (stopOk n (b .stops) (b .route))) (allBelow 64 (λ y. setOk n b y && (markOk n b y && mustOk n b y))) (q .1) in
       let most : b .stops ≤ n = leb-true (b .stops) n (p' .1) in
       let stop : (i : ℕ) → i < 64 → stopOk n (b .stops) (b .route) i ≡ true = λ i l. below-at 64 i (stopOk n (b .stops) (b .route)) (r .0) l in
-      let node : (y : ℕ) → y < 64 → (setOk n b y ≡ true) × (markOk n b y ≡ true) = λ y l. and-true (setOk n b y) (markOk n b y) (below-at 64 y (λ y. setOk n b y && markOk n b y) (r .1) l) in
+      let node : (y : ℕ) → y < 64 → (setOk n b y ≡ true) × (markOk n b y && mustOk n b y ≡ true) = λ y l. and-true (setOk n b y) (markOk n b y && mustOk n b y) (below-at 64 y (λ y. setOk n b y && (markOk n b y && mustOk n b y)) (r .1) l) in
       record {
         route = record {
           two = leb-true 2 (b .stops) (p' .0);
@@ -71,7 +71,8 @@ module _ (n : ℕ) (b : Board) (small : n ≤ 64) (wide : Wide b) where
           past = λ i h l. stop-past i (stop i l) h;
         };
         sets = λ y l. node y l .0;
-        marks = λ y l. node y l .1;
+        marks = λ y l. and-true (markOk n b y) (mustOk n b y) (node y l .1) .0;
+        must = λ y l. and-true (markOk n b y) (mustOk n b y) (node y l .1) .1;
       }
 
   stop-make : Routed n b → (i : ℕ) → i < 64 → stopOk n (b .stops) (b .route) i ≡ true
@@ -97,7 +98,7 @@ module _ (n : ℕ) (b : Board) (small : n ≤ 64) (wide : Wide b) where
         eq-eqb (getD (b .route) 0 0) 0 (f .route .start),
         eq-eqb (getD (b .route) (b .stops - 1) 0) (n - 1) (f .route .end),
         below-make 64 (stopOk n (b .stops) (b .route)) (stop-make (f .route)),
-      ) (below-make 64 (λ y. setOk n b y && markOk n b y) (λ y l. rw (f .sets y l) (f .marks y l)))
+      ) (below-make 64 (λ y. setOk n b y && (markOk n b y && mustOk n b y)) (λ y l. rw (f .sets y l, f .marks y l) (f .must y l)))
 
 -- ---- what follows from it
 

@@ -15,7 +15,7 @@ use Rattle.rules.specs.Day.{isInner}
 use Rattle.rules.proofs.Inner.{is-inner}
 use Rattle.board.specs.Board.{stateOf, Board, board, onRoute, legsOf, setOf}
 use Rattle.board.specs.Fresh.{noState, freshSets, freshState, freshSet}
-use Rattle.board.specs.Form.{setOk, markOk, inForm}
+use Rattle.board.specs.Form.{setOk, onlyInner, markOk, mustOk, inForm}
 use Rattle.board.proofs.FormLaws.{off-make, leg-make, in-form-of}
 use Rattle.board.specs.Held.{Held, Routed, FormedBoard, Wide, InForm}
 use Rattle.board.specs.declared.State.{State}
@@ -28,15 +28,15 @@ pub fresh-large : (n : ℕ) → 64 < n → freshState n ≡ noState
 unfolding freshState
 fresh-large n h = rw (lt-leb n 64 h, le-leb 2 n (omega arith))
 
-pub fresh-is : (n : ℕ) → 2 ≤ n → n ≤ 64 → freshState n ≡ stateOf (set (replicate 64 0) 1 (n - 1)) 2 (freshSets n) 0 (replicate 64 0) 0 0
+pub fresh-is : (n : ℕ) → 2 ≤ n → n ≤ 64 → freshState n ≡ stateOf (set (replicate 64 0) 1 (n - 1)) 2 (freshSets n) 0 0 (replicate 64 0) 0 0
 unfolding freshState
 fresh-is n h k = rw (le-leb n 64 k, le-leb 2 n h)
 
 abbrev pub freshBoard : ℕ → Board
-freshBoard n = board (set (replicate 64 0) 1 (n - 1)) 2 (freshSets n) 0
+freshBoard n = board (set (replicate 64 0) 1 (n - 1)) 2 (freshSets n) 0 0
 
 abbrev pub freshMade : ℕ → State
-freshMade n = stateOf (set (replicate 64 0) 1 (n - 1)) 2 (freshSets n) 0 (replicate 64 0) 0 0
+freshMade n = stateOf (set (replicate 64 0) 1 (n - 1)) 2 (freshSets n) 0 0 (replicate 64 0) 0 0
 
 module _ (n : ℕ) (two : 2 ≤ n) (small : n ≤ 64) where
   one : getD (set (replicate 64 0) 1 (n - 1)) 1 0 ≡ n - 1
@@ -85,8 +85,8 @@ module _ (n : ℕ) (two : 2 ≤ n) (small : n ≤ 64) where
       decided (isInner n y) (λ e. rw (fresh-set y l, e, fresh-off y e) fresh-leg) (λ e. rw (fresh-set y l, e))
 
   pub fresh-formed : FormedBoard n (freshBoard n)
-  unfolding markOk
-  fresh-formed = record { route = fresh-routed; sets = fresh-sets; marks = λ y l. rw (has-none y) }
+  unfolding markOk mustOk onlyInner
+  fresh-formed = record { route = fresh-routed; sets = fresh-sets; marks = λ y l. rw (has-none y); must = λ y l. rw (has-none y) }
 
   pub fresh-inform : InForm n (freshMade n)
   fresh-inform = record {
@@ -103,7 +103,7 @@ module _ (n : ℕ) (two : 2 ≤ n) (small : n ≤ 64) where
       go false = omega arith
 
   pub fresh-held : Held (freshMade n)
-  fresh-held = record { wide = fresh-wide; levels = refl; words = record { fits = fresh-word; marks = omega arith } }
+  fresh-held = record { wide = fresh-wide; levels = refl; words = record { fits = fresh-word; marks = omega arith; must = omega arith } }
 
 -- the fresh state is in form
 pub fresh-in-form : (n : ℕ) → 2 ≤ n → n ≤ 64 → inForm n (freshState n) ≡ true

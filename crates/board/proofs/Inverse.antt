@@ -14,7 +14,7 @@ use Rattle.rules.proofs.Inner.{is-inner}
 use Rattle.board.specs.Route.{indexOf, insertIn, removeIn}
 use Rattle.board.proofs.RouteLaws.{remove-insert, insert-route, insert-at, insert-under}
 use Rattle.board.specs.Board.{Board, board, routeOf, setOf}
-use Rattle.board.specs.Change.{heir, strike, putSet, placedAfter, marked, unplaced, unmarked}
+use Rattle.board.specs.Change.{heir, strike, putSet, placedAfter, marked, unplaced, unmarked, obliged, unobliged}
 use Rattle.board.proofs.FormLaws.{place-in, place-at, place-one, no-leg}
 use Rattle.board.specs.Held.{FormedBoard, Wide, Splits}
 use Rattle.board.proofs.Keep.{split-inside, split-room, placed-wide, placed-routed, placed-on, heir-yes, heir-no}
@@ -28,6 +28,11 @@ put-back b x v = rw (set-set (b .sets) x v (getD (b .sets) x 0), set-getD (b .se
 pub mark-back : (b : Board) (x : ℕ) → has (b .marks) x ≡ false → unmarked (marked b x) x ≡ b
 unfolding unmarked marked
 mark-back b x h = rw (without-with (b .marks) x h)
+
+-- a mark "must go somewhere" taken off
+pub oblige-back : (b : Board) (x : ℕ) → has (b .must) x ≡ false → unobliged (obliged b x) x ≡ b
+unfolding unobliged obliged
+oblige-back b x h = rw (without-with (b .must) x h)
 
 -- ---- a placing
 
@@ -89,7 +94,7 @@ module _ (n : ℕ) (b : Board) (p x : ℕ) (small : n ≤ 64) (wide : Wide b) (f
       ∙ ap (λ (t : List ℕ). set t x (getD (b .sets) x 0)) (strike-heirs p x (b .sets) (λ y l. no-leg n b small wide f x y (omega (arith, is-inner n x (c .node) .1)) (c .off) (omega (arith, wide .sets))))
       ∙ set-getD (b .sets) x 0
 
-  all-back : board (removeIn (indexOf p (routeOf b) + 1) (placedAfter b p x .route)) (placedAfter b p x .stops - 1) (set (map (strike x) (placedAfter b p x .sets)) x (setOf b x)) (placedAfter b p x .marks) ≡ b
+  all-back : board (removeIn (indexOf p (routeOf b) + 1) (placedAfter b p x .route)) (placedAfter b p x .stops - 1) (set (map (strike x) (placedAfter b p x .sets)) x (setOf b x)) (placedAfter b p x .marks) (placedAfter b p x .must) ≡ b
   unfolding placedAfter
   all-back =
       let i = indexOf p (routeOf b) + 1 in

@@ -1,6 +1,6 @@
--- Each change keeps the form: a set of present legs put for a node off the route, a mark put or taken off, a placing, a placing undone.
+-- Each change keeps the form: a set of present legs put for a node off the route, a mark of either sort put or taken off, a placing, a placing undone.
 use mathlib.Core.Path.{_≡_, refl, ap, sym, _∙_, subst}
-use mathlib.Core.Bool.{Bool, true, false, cond, not, _&&_, and-false}
+use mathlib.Core.Bool.{Bool, true, false, cond, not, _&&_, and-false, or-true}
 use mathlib.Core.List.{List, map}
 use Prim.Native.Nat.{ℕ, suc, _+_, _-_, _≤_, _<_}
 use native.Mathlib.Omega.{arith}
@@ -17,8 +17,8 @@ use Rattle.rules.proofs.Inner.{is-inner}
 use Rattle.board.specs.Route.{indexOf, insertIn, removeIn}
 use Rattle.board.proofs.RouteLaws.{length-insert, insert-at, insert-under, insert-above, length-remove, remove-under, remove-above, remove-last}
 use Rattle.board.specs.Board.{Board, board, routeOf, onRoute, legsOf, setOf}
-use Rattle.board.specs.Form.{setOk, markOk}
-use Rattle.board.specs.Change.{heir, strike, putSet, placedAfter, marked, unplaced, unmarked}
+use Rattle.board.specs.Form.{setOk, onlyInner, markOk, mustOk}
+use Rattle.board.specs.Change.{heir, strike, putSet, placedAfter, marked, unplaced, unmarked, obliged, unobliged}
 use Rattle.board.proofs.FormLaws.{off-at, on-at, off-make, place-in, place-at, place-one, leg-inside, inner-inside, room-left, leg-at, leg-make}
 use Rattle.board.specs.Held.{Splits, Routed, FormedBoard, Wide}
 
@@ -39,41 +39,78 @@ put-wide b x w h = record { route = h .route; sets = length-set (b .sets) x w �
 -- a set of present legs for an inner node off the route: smaller or larger, the form stays
 pub put-formed : (n : ℕ) (b : Board) (x w : ℕ) → Wide b → FormedBoard n b → x < 64 → isInner n x ≡ true → onRoute b x ≡ false
     → within w (legsOf b) ≡ true → FormedBoard n (putSet b x w)
-unfolding setOk putSet onRoute routeOf legsOf markOk
+unfolding setOk putSet onRoute routeOf legsOf markOk mustOk
 put-formed n b x w h f s i o e = record {
   route = record { two = f .route .two; most = f .route .most; start = f .route .start; end = f .route .end; below = f .route .below; once = f .route .once; past = f .route .past };
   sets = λ y l. decided (eqb y x)
       (λ q. rw (eqb-true y x q, put-same b x w (omega (arith, h .sets)), i, o) e)
       (λ q. rw (put-other b x w y (eqb-false y x q)) (f .sets y l));
   marks = f .marks;
+  must = f .must;
 }
 
--- ---- a mark
+-- ---- a mark, of either sort
+
+-- inner nodes, and one more of them
+only-with : (n w x : ℕ) → isInner n x ≡ true → ((y : ℕ) → y < 64 → onlyInner n w y ≡ true) → (y : ℕ) → y < 64 → onlyInner n (with w x) y ≡ true
+unfolding onlyInner
+only-with n w x i f y l =
+    decided (eqb y x) (λ q. rw (eqb-true y x q, i) (or-true (not (has (with w x) x))))
+    (λ q. rw (with-other w x y (eqb-false y x q)) (f y l))
+
+-- inner nodes, and one fewer
+only-without : (n w x : ℕ) → ((y : ℕ) → y < 64 → onlyInner n w y ≡ true) → (y : ℕ) → y < 64 → onlyInner n (without w x) y ≡ true
+unfolding onlyInner
+only-without n w x f y l =
+    decided (has (without w x) y)
+    (λ h. rw h (rw (without-part w x y h) at (f y l)))
+    (λ h. rw h)
+
+pub only-inner : (n w y : ℕ) → onlyInner n w y ≡ true → has w y ≡ true → isInner n y ≡ true
+unfolding onlyInner
+only-inner n w y e h = rw h at e
 
 -- the marks change and are only on inner nodes: the form stays
-pub marks-formed : (n : ℕ) (b : Board) (m : ℕ) → FormedBoard n b → ((y : ℕ) → y < 64 → has m y ≡ true → isInner n y ≡ true)
-    → FormedBoard n (board (b .route) (b .stops) (b .sets) m)
-unfolding setOk onRoute routeOf legsOf markOk setOf
-marks-formed n b m f g = record {
+marks-formed : (n : ℕ) (b : Board) (m k : ℕ) → FormedBoard n b → ((y : ℕ) → y < 64 → onlyInner n m y ≡ true) → ((y : ℕ) → y < 64 → onlyInner n k y ≡ true)
+    → FormedBoard n (board (b .route) (b .stops) (b .sets) m k)
+unfolding setOk onRoute routeOf legsOf markOk mustOk setOf
+marks-formed n b m k f g h = record {
   route = record { two = f .route .two; most = f .route .most; start = f .route .start; end = f .route .end; below = f .route .below; once = f .route .once; past = f .route .past };
   sets = f .sets;
-  marks = λ y l. decided (has m y) (λ h. rw (h, g y l h)) (λ h. rw h);
+  marks = g;
+  must = h;
 }
 
-pub mark-inner : (n : ℕ) (b : Board) → FormedBoard n b → (y : ℕ) → y < 64 → has (b .marks) y ≡ true → isInner n y ≡ true
+-- marks of either sort are only on inner nodes
+marks-only : (n : ℕ) (b : Board) → FormedBoard n b → (y : ℕ) → y < 64 → onlyInner n (b .marks) y ≡ true
 unfolding markOk
-mark-inner n b f y l h = rw h at (f .marks y l)
+marks-only n b f y l = f .marks y l
+
+must-only : (n : ℕ) (b : Board) → FormedBoard n b → (y : ℕ) → y < 64 → onlyInner n (b .must) y ≡ true
+unfolding mustOk
+must-only n b f y l = f .must y l
+
+pub mark-inner : (n : ℕ) (b : Board) → FormedBoard n b → (y : ℕ) → y < 64 → has (b .marks) y ≡ true → isInner n y ≡ true
+mark-inner n b f y l h = only-inner n (b .marks) y (marks-only n b f y l) h
+
+pub must-inner : (n : ℕ) (b : Board) → FormedBoard n b → (y : ℕ) → y < 64 → has (b .must) y ≡ true → isInner n y ≡ true
+must-inner n b f y l h = only-inner n (b .must) y (must-only n b f y l) h
 
 pub marked-formed : (n : ℕ) (b : Board) (x : ℕ) → FormedBoard n b → isInner n x ≡ true → FormedBoard n (marked b x)
 unfolding marked
-marked-formed n b x f i =
-    marks-formed n b (with (b .marks) x) f (λ y l h.
-    decided (eqb y x) (λ q. rw (eqb-true y x q) i)
-    (λ q. mark-inner n b f y l (sym (with-other (b .marks) x y (eqb-false y x q)) ∙ h)))
+marked-formed n b x f i = marks-formed n b (with (b .marks) x) (b .must) f (only-with n (b .marks) x i (marks-only n b f)) (must-only n b f)
 
 pub unmarked-formed : (n : ℕ) (b : Board) (x : ℕ) → FormedBoard n b → FormedBoard n (unmarked b x)
 unfolding unmarked
-unmarked-formed n b x f = marks-formed n b (without (b .marks) x) f (λ y l h. mark-inner n b f y l (without-part (b .marks) x y h))
+unmarked-formed n b x f = marks-formed n b (without (b .marks) x) (b .must) f (only-without n (b .marks) x (marks-only n b f)) (must-only n b f)
+
+pub obliged-formed : (n : ℕ) (b : Board) (x : ℕ) → FormedBoard n b → isInner n x ≡ true → FormedBoard n (obliged b x)
+unfolding obliged
+obliged-formed n b x f i = marks-formed n b (b .marks) (with (b .must) x) f (marks-only n b f) (only-with n (b .must) x i (must-only n b f))
+
+pub unobliged-formed : (n : ℕ) (b : Board) (x : ℕ) → FormedBoard n b → FormedBoard n (unobliged b x)
+unfolding unobliged
+unobliged-formed n b x f = marks-formed n b (b .marks) (without (b .must) x) f (marks-only n b f) (only-without n (b .must) x (must-only n b f))
 
 -- ---- the sets of a board where every set was changed and then one put
 
@@ -254,14 +291,14 @@ module _ (n : ℕ) (b : Board) (p x : ℕ) (small : n ≤ 64) (wide : Wide b) (f
       set-moved n b (placedAfter b p x) (heir p x) y (placed-others y d) (placed-set y l d) (heir-no p x 0 (has-none p)) heir-legs (f .sets y l))
 
   pub placed-formed : FormedBoard n (placedAfter b p x)
-  unfolding markOk placedAfter
-  placed-formed = record { route = placed-routed; sets = new-sets; marks = f .marks }
+  unfolding markOk mustOk placedAfter
+  placed-formed = record { route = placed-routed; sets = new-sets; marks = f .marks; must = f .must }
 
 -- ---- a placing undone: x is on the route and its set w becomes one of legs that are left
 
-marks-left : (n : ℕ) (b : Board) (x w : ℕ) → FormedBoard n b → (y : ℕ) → y < 64 → markOk n (unplaced b x w) y ≡ true
-unfolding markOk unplaced
-marks-left n b x w f y l = f .marks y l
+marks-left : (n : ℕ) (b : Board) (x w : ℕ) → FormedBoard n b → (y : ℕ) → y < 64 → (markOk n (unplaced b x w) y ≡ true) × (mustOk n (unplaced b x w) y ≡ true)
+unfolding markOk mustOk unplaced
+marks-left n b x w f y l = (f .marks y l, f .must y l)
 
 set-here : (n : ℕ) (b : Board) (x : ℕ) {w : ℕ} → onRoute b x ≡ false → isInner n x ≡ true → setOf b x ≡ w → within w (legsOf b) ≡ true → setOk n b x ≡ true
 unfolding setOk
@@ -394,11 +431,8 @@ module _ (n : ℕ) (b : Board) (x w : ℕ) (small : n ≤ 64) (wide : Wide b) (f
   unplaced-here = map-here (strike x) (b .sets) x w (omega (arith, wide .sets, is-inner n x node .1))
 
   pub unplaced-formed : within w (without (legsOf b) x) ≡ true → FormedBoard n (unplaced b x w)
-  unplaced-formed e = record { route = unplaced-routed; sets = left-sets; marks = left-marks }
+  unplaced-formed e = record { route = unplaced-routed; sets = left-sets; marks = λ y l. marks-left n b x w f y l .0; must = λ y l. marks-left n b x w f y l .1 }
     where
-      left-marks : (y : ℕ) → y < 64 → markOk n (unplaced b x w) y ≡ true
-      left-marks y l = marks-left n b x w f y l
-
       left-sets : (y : ℕ) → y < 64 → setOk n (unplaced b x w) y ≡ true
       left-sets y l =
           decided (eqb y x)

@@ -1,4 +1,4 @@
--- What each change opens and closes, place by place (01, Steps).
+-- What each change opens and closes, place by place (01, Steps; 02, No. 1).
 use mathlib.Core.Path.{_≡_, refl, ap, sym, _∙_}
 use mathlib.Core.Bool.{Bool, true, false, cond, not, _&&_, _||_, and-false, and-true, or-true, or-false}
 use Prim.Native.Nat.{ℕ, _<_, _≤_}
@@ -7,11 +7,11 @@ use lib.ListN.{length, List·getD-eq-default}
 use lib.Dec.{eqb, ltb}
 use borrow.Author.Tests.{eqb-true, eqb-false, eq-eqb, ltb-true, ltb-false}
 use Rattle.laws.proofs.Logic.{decided}
-use Rattle.bits.specs.Places.{has, without}
+use Rattle.bits.specs.Places.{has, with, without}
 use Rattle.bits.proofs.Members.{has-none, with-same, with-other, without-same, without-other}
 use Rattle.rules.proofs.Inner.{is-inner}
 use Rattle.board.specs.Board.{Board, setOf, openAt}
-use Rattle.board.specs.Change.{heir, putSet, placedAfter, marked}
+use Rattle.board.specs.Change.{heir, putSet, placedAfter, marked, obliged}
 use Rattle.board.proofs.FormLaws.{no-leg}
 use Rattle.board.specs.Held.{FormedBoard, Wide, Splits}
 use Rattle.board.proofs.Keep.{put-same, put-other, placed-set, placed-none, heir-yes, heir-no, placed-wide}
@@ -41,13 +41,22 @@ open-excluded b x y q l =
     (λ e. let z = eqb-true y x e in rw (z, put-same b x 0 l, has-none q, eq-eqb x x refl) (sym (and-false (has (setOf b x) q))))
     (λ e. rw (put-other b x 0 y (eqb-false y x e), e) (sym (and-true (has (setOf b y) q))))
 
+-- x put into a set, and no other
+with-adds : (w x y : ℕ) → x < 64 → has (with w x) y ≡ has w y || eqb y x
+with-adds w x y l =
+    decided (eqb y x)
+    (λ e. rw (eqb-true y x e, with-same w x l, eq-eqb x x refl) (sym (or-true (has w x))))
+    (λ e. rw (with-other w x y (eqb-false y x e), e) (sym (or-false (has w y))))
+
 -- step 4 marks x and no other
 pub mark-marked : (b : Board) (x y : ℕ) → x < 64 → has (marked b x .marks) y ≡ has (b .marks) y || eqb y x
 unfolding marked
-mark-marked b x y l =
-    decided (eqb y x)
-    (λ e. rw (eqb-true y x e, with-same (b .marks) x l, eq-eqb x x refl) (sym (or-true (has (b .marks) x))))
-    (λ e. rw (with-other (b .marks) x y (eqb-false y x e), e) (sym (or-false (has (b .marks) y))))
+mark-marked b x y l = with-adds (b .marks) x y l
+
+-- step 8 marks x and no other
+pub must-obliged : (b : Board) (x y : ℕ) → x < 64 → has (obliged b x .must) y ≡ has (b .must) y || eqb y x
+unfolding obliged
+must-obliged b x y l = with-adds (b .must) x y l
 
 -- step 1: x has no place left; each other node has the old places, and leg x where it had leg p
 pub open-placed : (n : ℕ) (b : Board) (p x : ℕ) → n ≤ 64 → Wide b → FormedBoard n b → Splits n b p x → (y q : ℕ)

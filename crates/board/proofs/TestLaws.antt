@@ -20,8 +20,8 @@ use Rattle.rules.specs.Day.{isInner}
 use Rattle.board.specs.Route.{wordOf}
 use Rattle.board.proofs.RouteLaws.{word-mem, word-has, word-more}
 use Rattle.board.specs.Board.{Board, routeOf, onRoute, legsOf, setOf}
-use Rattle.board.specs.Form.{stopOk, setOk, markOk, boardOk, levelOk, levelsOk}
-use Rattle.board.specs.Tests.{zeroFrom, seenOf, setTest, markTest}
+use Rattle.board.specs.Form.{stopOk, setOk, onlyInner, markOk, mustOk, boardOk, levelOk, levelsOk}
+use Rattle.board.specs.Tests.{zeroFrom, seenOf, setTest}
 
 -- the entry before i, 0 before the first
 unfoldable pub entryBefore : List ℕ → ℕ → ℕ
@@ -67,11 +67,11 @@ used-none k l f s h =
 
 -- a board whose route has its two ends: the used entries, the unused ones, the nodes
 pub board-test : (n : ℕ) (b : Board) → n ≤ 64 → 2 ≤ b .stops → b .stops ≤ n → getD (b .route) 0 0 ≡ 0 → getD (b .route) (b .stops - 1) 0 ≡ n - 1
-    → boardOk n b ≡ ((allBelow (b .stops) (stopOk n (b .stops) (b .route)) && allBelow 64 (zeroFrom (b .stops) (b .route))) && allBelow 64 (λ y. setOk n b y && markOk n b y))
+    → boardOk n b ≡ ((allBelow (b .stops) (stopOk n (b .stops) (b .route)) && allBelow 64 (zeroFrom (b .stops) (b .route))) && allBelow 64 (λ y. setOk n b y && (markOk n b y && mustOk n b y)))
 unfolding boardOk stopOk
 board-test n b s two most start end =
     rw (le-leb 2 (b .stops) two, le-leb (b .stops) n most, eq-eqb (getD (b .route) 0 0) 0 start, eq-eqb (getD (b .route) (b .stops - 1) 0) (n - 1) end)
-    (ap (λ (t : Bool). t && allBelow 64 (λ y. setOk n b y && markOk n b y))
+    (ap (λ (t : Bool). t && allBelow 64 (λ y. setOk n b y && (markOk n b y && mustOk n b y)))
     (used-none (b .stops) (b .route) (stopOk n (b .stops) (b .route)) (omega arith) (λ i h. rw (le-ltb i (b .stops) h) refl)))
 
 module _ (n stops : ℕ) (l : List ℕ) (i : ℕ) (used : i < stops) where
@@ -146,12 +146,13 @@ set-test n b y s l e =
 
 pub nodes-test : (n : ℕ) (b : Board) → n ≤ 64 → 0 < b .stops → b .stops ≤ length (b .route) → getD (b .route) (b .stops - 1) 0 ≡ n - 1
     → allBelow (b .stops) (stopOk n (b .stops) (b .route)) ≡ true
-    → (allBelow 64 (setTest n (b .sets) (wordOf (b .stops) (b .route))) && allBelow 64 (markTest n (b .marks))) ≡ allBelow 64 (λ y. setOk n b y && markOk n b y)
-unfolding markOk markTest
+    → (allBelow 64 (setTest n (b .sets) (wordOf (b .stops) (b .route))) && (allBelow 64 (onlyInner n (b .marks)) && allBelow 64 (onlyInner n (b .must)))) ≡ allBelow 64 (λ y. setOk n b y && (markOk n b y && mustOk n b y))
+unfolding markOk mustOk
 nodes-test n b s h l e a =
     let o = below-at (b .stops) (b .stops - 1) (stopOk n (b .stops) (b .route)) a (omega arith) in
     rw (below-same 64 (setTest n (b .sets) (wordOf (b .stops) (b .route))) (setOk n b) (λ y f. set-test n b y f l (legs-test n b s h l e o)))
-    (sym (below-both 64 (setOk n b) (markOk n b) (λ y. setOk n b y && markOk n b y) (λ y. refl)))
+    (sym (below-both 64 (setOk n b) (λ y. markOk n b y && mustOk n b y) (λ y. setOk n b y && (markOk n b y && mustOk n b y)) (λ y. refl)
+    ∙ ap (λ (t : Bool). allBelow 64 (setOk n b) && t) (below-both 64 (markOk n b) (mustOk n b) (λ y. markOk n b y && mustOk n b y) (λ y. refl))))
 
 -- what the loop over the sets asks of an inner node, and of another
 pub set-inner : (n : ℕ) (sets : List ℕ) (on y : ℕ) → 1 ≤ y → y + 1 < n
@@ -163,20 +164,20 @@ pub set-outer : (n : ℕ) (sets : List ℕ) (on y : ℕ) → isInner n y ≡ fal
 unfolding setTest
 set-outer n sets on y i = rw i refl
 
--- what a test of marks says of a node that is not inner
-no-mark : (n marks y : ℕ) → markTest n marks y ≡ true → isInner n y ≡ false → has marks y ≡ false
-unfolding markTest
+-- what a test of marks, of either sort, says of a node that is not inner
+no-mark : (n marks y : ℕ) → onlyInner n marks y ≡ true → isInner n y ≡ false → has marks y ≡ false
+unfolding onlyInner
 no-mark n marks y e i = not-true (has marks y) (sym (or-false (not (has marks y))) ∙ rw i at e)
 
 -- no mark at node 0, and none from node n - 1 on
 pub marks-test : (n marks : ℕ) → 2 ≤ n → n ≤ 64 → marks < 2 ^ 64
-    → (eqb (marks / 2 ^ (n - 1)) 0 && eqb (marks % 2) 0) ≡ allBelow 64 (markTest n marks)
-unfolding markTest
+    → (eqb (marks / 2 ^ (n - 1)) 0 && eqb (marks % 2) 0) ≡ allBelow 64 (onlyInner n marks)
+unfolding onlyInner
 marks-test n marks t s f =
-    together (eqb (marks / 2 ^ (n - 1)) 0 && eqb (marks % 2) 0) (allBelow 64 (markTest n marks))
+    together (eqb (marks / 2 ^ (n - 1)) 0 && eqb (marks % 2) 0) (allBelow 64 (onlyInner n marks))
     (λ e. let a = and-true (eqb (marks / 2 ^ (n - 1)) 0) (eqb (marks % 2) 0) e in
-    below-make 64 (markTest n marks) (λ y l. decided (isInner n y) (λ i. rw i (or-true (not (has marks y)))) (λ i. rw (clear (a .0) (a .1) y i) refl)))
-    (λ e. let at : (y : ℕ) → y < 64 → isInner n y ≡ false → has marks y ≡ false = λ y l i. no-mark n marks y (below-at 64 y (markTest n marks) e l) i in
+    below-make 64 (onlyInner n marks) (λ y l. decided (isInner n y) (λ i. rw i (or-true (not (has marks y)))) (λ i. rw (clear (a .0) (a .1) y i) refl)))
+    (λ e. let at : (y : ℕ) → y < 64 → isInner n y ≡ false → has marks y ≡ false = λ y l i. no-mark n marks y (below-at 64 y (onlyInner n marks) e l) i in
     rw (
       eq-eqb (marks / 2 ^ (n - 1)) 0 (none-shr marks (n - 1) f (λ y h l. at y l (outer n y (omega arith)))),
       eq-eqb (marks % 2) 0 (sym (digit-zero marks) ∙ digit-not marks 0 (at 0 (omega arith) (outer-first n))),

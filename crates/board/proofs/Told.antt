@@ -32,6 +32,6 @@ is-held s vs g =
     let a = g .1 .1 .1 .1 .0 in
     record {
       wide = record { route = sym (length-map (s .route) (λ v. v)) ∙ g .1 .1 .0 .1 .0 .1; sets = sym (length-map (s .sets) (λ v. v)) ∙ a .1 .0 .1 };
-      levels = sym (length-map (s .levels) (λ v. v)) ∙ g .1 .1 .1 .1 .1 .1 .0 .1 .0 .1;
-      words = record { fits = λ y h. rw map-same at (each-fits (map (λ v. v) (s .sets)) (a .0) (a .1 .1) y (omega (arith, a .1 .0 .1))); marks = g .1 .1 .1 .1 .1 .0 .1 };
+      levels = sym (length-map (s .levels) (λ v. v)) ∙ g .1 .1 .1 .1 .1 .1 .1 .0 .1 .0 .1;
+      words = record { fits = λ y h. rw map-same at (each-fits (map (λ v. v) (s .sets)) (a .0) (a .1 .1) y (omega (arith, a .1 .0 .1))); marks = g .1 .1 .1 .1 .1 .0 .1; must = g .1 .1 .1 .1 .1 .1 .0 .1 };
     }

@@ -1,4 +1,4 @@
--- A state as 01 lists it, and the part of it that records speak of: route, place sets and marks.
+-- A state as 01 and 02 list it, and the part of it that records speak of: route, place sets, marks and the marks "must go somewhere".
 use mathlib.Core.Bool.{Bool}
 use mathlib.Core.List.{List}
 use Prim.Native.Nat.{ℕ, _+_, _-_}
@@ -11,33 +11,34 @@ use Rattle.board.specs.Route.{wordOf}
 use Rattle.board.specs.declared.State.{State}
 use Rattle.board.specs.declared.Figures.{Figures}
 
--- the part of a state that records speak of: route, place sets and marks
+-- the part of a state that records speak of: route, place sets, marks, and the marks "must go somewhere"
 pub record Board : Type 0 where
   pub route : List ℕ
   pub stops : ℕ
   pub sets : List ℕ
   pub marks : ℕ
+  pub must : ℕ
 
 -- a board by its parts
-abbrev pub board : List ℕ → ℕ → List ℕ → ℕ → Board
-board route stops sets marks = record { route = route; stops = stops; sets = sets; marks = marks }
+abbrev pub board : List ℕ → ℕ → List ℕ → ℕ → ℕ → Board
+board route stops sets marks must = record { route = route; stops = stops; sets = sets; marks = marks; must = must }
 
 -- a state by its parts
-abbrev pub stateOf : List ℕ → ℕ → List ℕ → ℕ → List ℕ → ℕ → ℕ → State
-stateOf route stops sets marks levels depth records =
-    record { route = route; stops = stops; sets = sets; marks = marks; levels = levels; depth = depth; records = records }
+abbrev pub stateOf : List ℕ → ℕ → List ℕ → ℕ → ℕ → List ℕ → ℕ → ℕ → State
+stateOf route stops sets marks must levels depth records =
+    record { route = route; stops = stops; sets = sets; marks = marks; must = must; levels = levels; depth = depth; records = records }
 
 -- the same from its arrays and its other numbers
 abbrev pub stateWith : List ℕ → List ℕ → List ℕ → Figures → State
-stateWith route sets levels f = stateOf route (f .stops) sets (f .marks) levels (f .depth) (f .records)
+stateWith route sets levels f = stateOf route (f .stops) sets (f .marks) (f .must) levels (f .depth) (f .records)
 
 -- the board of a state
 abbrev pub boardOf : State → Board
-boardOf s = board (s .route) (s .stops) (s .sets) (s .marks)
+boardOf s = board (s .route) (s .stops) (s .sets) (s .marks) (s .must)
 
 -- the state s with another board and record count; its levels stay
 abbrev pub onBoard : State → Board → ℕ → State
-onBoard s b k = stateOf (b .route) (b .stops) (b .sets) (b .marks) (s .levels) (s .depth) k
+onBoard s b k = stateOf (b .route) (b .stops) (b .sets) (b .marks) (b .must) (s .levels) (s .depth) k
 
 -- the route: the first entries of its array
 unfoldable pub routeOf : Board → List ℕ

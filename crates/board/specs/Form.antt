@@ -1,4 +1,4 @@
--- When a state is in form, sentence by sentence (01, State).
+-- When a state is in form, sentence by sentence (01, State; 02, No. 1).
 use mathlib.Core.Bool.{Bool, cond, not, _&&_, _||_}
 use mathlib.Core.List.{List}
 use Prim.Native.Nat.{ℕ, _-_}
@@ -18,16 +18,24 @@ stopOk n stops route i = cond (ltb i stops) (ltb (getD route i 0) n && not (mem 
 unfoldable pub setOk : ℕ → Board → ℕ → Bool
 setOk n b y = cond (isInner n y && not (onRoute b y)) (within (setOf b y) (legsOf b)) (eqb (setOf b y) 0)
 
+-- a set of nodes has y only if that is between 1 and n - 2
+unfoldable pub onlyInner : ℕ → ℕ → ℕ → Bool
+onlyInner n w y = not (has w y) || isInner n y
+
 -- marks only on 1 to n - 2
 unfoldable pub markOk : ℕ → Board → ℕ → Bool
-markOk n b y = not (has (b .marks) y) || isInner n y
+markOk n b y = onlyInner n (b .marks) y
 
--- route from 0 to n - 1; its stops, sets and marks
+-- marks "must go somewhere" only on 1 to n - 2, on placed wards too
+unfoldable pub mustOk : ℕ → Board → ℕ → Bool
+mustOk n b y = onlyInner n (b .must) y
+
+-- route from 0 to n - 1; its stops, sets and marks, and the marks "must go somewhere"
 unfoldable pub boardOk : ℕ → Board → Bool
 boardOk n b =
     (leb 2 (b .stops) && leb (b .stops) n)
     && ((eqb (getD (b .route) 0 0) 0 && eqb (getD (b .route) (b .stops - 1) 0) (n - 1))
-    && (allBelow 64 (stopOk n (b .stops) (b .route)) && allBelow 64 (λ y. setOk n b y && markOk n b y)))
+    && (allBelow 64 (stopOk n (b .stops) (b .route)) && allBelow 64 (λ y. setOk n b y && (markOk n b y && mustOk n b y))))
 
 -- the counts not falling and not above the record count, unused ones 0
 unfoldable pub levelOk : ℕ → ℕ → List ℕ → ℕ → Bool

@@ -8,10 +8,15 @@ use Rattle.laws.specs.Basic.{tab}
 use Rattle.rules.specs.Day.{isInner}
 use Rattle.board.specs.Board.{stateOf}
 use Rattle.board.specs.declared.State.{State}
+use Rattle.board.specs.declared.Figures.{Figures}
 
 -- every number 0
 unfoldable pub noState : State
-noState = stateOf (replicate 64 0) 0 (replicate 64 0) 0 (replicate 64 0) 0 0
+noState = stateOf (replicate 64 0) 0 (replicate 64 0) 0 0 (replicate 64 0) 0 0
+
+-- its numbers beside its three arrays
+unfoldable pub noFigures : Figures
+noFigures = record { stops = 0; marks = 0; must = 0; depth = 0; records = 0 }
 
 -- every node but the ends is open in leg 0
 unfoldable pub freshSet : ℕ → ℕ → ℕ
@@ -23,4 +28,4 @@ freshSets n = tab 64 (freshSet n)
 
 -- route 0, n - 1; every other node open in leg 0; no marks, levels or records. None where n is no number of nodes
 unfoldable pub freshState : ℕ → State
-freshState n = cond (leb 2 n && leb n 64) (stateOf (set (replicate 64 0) 1 (n - 1)) 2 (freshSets n) 0 (replicate 64 0) 0 0) noState
+freshState n = cond (leb 2 n && leb n 64) (stateOf (set (replicate 64 0) 1 (n - 1)) 2 (freshSets n) 0 0 (replicate 64 0) 0 0) noState

@@ -7,17 +7,18 @@ use lib.ListN.{length, getD}
 use Rattle.rules.specs.Day.{isInner}
 use Rattle.board.specs.Board.{Board, boardOf, setOf, onRoute, legNode}
 use Rattle.board.specs.declared.State.{State}
-use Rattle.board.specs.Form.{setOk, markOk}
+use Rattle.board.specs.Form.{setOk, markOk, mustOk}
 
 -- route and sets are arrays of 64 entries
 pub record Wide (b : Board) : Type 0 where
   pub route : length (b .route) ≡ 64
   pub sets : length (b .sets) ≡ 64
 
--- each set is a word, and so are the marks
+-- each set is a word, and so are the marks of either sort
 pub record Words (b : Board) : Type 0 where
   pub fits : (y : ℕ) → y < 64 → setOf b y < 2 ^ 64
   pub marks : b .marks < 2 ^ 64
+  pub must : b .must < 2 ^ 64
 
 -- what the type of a state says and lists of numbers do not: arrays of 64 entries, words of 64 bits
 pub record Held (s : State) : Type 0 where
@@ -40,6 +41,7 @@ pub record FormedBoard (n : ℕ) (b : Board) : Type 0 where
   pub route : Routed n b
   pub sets : (y : ℕ) → y < 64 → setOk n b y ≡ true
   pub marks : (y : ℕ) → y < 64 → markOk n b y ≡ true
+  pub must : (y : ℕ) → y < 64 → mustOk n b y ≡ true
 
 -- a board of a state in form, with arrays of 64 entries
 pub record Sound (n : ℕ) (b : Board) : Type 0 where

@@ -1,5 +1,5 @@
 -- The tests of the form, as a loop makes them: on numbers and words.
-use mathlib.Core.Bool.{Bool, cond, not, _||_}
+use mathlib.Core.Bool.{Bool, cond, _||_}
 use mathlib.Core.List.{List}
 use Prim.Native.Nat.{ℕ, _-_}
 use lib.ListN.{getD}
@@ -22,7 +22,3 @@ seenOf n stops l = cond (allBelow stops (stopOk n stops l)) (wordOf stops l) 0
 unfoldable pub setTest : ℕ → List ℕ → ℕ → ℕ → Bool
 setTest n sets on y =
     cond (isInner n y) (cond (has on y) (eqb (getD sets y 0) 0) (within (getD sets y 0) (without on (n - 1)))) (eqb (getD sets y 0) 0)
-
--- a mark on node y
-unfoldable pub markTest : ℕ → ℕ → ℕ → Bool
-markTest n marks y = not (has marks y) || isInner n y

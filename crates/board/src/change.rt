@@ -1,4 +1,4 @@
-// What placing a node does to route and sets, and what taking it off again does. Stops, marks and records are the caller's.
+// What placing a node does to route and sets, and what taking it off again does. Stops, marks of either sort and records are the caller's.
 use crate::places::inherit;
 use crate::places::strike_leg;
 use crate::route::insert;
@@ -22,9 +22,9 @@ pub fn place(
     p: usize,
     x: usize,
 )
-    requires { ⌜ ((marks : ℕ) × Sound n (board (now route) stops (now sets) marks) × Splits n (board (now route) stops (now sets) marks) p x) ⌝ }
-    ensures { λ r. ⌜ ((marks : ℕ) → placedAfter (board (now (route .entry)) stops (now (sets .entry)) marks) p x
-        ≡ board (now (route .exit)) (stops + 1) (now (sets .exit)) marks) ⌝ }
+    requires { ⌜ ((marks must : ℕ) × Sound n (board (now route) stops (now sets) marks must) × Splits n (board (now route) stops (now sets) marks must) p x) ⌝ }
+    ensures { λ r. ⌜ ((marks must : ℕ) → placedAfter (board (now (route .entry)) stops (now (sets .entry)) marks must) p x
+        ≡ board (now (route .exit)) (stops + 1) (now (sets .exit)) marks must) ⌝ }
 {
     let at = position(route, stops, p);
     insert(route, at + 1, x);
@@ -41,10 +41,10 @@ pub fn unplace(
     x: usize,
     w: u64,
 )
-    requires { ⌜ (at < 64) × (x < 64) × ((stops marks : ℕ) × Sound n (board (now route) stops (now sets) marks)) ⌝ }
-    ensures { λ r. ⌜ ((stops marks : ℕ) → at ≡ indexOf x (take stops (now (route .entry)))
-        → unplaced (board (now (route .entry)) stops (now (sets .entry)) marks) x w
-        ≡ board (now (route .exit)) (stops - 1) (now (sets .exit)) marks) ⌝ }
+    requires { ⌜ (at < 64) × (x < 64) × ((stops marks must : ℕ) × Sound n (board (now route) stops (now sets) marks must)) ⌝ }
+    ensures { λ r. ⌜ ((stops marks must : ℕ) → at ≡ indexOf x (take stops (now (route .entry)))
+        → unplaced (board (now (route .entry)) stops (now (sets .entry)) marks must) x w
+        ≡ board (now (route .exit)) (stops - 1) (now (sets .exit)) marks must) ⌝ }
 {
     remove(route, at);
     strike_leg(sets, n, x);

@@ -8,8 +8,8 @@ ghost use Rattle.laws.specs.Basic.{allBelow};
 ghost use Rattle.bits.specs.Places.{has, within};
 ghost use Rattle.rules.specs.Day.{isInner};
 ghost use Rattle.board.specs.Board.{legNode, board, stateWith};
-ghost use Rattle.board.specs.Form.{boardOk, levelsOk, inForm};
-ghost use Rattle.board.specs.Tests.{zeroFrom, seenOf, setTest, markTest};
+ghost use Rattle.board.specs.Form.{onlyInner, boardOk, levelsOk, inForm};
+ghost use Rattle.board.specs.Tests.{zeroFrom, seenOf, setTest};
 use crate::Figures;
 use crate::State;
 use rules::Node;
@@ -101,10 +101,10 @@ fn sets_ok(sets: &[u64; Node::MOST], n: usize, on: u64) -> bool
     over == 0
 }
 
-// No mark at node 0 or from the last node on.
+// No mark at node 0 or from the last node on; asked of the marks of either sort.
 fn marks_ok(marks: u64, n: usize) -> bool
     requires { ⌜ (2 ≤ n) × (n ≤ 64) ⌝ }
-    ensures { λ r. ⌜ r ≡ allBelow 64 (markTest n marks) ⌝ }
+    ensures { λ r. ⌜ r ≡ allBelow 64 (onlyInner n marks) ⌝ }
 {
     (marks >> (n - 1) == 0) & (marks % 2 == 0)
 }
@@ -136,10 +136,11 @@ fn board_ok<'a>(
     stops: usize,
     sets: &'a [u64; Node::MOST],
     marks: u64,
+    must: u64,
     n: usize,
 ) -> bool
     requires { ⌜ (n ≤ 64) × (length (now route) ≡ 64) ⌝ }
-    ensures { λ r. ⌜ r ≡ boardOk n (board (now (route .entry)) stops (now (sets .entry)) marks) ⌝ }
+    ensures { λ r. ⌜ r ≡ boardOk n (board (now (route .entry)) stops (now (sets .entry)) marks must) ⌝ }
 {
     if stops < 2 {
         return false;
@@ -160,7 +161,7 @@ fn board_ok<'a>(
     if !none_from(route, stops) {
         return false;
     }
-    sets_ok(sets, n, on) & marks_ok(marks, n)
+    sets_ok(sets, n, on) & (marks_ok(marks, n) & marks_ok(must, n))
 }
 
 // Whether the state of these arrays and numbers is in form, the record count's room apart.
@@ -174,7 +175,7 @@ pub fn in_form<'a>(
     requires { ⌜ (n ≤ 64) × (length (now route) ≡ 64) ⌝ }
     ensures { λ r. ⌜ r ≡ inForm n (stateWith (now (route .entry)) (now (sets .entry)) (now (levels .entry)) f) ⌝ }
 {
-    if !board_ok(route, f.stops, sets, f.marks, n) {
+    if !board_ok(route, f.stops, sets, f.marks, f.must, n) {
         return false;
     }
     levels_ok(levels, f.depth, f.records)

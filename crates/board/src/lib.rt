@@ -7,15 +7,17 @@ pub mod route;
 
 ghost use mathlib.Core.Path.{_≡_};
 ghost use Prim.Native.Nat.{_<_};
-ghost use Rattle.board.specs.Fresh.{noState, freshState, freshSet, freshSets};
+ghost use Rattle.board.specs.Fresh.{noState, noFigures, freshState, freshSet, freshSets};
 use rules::Node;
 
-// The route, each unplaced node's set of open places, the marks of required nodes, and for each level the record count when it was opened.
+// The route, each unplaced node's set of open places, the marks of required nodes, those of wards that must go somewhere, and for each level the
+// record count when it was opened.
 pub struct State {
     pub route: [usize; Node::MOST],
     pub stops: usize,
     pub sets: [u64; Node::MOST],
     pub marks: u64,
+    pub must: u64,
     pub levels: [usize; State::LEVELS],
     pub depth: usize,
     pub records: usize,
@@ -25,6 +27,7 @@ pub struct State {
 pub struct Figures {
     pub stops: usize,
     pub marks: u64,
+    pub must: u64,
     pub depth: usize,
     pub records: usize,
 }
@@ -42,6 +45,7 @@ impl State {
             stops: 0,
             sets: [0; Node::MOST],
             marks: 0,
+            must: 0,
             levels: [0; State::LEVELS],
             depth: 0,
             records: 0,
@@ -66,7 +70,23 @@ impl State {
             stops: 2,
             sets: sets,
             marks: 0,
+            must: 0,
             levels: [0; State::LEVELS],
+            depth: 0,
+            records: 0,
+        }
+    }
+}
+
+impl Figures {
+    // Every number 0: those of the state that stands beside a refusal.
+    pub fn none() -> Figures
+        ensures { λ r. ⌜ r ≡ noFigures ⌝ }
+    {
+        Figures {
+            stops: 0,
+            marks: 0,
+            must: 0,
             depth: 0,
             records: 0,
         }

@@ -9,8 +9,8 @@ use Rattle.rules.specs.Day.{isInner, shortestLine, shortestRow, triangle}
 use Rattle.rules.specs.declared.Job.the-variants.{Transfer}
 use Rattle.day.specs.Refuse.{callRefusal, openRefusal, clash, apart}
 use Rattle.day.specs.Section.{spanOf, sectionOf}
-use Rattle.day.specs.Tell.{dayOf, cell, jobAt, jobIn}
-use Rattle.day.specs.Example.{_▸_, paperJobs, tableWith, stepsWith, sheetOf, sheetWith}
+use Rattle.day.specs.Tell.{vanOf, dayOf, cell, jobAt, jobIn}
+use Rattle.day.specs.Example.{_▸_, nodesWith, paperJobs, tableWith, stepsWith, sheetOf, sheetWith}
 
 abbrev paper : List ℕ
 paper = sheetWith 2 60 25 100
@@ -22,6 +22,10 @@ cleanAgain x back = sheetOf 2 60 25 100 (2 ▸ 1 ▸ 1 ▸ 0 ▸ 2 ▸ 1 ▸ x �
 -- the paper's sheet with another number of seconds from node 3 to node 0, and another count of steps
 abbrev altered : ℕ → ℕ → List ℕ
 altered back steps = sheetOf 2 60 25 100 (paperJobs (tableWith back (tableWith 30 (stepsWith steps))))
+
+-- the paper's sheet with a second van, of this capacity
+abbrev twoVans : ℕ → List ℕ
+twoVans capacity = 4 ▸ 2 ▸ 60 ▸ capacity ▸ 50 ▸ nodesWith 25 100 (paperJobs (tableWith 30 (tableWith 30 (stepsWith 8))))
 
 record Computed : Type 0 where
   pub accepted : openRefusal paper ≡ 0
@@ -39,10 +43,20 @@ record Computed : Type 0 where
   pub short-next : openRefusal (2 ▸ 9999 ▸ []) ≡ 1
   pub then-values : openRefusal (2 ▸ 9999 ▸ 0 ▸ []) ≡ 3
   pub both : openRefusal (cleanAgain 1 31) ≡ 4
+  -- "twice the number of vans, 2 to 16, pair by pair"
+  pub no-van : openRefusal (0 ▸ []) ≡ 2
+  pub half-a-van : openRefusal (5 ▸ []) ≡ 2
+  pub eight-vans : openRefusal (16 ▸ []) ≡ 1
+  pub nine-vans : openRefusal (18 ▸ []) ≡ 2
+  pub two-vans : openRefusal (twoVans 1) ≡ 0
+  pub heavy-second : openRefusal (twoVans 1001) ≡ 3
   -- what the sheet says
+  pub van : vanOf paper 0 ≡ record { capacity = 2; limit = 60 }
+  pub second-van : vanOf (twoVans 1) 1 ≡ record { capacity = 1; limit = 50 }
   pub job : jobIn paper 0 ≡ Transfer 1 2 2
   pub latest : dayOf paper .latest 2 ≡ 25
   pub seconds : dayOf paper .seconds 3 1 ≡ 20
+  pub section1 : sectionOf (twoVans 1) 1 ≡ 2 ▸ 60 ▸ 1 ▸ 50 ▸ []
   pub section3 : sectionOf paper 3 ≡ 3 ▸ 1 ▸ 2 ▸ 2 ▸ []
   pub section7 : sectionOf paper 7 ≡ []
   pub refused3 : sectionOf (sheetWith 1001 60 25 100) 3 ≡ []
@@ -65,9 +79,18 @@ computed = record {
   short-next = refl;
   then-values = refl;
   both = refl;
+  no-van = refl;
+  half-a-van = refl;
+  eight-vans = refl;
+  nine-vans = refl;
+  two-vans = refl;
+  heavy-second = refl;
+  van = refl;
+  second-van = refl;
   job = refl;
   latest = refl;
   seconds = refl;
+  section1 = refl;
   section3 = refl;
   section7 = refl;
   refused3 = refl;

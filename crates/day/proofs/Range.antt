@@ -11,8 +11,8 @@ use Rattle.laws.proofs.Logic.{and-true}
 use Rattle.laws.proofs.Below.{below-at}
 use Rattle.laws.specs.Basic.{allBelow}
 use Rattle.laws.proofs.Table.{length-tab}
-use Rattle.sheet.specs.Word.{wordAt, nodeAtOk, entryOk}
-use Rattle.sheet.specs.Section.{nOf, mOf, nodesAt}
+use Rattle.sheet.specs.Word.{wordAt, limitsAtOk, nodeAtOk, entryOk}
+use Rattle.sheet.specs.Section.{vansAt, vansOf, nOf, mOf, nodesAt}
 use Rattle.sheet.specs.Place.{Fine, Laid}
 use Rattle.sheet.specs.declared.Layout.{Layout}
 use Rattle.rules.specs.Day.{Day}
@@ -21,12 +21,14 @@ use Rattle.day.specs.Row.{Table}
 use Rattle.day.proofs.RowLaws.{row-low, entry-low}
 use Rattle.day.specs.Tell.{vanOf, nodeAt, dayOf, Told, cell, jobIn}
 
-pub record Ranges (v : Van) (d : Day) : Type 0 where
+pub record Limits (v : Van) : Type 0 where
+  pub capacity : v .capacity ≤ 1000
+  pub limit : v .limit ≤ 1000000
+
+pub record Ranges (d : Day) : Type 0 where
   pub n-low : 2 ≤ d .n
   pub n-high : d .n ≤ 64
   pub jobs : length (d .jobs) ≤ 155
-  pub capacity : v .capacity ≤ 1000
-  pub limit : v .limit ≤ 1000000
   pub earliest : (x : ℕ) → x < d .n → d .earliest x ≤ d .latest x
   pub latest : (x : ℕ) → x < d .n → d .latest x ≤ 1000000
   pub service : (x : ℕ) → x < d .n → d .service x ≤ 1000000
@@ -34,6 +36,12 @@ pub record Ranges (v : Van) (d : Day) : Type 0 where
   pub metres : (i j : ℕ) → i < d .n → j < d .n → d .metres i j ≤ 1000000
 
 module _ (s : List ℕ) (f : Fine s) where
+  pub van-limits : (i : ℕ) → i < vansOf s → Limits (vanOf s i)
+  van-limits i h =
+      let v = vanOf s i in
+      let l = and-true (leb (v .capacity) 1000) (leb (v .limit) 1000000) (below-at (vansOf s) i (limitsAtOk s (vansAt + 1)) (f .limits) h) in
+      record { capacity = leb-true _ _ (l .0); limit = leb-true _ _ (l .1) }
+
   -- the three words of a node
   record NodeFine (x : ℕ) : Type 0 where
     pub earliest : wordAt s (nodeAt s x) ≤ wordAt s (nodeAt s x + 1)
@@ -51,21 +59,17 @@ module _ (s : List ℕ) (f : Fine s) where
   unfolding cell
   table-fine from i j e h k = entry-low s (from + i * nOf s) (nOf s) j (row-low s from (nOf s) i e h) k
 
-  pub ranges : Ranges (vanOf s) (dayOf s)
-  ranges =
-      let l = and-true (leb (vanOf s .capacity) 1000) (leb (vanOf s .limit) 1000000) (f .limits) in
-      record {
-        n-low = f .n-low;
-        n-high = f .n-high;
-        jobs = rw (length-tab (mOf s) (jobIn s)) (f .m-high);
-        capacity = leb-true _ _ (l .0);
-        limit = leb-true _ _ (l .1);
-        earliest = λ x h. node-fine x h .earliest;
-        latest = λ x h. node-fine x h .latest;
-        service = λ x h. node-fine x h .service;
-        seconds = λ i j h k. table-fine _ i j (f .seconds) h k;
-        metres = λ i j h k. table-fine _ i j (f .metres) h k;
-      }
+  pub ranges : Ranges (dayOf s)
+  ranges = record {
+    n-low = f .n-low;
+    n-high = f .n-high;
+    jobs = rw (length-tab (mOf s) (jobIn s)) (f .m-high);
+    earliest = λ x h. node-fine x h .earliest;
+    latest = λ x h. node-fine x h .latest;
+    service = λ x h. node-fine x h .service;
+    seconds = λ i j h k. table-fine _ i j (f .seconds) h k;
+    metres = λ i j h k. table-fine _ i j (f .metres) h k;
+  }
 
 -- both tables lie in the sheet, and each entry is in range
 pub seconds-table : {s : List ℕ} {l : Layout} → Laid s l → Table s (l .seconds) (l .nodes)

@@ -19,9 +19,13 @@ tableWith back r = 16 ▸ 0 ▸ 10 ▸ 20 ▸ 30 ▸ 10 ▸ 0 ▸ 10 ▸ 20 ▸ 
 abbrev pub stepsWith : ℕ → List ℕ
 stepsWith count = count ▸ 5 ▸ 0 ▸ 0 ▸ 6 ▸ 0 ▸ 0 ▸ 1 ▸ 0 ▸ 2 ▸ 5 ▸ 0 ▸ 0 ▸ 1 ▸ 2 ▸ 1 ▸ 1 ▸ 0 ▸ 1 ▸ 5 ▸ 0 ▸ 0 ▸ 7 ▸ 0 ▸ 0 ▸ []
 
--- the sheet with its limits, the latest of nodes 2 and 3, and what stands behind the nodes
+-- section 2: the four nodes, with the latest of nodes 2 and 3
+abbrev pub nodesWith : ℕ → ℕ → List ℕ → List ℕ
+nodesWith latest2 latest3 r = 4 ▸ 0 ▸ 0 ▸ 0 ▸ 0 ▸ 100 ▸ 5 ▸ 0 ▸ latest2 ▸ 5 ▸ 0 ▸ latest3 ▸ 0 ▸ r
+
+-- the sheet with its van's limits, the latest of nodes 2 and 3, and what stands behind the nodes
 abbrev pub sheetOf : ℕ → ℕ → ℕ → ℕ → List ℕ → List ℕ
-sheetOf capacity limit latest2 latest3 r = 2 ▸ capacity ▸ limit ▸ 4 ▸ 0 ▸ 0 ▸ 0 ▸ 0 ▸ 100 ▸ 5 ▸ 0 ▸ latest2 ▸ 5 ▸ 0 ▸ latest3 ▸ 0 ▸ r
+sheetOf capacity limit latest2 latest3 r = 2 ▸ capacity ▸ limit ▸ nodesWith latest2 latest3 r
 
 -- the numbers that P1 to P12 alter: capacity, metre limit, latest of node 2, latest of node 3. The paper's are 2, 60, 25, 100
 abbrev pub sheetWith : ℕ → ℕ → ℕ → ℕ → List ℕ

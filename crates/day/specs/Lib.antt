@@ -1,4 +1,4 @@
--- What a sheet says. Tell: its jobs, its tables, the day and the van of the rules. Refuse: two jobs that are one too many for a node, what a call and
+-- What a sheet says. Tell: its jobs, its tables, the day and the vans of the rules. Refuse: two jobs that are one too many for a node, what a call and
 -- what opening checks. Section: the section reader. Example: the sheet of document 01.
 -- For contracts: Seen (one pass that finds two jobs that clash), Row (one row of a table held as numbers).
 pub mod Tell

@@ -1,4 +1,4 @@
--- What the bytes of a sheet tell: its jobs, by cases; its tables, "row by row"; the day and the van of the rules; its steps.
+-- What the bytes of a sheet tell: its jobs, by cases; its tables, "row by row"; the day and the vans of the rules; its steps.
 use Prim.Native.Nat.{ℕ, _+_, _*_, _≤_}
 use mathlib.Core.Path.{_≡_}
 use mathlib.Core.List.{List, [], _∷_}
@@ -7,6 +7,7 @@ use lib.Dec.{leb, eqb}
 use Rattle.laws.specs.Basic.{tab}
 use Rattle.sheet.specs.Word.{size, wordAt}
 use Rattle.sheet.specs.Section.{nOf, mOf, vansAt, nodesAt, stepsAt, secondsAt, metresAt, jobsAt}
+use Rattle.rules.specs.Numbers.{stepSaid}
 use Rattle.rules.specs.Day.{Day, isInner}
 use Rattle.rules.specs.declared.Van.{Van}
 use Rattle.rules.specs.declared.Step.{Step}
@@ -58,9 +59,13 @@ secondsOf s = cell s (secondsAt s + 1) (nOf s)
 abbrev pub metresOf : List ℕ → ℕ → ℕ → ℕ
 metresOf s = cell s (metresAt s + 1) (nOf s)
 
--- "limits: capacity, metre limit"
-abbrev pub vanOf : List ℕ → Van
-vanOf s = record { capacity = wordAt s (vansAt + 1); limit = wordAt s (vansAt + 2) }
+-- the first word of the i-th van
+abbrev pub vanAt : ℕ → ℕ
+vanAt i = vansAt + 1 + size.van * i
+
+-- the i-th van: "capacity, metre limit", "pair by pair"
+abbrev pub vanOf : List ℕ → ℕ → Van
+vanOf s i = record { capacity = wordAt s (vanAt i); limit = wordAt s (vanAt i + 1) }
 
 -- the first word of the x-th node
 abbrev pub nodeAt : List ℕ → ℕ → ℕ
@@ -84,7 +89,7 @@ stepWord s i k = wordAt s (stepsAt s + 1 + size.step * i + k)
 
 -- the i-th step
 abbrev pub stepIn : List ℕ → ℕ → Step
-stepIn s i = record { kind = stepWord s i 0; first = stepWord s i 1; second = stepWord s i 2 }
+stepIn s i = stepSaid (stepWord s i 0) (stepWord s i 1) (stepWord s i 2)
 
 -- what a reader ensures: its answer is the value v, which is at most hi
 pub record Told (v hi r : ℕ) : Type 0 where

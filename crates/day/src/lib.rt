@@ -46,13 +46,13 @@ pub struct Span {
 
 // The words of a section.
 fn span_of(l: Layout, number: usize) -> Span
-    requires { ⌜ (l .nodes ≤ 64) × (l .jobs ≤ 155) × (l .steps ≤ 2000) ⌝ }
+    requires { ⌜ (l .vans ≤ 8) × (l .nodes ≤ 64) × (l .jobs ≤ 155) × (l .steps ≤ 2000) ⌝ }
     ensures { λ r. ⌜ SpanIn l number r ⌝ }
 {
     match number {
         1 => Span {
             from: l.van,
-            count: Layout::VAN,
+            count: Layout::VAN * l.vans,
         },
         2 => Span {
             from: l.node,

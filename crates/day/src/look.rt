@@ -10,12 +10,12 @@ use rules::Van;
 use sheet::Layout;
 use sheet::word;
 
-// The van of the sheet.
-pub fn van(s: &[u8], l: Layout) -> Van
-    requires { ⌜ Laid (now s) l ⌝ }
-    ensures { λ r. ⌜ (r ≡ vanOf (now (s .entry))) × (r .capacity ≤ 1000) × (r .limit ≤ 1000000) ⌝ }
+// The i-th van of the sheet.
+pub fn van(s: &[u8], l: Layout, i: usize) -> Van
+    requires { ⌜ Laid (now s) l × (i < l .vans) ⌝ }
+    ensures { λ r. ⌜ (r ≡ vanOf (now (s .entry)) i) × (r .capacity ≤ 1000) × (r .limit ≤ 1000000) ⌝ }
 {
-    let from = l.van;
+    let from = l.van + Layout::VAN * i;
     Van {
         capacity: word(s, from) as usize,
         limit: word(s, from + 1) as usize,
@@ -64,14 +64,10 @@ pub fn step(s: &[u8], l: Layout, i: usize) -> Step
     requires { ⌜ Laid (now s) l × (i < l .steps) ⌝ }
     ensures { λ r. ⌜ r ≡ stepIn (now (s .entry)) i ⌝ }
 {
-    let kind = step_word(s, l, i, 0);
+    let word = step_word(s, l, i, 0);
     let first = step_word(s, l, i, 1);
     let second = step_word(s, l, i, 2);
-    Step {
-        kind: kind,
-        first: first,
-        second: second,
-    }
+    Step::said(word, first, second)
 }
 
 // Row i, column j of a table of n rows whose entries begin at word `from`.

@@ -1,3 +1,6 @@
--- Reach: what holds of a state that steps have led to. Lines: the lines of a listing, step by step.
+-- VanLaws: what a line tells of the vans, van by van. RouteLines: the route lines, van by van. Reach: what holds of a fleet that steps have led to.
+-- LineLaws: the lines of a listing, step by step.
+pub mod VanLaws
+pub mod RouteLines
 pub mod Reach
-pub mod Lines
+pub mod LineLaws

@@ -1,108 +1,217 @@
--- What holds of a state that steps have led to from the fresh one, where a step leads on, and what a line tells of it.
-use Prim.Native.Nat.{ℕ, _≤_}
-use mathlib.Core.Bool.{true}
+-- What holds of a fleet that steps have led to from the fresh one, where a step leads on, and what a line tells of it.
+use Prim.Native.Nat.{ℕ, _+_, _-_, _<_, _≤_}
+use mathlib.Core.Bool.{Bool, true, cond, _&&_}
 use mathlib.Core.List.{List}
-use mathlib.Core.Path.{_≡_, sym, ap, _∙_, subst}
+use mathlib.Core.Path.{_≡_, refl, sym, ap, subst, _∙_}
+use mathlib.Core.Logic.{⊎-elim}
 use native.Mathlib.Omega.{arith}
+use native.Mathlib.Nat.{mul-le-mul}
+use lib.ListN.{length, getD}
+use lib.Count.{ones, ones-le}
 use lib.Dec.{eqb}
 use borrow.Author.Tests.{eqb-true, eqb-false}
 use Rattle.laws.proofs.Logic.{decided}
-use Rattle.laws.specs.Basic.{orElse}
-use Rattle.sheet.specs.Section.{nOf}
+use Rattle.laws.proofs.Sum.{sum-same, sum-most}
+use Rattle.laws.proofs.Below.{below-same}
+use Rattle.laws.specs.Basic.{orElse, sumBelow, allBelow}
+use Rattle.rules.specs.Numbers.{refusal, mostVans, stepSaid}
+use Rattle.rules.specs.Verdict.{alive}
+use Rattle.sheet.specs.Section.{nOf, vansOf}
 use Rattle.sheet.specs.Place.{Laid}
 use Rattle.sheet.specs.declared.Layout.{Layout}
 use Rattle.day.specs.Refuse.{callRefusal}
 use Rattle.day.proofs.RefuseLaws.{call-fine}
 use Rattle.day.specs.Tell.{dayOf, vanOf}
-use Rattle.rules.specs.Verdict.{alive}
-use Rattle.board.specs.Board.{Board, boardOf, placesOf}
-use Rattle.board.specs.Form.{inForm, formWith}
-use Rattle.board.proofs.FormLaws.{in-form-of}
-use Rattle.board.specs.Held.{Held}
+use Rattle.board.specs.Board.{Board, boardOf, placesOf, setOf}
+use Rattle.board.specs.Held.{Held, Words, Sound}
+use Rattle.board.specs.Fresh.{noFigures}
 use Rattle.board.specs.declared.State.{State}
-use Rattle.trail.specs.Trail.{roomOf}
-use Rattle.trail.specs.Steps.{Ran, acted}
-use Rattle.trail.proofs.Bound.{reached}
+use Rattle.board.specs.declared.Figures.{Figures}
+use Rattle.trail.proofs.Bound.{records-bound}
 use Rattle.trail.proofs.Still.{move-still}
-use Rattle.along.specs.Ready.{Ready}
 use Rattle.stands.specs.Stands.{planOf}
-use Rattle.planner.specs.Face.{freshOf, askRefusal, countOf, judgeOf, stepOf}
+use Rattle.listing.specs.Text.{stepLine}
+use Rattle.fleet.specs.Fleet.{stateIn, boardIn, trailIn, HeldAll}
+use Rattle.fleet.specs.Form.{inFormAll, formWithAll}
+use Rattle.fleet.specs.Rows.{rowState, rowBoard, fleetWith, Rows, ReadyAll}
+use Rattle.fleet.specs.Sums.{placesAll, recordsAll, allServed}
+use Rattle.fleet.specs.declared.Fleet.{Fleet}
+use Rattle.fleet.proofs.FleetLaws.{state-of}
+use Rattle.fleet.proofs.PlanLaws.{alive-all}
+use Rattle.turns.specs.Together.{RanAll, actedAll}
+use Rattle.turns.specs.Act.{actAll}
+use Rattle.turns.specs.Known.{KnownRows, EightRows}
+use Rattle.planner.specs.Face.{freshOf, askRefusal, stepOf, countOf, judgeOf}
 use Rattle.planner.specs.Promises.{Took, none, then}
-use Rattle.planner.proofs.Answers.{unchanged, moved}
-use Rattle.planner.proofs.Courses.{steps-runs}
-use Rattle.planner.proofs.Kept.{form-made, step-acts}
-use Rattle.dock.specs.Listing.{toldOf, Reached}
-use Rattle.van.specs.Act.{planIn, actOf}
-use Rattle.van.specs.Known.{Known}
-use Rattle.van.proofs.Ready.{ready}
-
--- what a line tells of a state in form hangs on its board
-pub told-is : (sheet : List ℕ) (s : State) → callRefusal sheet ≡ 0 → inForm (nOf sheet) s ≡ true
-    → toldOf sheet s ≡ record { places = placesOf (s .sets) 64; alive = alive (vanOf sheet) (dayOf sheet) (planIn s) }
-unfolding countOf judgeOf askRefusal orElse
-told-is sheet s z f = rw (z, f)
+use Rattle.planner.proofs.Answers.{unchanged, call-made, call-yes, van-goes}
+use Rattle.planner.proofs.Courses.{reached-all, reached-held, form-van, sound-van, words-van, van-runs}
+use Rattle.planner.proofs.Never.{never-misfit}
+use Rattle.fleet.proofs.FormLaws.{form-with-all}
+use Rattle.planner.proofs.RowFacts.{rows-ready}
+use Rattle.dock.specs.declared.Told.{Told}
+use Rattle.dock.specs.declared.telling.Sums.{Sums}
+use Rattle.dock.specs.Listing.{toldIn, noTold, ToldAll, Reached, lineOf}
 
 -- where a listing begins
-pub begun : {sheet : List ℕ} {s : State} (t : List ℕ) → s ≡ freshOf sheet → Reached sheet s t
-begun {sheet} t e = subst (λ (s : State). Reached sheet s t) (sym e) (record { first = t; steps = none })
+pub begun : {sheet : List ℕ} {f : Fleet} (t : List ℕ) → f ≡ freshOf sheet → Reached sheet f t
+begun {sheet} t e = subst (λ (f : Fleet). Reached sheet f t) (sym e) (record { first = t; steps = none })
 
-module _ {sheet : List ℕ} {s : State} {t : List ℕ} (z : callRefusal sheet ≡ 0) (p : Reached sheet s t) where
-  pub held : Held s
-  held = let f = call-fine sheet z in reached (nOf sheet) (f .n-low) (f .n-high) (p .first) s t (steps-runs sheet z (p .steps)) .held
+-- what a line tells of a van hangs on its board
+abbrev told-by : (sheet : List ℕ) (j : ℕ) → Board → Told
+told-by sheet j b = record { places = placesOf (b .sets) 64; alive = alive (vanOf sheet j) (dayOf sheet) (planOf b) }
 
-  pub formed : inForm (nOf sheet) s ≡ true
-  formed =
-      let f = call-fine sheet z in
-      let r = reached (nOf sheet) (f .n-low) (f .n-high) (p .first) s t (steps-runs sheet z (p .steps)) in
-      in-form-of (nOf sheet) s (f .n-high) (r .held .wide) (r .form)
+-- the open places of a board of words
+places-few : (b : Board) → Words b → placesOf (b .sets) 64 ≤ 4096
+unfolding placesOf setOf
+places-few b w = sum-most 64 64 (λ y. ones (getD (b .sets) y 0)) (λ y l. ones-le 64 _ (w .fits y l))
 
-  pub roomy : formWith (nOf sheet) s (roomOf t) ≡ true
-  roomy =
-      let f = call-fine sheet z in
-      form-made (nOf sheet) s (roomOf t) formed (reached (nOf sheet) (f .n-low) (f .n-high) (p .first) s t (steps-runs sheet z (p .steps)) .room)
+module _ {sheet : List ℕ} {f : Fleet} {t : List ℕ} (z : callRefusal sheet ≡ 0) (p : Reached sheet f t) where
+  pub held : HeldAll f
+  held = reached-held sheet (p .first) z (p .steps)
 
-  pub few : s .stops ≤ 64
-  few =
-      let f = call-fine sheet z in
-      omega (arith, f .n-high, reached (nOf sheet) (f .n-low) (f .n-high) (p .first) s t (steps-runs sheet z (p .steps)) .form .board .route .most)
+  pub roomy : formWithAll (nOf sheet) (vansOf sheet) f t ≡ true
+  roomy = reached-all sheet (p .first) z (p .steps) .form
 
-  -- the step is not refused before it begins
-  pub begins : (kind a b : ℕ) → stepOf sheet s t kind a b ≡ actOf (vanOf sheet) (dayOf sheet) s t kind a b
-  begins kind a b = step-acts sheet s t kind a b z roomy
+  pub formed : inFormAll (nOf sheet) (vansOf sheet) f ≡ true
+  formed = form-with-all (nOf sheet) (vansOf sheet) f t roomy .0
 
-  -- what the steps ask of such a state
-  pub known : {at : Layout} → Laid sheet at → Known sheet at s t
-  known l = record { clear = z; laid = l; form = roomy; held = held }
+  pub few-stops : (j : ℕ) → j < vansOf sheet → stateIn f j .stops ≤ 64
+  few-stops j l = omega (arith, call-fine sheet z .n-high, form-van sheet f t held z roomy j l .board .route .most)
 
-  module _ (kind a b k r : ℕ) (s′ : State) (t′ : List ℕ) (e : stepOf sheet s t kind a b ≡ acted k r s′ t′) where
-    -- refused, a step leaves the state and the trail
-    stayed : (k ≡ 0 → ⊥) → acted k r s′ t′ ≡ acted k 0 s t
+  pub few-places : (j : ℕ) → j < vansOf sheet → placesOf (stateIn f j .sets) 64 ≤ 4096
+  few-places j l = places-few (boardIn f j) (words-van sheet f t held z roomy j l)
+
+  -- at most (n + 1)(n − 2) records a van
+  pub few-records : (j : ℕ) → j < vansOf sheet → stateIn f j .records ≤ 4096
+  few-records j l =
+      let n = nOf sheet in
+      let fine = call-fine sheet z in
+      let r = records-bound n (fine .n-low) (fine .n-high) (trailIn (vansOf sheet) (p .first) j) (stateIn f j) (trailIn (vansOf sheet) t j) (van-runs sheet (p .first) z (p .steps) j l) in
+      let a : n + 1 ≤ 65 = omega (arith, fine .n-high) in
+      let b : n - 2 ≤ 62 = omega (arith, fine .n-high) in
+      omega (arith, r, mul-le-mul a b)
+
+  -- the step is not refused before it begins, and no undoing is refused
+  pub begins : (word a b : ℕ) → stepOf sheet f t word a b ≡ actAll (vanOf sheet) (dayOf sheet) (vansOf sheet) f t (stepSaid word a b)
+  begins word a b = call-yes sheet f t word a b (call-made sheet f t z roomy)
+
+  pub fits : (word a b : ℕ) → stepOf sheet f t word a b .0 .answer ≡ refusal.MISFIT → ⊥
+  fits word a b = never-misfit sheet f (p .first) t word a b z (p .steps)
+
+  module _ (word a b : ℕ) {k r : ℕ} {f′ : Fleet} {t′ : List ℕ} (e : stepOf sheet f t word a b ≡ actedAll k r f′ t′) where
+    -- refused, a step leaves the fleet and the trail
+    stayed : (k ≡ 0 → ⊥) → actedAll k r f′ t′ ≡ actedAll k 0 f t
     stayed y =
-        let q = ap (λ (o : Ran). o .0 .answer) e in
-        sym e ∙ unchanged sheet s t kind a b (λ n. y (sym q ∙ n)) ∙ ap (λ (i : ℕ). acted i 0 s t) q
+        let q = ap (λ (o : RanAll). o .0 .answer) e in
+        sym e ∙ unchanged sheet f t word a b (λ n. y (sym q ∙ n)) ∙ ap (λ (i : ℕ). actedAll i 0 f t) q
 
-    -- accepted or refused, it leads to such a state
-    pub goes-on : Reached sheet s′ t′
+    took : k ≡ 0 → Took sheet f t word a b r f′ t′
+    took y = e ∙ ap (λ (i : ℕ). actedAll i r f′ t′) y
+
+    -- accepted or refused, it leads to such a fleet
+    pub goes-on : Reached sheet f′ t′
     goes-on =
         decided (eqb k 0)
-        (λ y. record { first = p .first; steps = then kind a b r (p .steps) (e ∙ ap (λ (i : ℕ). acted i r s′ t′) (eqb-true k 0 y)) (omega arith) })
-        (λ y. subst (λ (o : Ran). Reached sheet (o .0 .state) (o .1)) (sym (stayed (eqb-false k 0 y))) p)
+        (λ y. record { first = p .first; steps = then word a b r (p .steps) (took (eqb-true k 0 y)) (omega arith) })
+        (λ y. subst (λ (o : RanAll). Reached sheet (o .0 .fleet) (o .1)) (sym (stayed (eqb-false k 0 y))) p)
 
-    -- and where the records are those of before, so is the board
-    pub same-board : s′ .records ≡ s .records → boardOf s′ ≡ boardOf s
-    same-board h =
+    -- and where a van's records are those of before, so is its board
+    same-board : (j : ℕ) → j < vansOf sheet → stateIn f′ j .records ≡ stateIn f j .records → boardIn f′ j ≡ boardIn f j
+    same-board j l h =
         decided (eqb k 0)
-        (λ y. let took : Took sheet s t kind a b r s′ t′ = e ∙ ap (λ (i : ℕ). acted i r s′ t′) (eqb-true k 0 y) in
-        move-still s s′ t t′ h (nOf sheet) (held .wide .sets) (moved sheet s t kind a b held took))
-        (λ y. ap (λ (o : Ran). boardOf (o .0 .state)) (stayed (eqb-false k 0 y)))
+        (λ y. ⊎-elim
+        (λ m. move-still (stateIn f j) (stateIn f′ j) (trailIn (vansOf sheet) t j) (trailIn (vansOf sheet) t′ j) h (nOf sheet) (held .each j (omega (arith, l, call-fine sheet z .vans-high)) .wide .sets) m)
+        (λ s. ap boardOf (s .0))
+        (van-goes sheet f t word a b held (took (eqb-true k 0 y)) j l))
+        (λ y. ap (λ (o : RanAll). boardIn (o .0 .fleet) j) (stayed (eqb-false k 0 y)))
 
--- so the line tells of it what it told before
-pub told-again : (sheet : List ℕ) (s s′ : State) → callRefusal sheet ≡ 0 → inForm (nOf sheet) s ≡ true → inForm (nOf sheet) s′ ≡ true → boardOf s′ ≡ boardOf s
-    → toldOf sheet s ≡ toldOf sheet s′
-told-again sheet s s′ z f g e =
-    told-is sheet s z f ∙ ap (λ (b : Board). record { places = placesOf (b .sets) 64; alive = alive (vanOf sheet) (dayOf sheet) (planOf b) }) (sym e) ∙ sym (told-is sheet s′ z g)
+    -- so the line tells of it what it told before
+    pub told-again : (j : ℕ) → j < vansOf sheet → stateIn f′ j .records ≡ stateIn f j .records → toldIn sheet f j ≡ toldIn sheet f′ j
+    told-again j l h = ap (told-by sheet j) (sym (same-board j l h))
 
--- what the verdict and the line ask of such a state
-pub readied : {sheet : List ℕ} {at : Layout} {s : State} {t : List ℕ} → callRefusal sheet ≡ 0 → Laid sheet at → Reached sheet s t
-    → Ready sheet at (s .route) (s .stops) (s .sets) (s .marks)
-readied {s = s} z l p = ready s z l (held z p) (formed z p)
+  -- ---- the line
+
+  -- the open places in all are those of the vans
+  places-all : {told : List Told} → ToldAll sheet f told → sumBelow (vansOf sheet) (λ j. getD told j noTold .places) ≡ countOf sheet f .places
+  unfolding countOf askRefusal orElse placesAll
+  places-all w = rw (z, formed) (sum-same (vansOf sheet) _ _ (λ j l. ap (λ (o : Told). o .places) (w .each j l)))
+
+  -- the fleet is alive if each van is and every ward that must go somewhere is served
+  alive-all-is : {told : List Told} → ToldAll sheet f told → allBelow (vansOf sheet) (λ j. getD told j noTold .alive) && allServed (vansOf sheet) f ≡ judgeOf sheet f .alive
+  unfolding judgeOf askRefusal orElse
+  alive-all-is w =
+      rw (z, formed)
+      (ap (λ (b : Bool). b && allServed (vansOf sheet) f) (below-same (vansOf sheet) _ _ (λ j l. ap (λ (o : Told). o .alive) (w .each j l)))
+      ∙ sym (alive-all (dayOf sheet) (vansOf sheet) f (call-fine sheet z .vans-low) (sound-van sheet f t held z roomy) (words-van sheet f t held z roomy) (vanOf sheet)))
+
+  -- what is told of a van stays small
+  pub told-few : {told : List Told} → ToldAll sheet f told → (j : ℕ) → j < vansOf sheet → getD told j noTold .places ≤ 4096
+  told-few w j l = omega (arith, ap (λ (o : Told). o .places) (w .each j l), few-places j l)
+
+  pub line-is : {told : List Told} {v : ℕ} {sums : Sums} {all : Bool} (i k r : ℕ) (records : ℕ → ℕ) → v ≡ vansOf sheet → ToldAll sheet f told
+      → sums ≡ record { places = sumBelow v (λ j. getD told j noTold .places); records = sumBelow v records; alive = allBelow v (λ j. getD told j noTold .alive) }
+      → all ≡ allServed v f → ((j : ℕ) → j < vansOf sheet → records j ≡ stateIn f j .records)
+      → stepLine (i + 1) k (sums .places) (sums .records) r (cond (sums .alive && all) 1 0) ≡ lineOf sheet i (record { answer = k; rounds = r; fleet = f })
+  unfolding lineOf recordsAll
+  line-is {told} {v} i k r records e w s served each =
+      rw (s, served, e, sym (places-all w), sym (alive-all-is w), sum-same (vansOf sheet) records (λ j. stateIn f j .records) each) refl
+
+-- ---- a fleet in rows
+
+module _ {sheet : List ℕ} {at : Layout} {t : List ℕ} (z : callRefusal sheet ≡ 0) (l : Laid sheet at) (routes sets levels : List (List ℕ)) (figures : List Figures)
+    (p : Reached sheet (fleetWith routes sets levels figures) t) where
+  -- what the verdict and the line ask of its rows
+  pub readied : ReadyAll sheet at routes sets figures
+  readied = rows-ready z l routes sets levels figures (held z p) (formed z p)
+
+  -- what the steps ask of them
+  pub known : Rows routes × Rows sets × Rows levels → length figures ≡ mostVans → KnownRows sheet at routes sets levels figures t
+  known r e = record { clear = z; laid = l; form = roomy z p; held = held z p; rows = r; eight = e }
+
+  row : (j : ℕ) → j < vansOf sheet → stateIn (fleetWith routes sets levels figures) j ≡ rowState routes sets levels figures j
+  row j h = state-of (rowState routes sets levels figures) j (omega (arith, h, l .fine .vans-high))
+
+  pub row-stops : (j : ℕ) → j < vansOf sheet → getD figures j noFigures .stops ≤ 64
+  row-stops j h = omega (arith, ap (λ (s : State). s .stops) (row j h), few-stops z p j h)
+
+  pub row-records : (j : ℕ) → j < vansOf sheet → getD figures j noFigures .records ≡ stateIn (fleetWith routes sets levels figures) j .records
+  row-records j h = ap (λ (s : State). s .records) (sym (row j h))
+
+  -- what the sums ask of what is told and of the records
+  pub summing : {told : List Told} → ToldAll sheet (fleetWith routes sets levels figures) told
+      → (at .vans ≤ mostVans) × ((j : ℕ) → j < at .vans → (getD told j noTold .places ≤ 4096) × (getD figures j noFigures .records ≤ 4096))
+  summing w = (
+    omega (arith, l .vans, l .fine .vans-high),
+    λ j h. let g : j < vansOf sheet = omega (arith, h, l .vans) in (told-few z p w j g, omega (arith, row-records j g, few-records z p j g)),
+  )
+
+  -- what is asked of the boards for the wards that must go somewhere
+  pub serving : (1 ≤ at .vans) × (at .vans ≤ mostVans) × (2 ≤ at .nodes) × ((j : ℕ) → j < at .vans → Sound (at .nodes) (rowBoard routes sets figures j))
+  serving = (
+    omega (arith, l .vans, l .fine .vans-low),
+    omega (arith, l .vans, l .fine .vans-high),
+    omega (arith, l .nodes, l .fine .n-low),
+    λ j h. subst (λ (n : ℕ). Sound n (rowBoard routes sets figures j)) (sym (l .nodes)) (readied .each j (omega (arith, h, l .vans))),
+  )
+
+  -- a step more: a van whose records are those of before is told as before
+  pub told-on : {told : List Told} (word a b : ℕ) {k r : ℕ} {t′ : List ℕ} (routes′ sets′ levels′ : List (List ℕ)) (figures′ : List Figures)
+      → stepOf sheet (fleetWith routes sets levels figures) t word a b ≡ actedAll k r (fleetWith routes′ sets′ levels′ figures′) t′
+      → ToldAll sheet (fleetWith routes sets levels figures) told
+      → (j : ℕ) → j < vansOf sheet → getD figures′ j noFigures .records ≡ getD figures j noFigures .records
+      → getD told j noTold ≡ toldIn sheet (fleetWith routes′ sets′ levels′ figures′) j
+  told-on word a b routes′ sets′ levels′ figures′ e w j h same =
+      w .each j h
+      ∙ told-again z p word a b e j h
+      (ap (λ (s : State). s .records) (state-of (rowState routes′ sets′ levels′ figures′) j (omega (arith, h, l .fine .vans-high))) ∙ same ∙ row-records j h)
+
+-- eight rows that have a held fleet are rows of 64
+pub rows-held : (routes sets levels : List (List ℕ)) (figures : List Figures) → HeldAll (fleetWith routes sets levels figures) → EightRows routes sets levels → Rows routes × Rows sets × Rows levels
+rows-held routes sets levels figures h e = (
+  record { eight = e .0; wide = λ j l. at j l .wide .route },
+  record { eight = e .1; wide = λ j l. at j l .wide .sets },
+  record { eight = e .2; wide = λ j l. at j l .levels },
+)
+  where
+    at : (j : ℕ) → j < mostVans → Held (rowState routes sets levels figures j)
+    at j l = subst Held (state-of (rowState routes sets levels figures) j l) (h .each j l)

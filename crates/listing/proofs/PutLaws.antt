@@ -1,4 +1,4 @@
--- One text put after another.
+-- One text put after another, and the room it takes.
 use Prim.Native.Nat.{ℕ, suc, _+_, _≤_, _<_}
 use mathlib.Core.Path.{_≡_, refl, sym, ap, _∙_}
 use mathlib.Core.List.{List, [], _∷_, _++_}
@@ -42,6 +42,24 @@ put-whole b c text at i next h p = rw take-all at p
 
 pub put-length : {b c : List ℕ} {at i : ℕ} {t : List ℕ} → Put b at t i c → length c ≡ length b
 put-length {b} {c} {at} {i} {t} p = ap length (p .bytes) ∙ length-sets b at t
+
+-- what was put takes at most k bytes of the buffer
+pub record Takes (before : List ℕ) (at : ℕ) (k : ℕ) (next : ℕ) (after : List ℕ) : Type 0 where
+  pub ends : next ≤ at + k
+  pub same : length after ≡ length before
+
+pub takes-text : {b c : List ℕ} {at next : ℕ} {t : List ℕ} → Put b at t next c → Takes b at (length t) next c
+takes-text {t = t} p = record { ends = omega (arith, p .next-is); same = put-length p }
+
+pub takes-then : {b m c : List ℕ} {at i next k l : ℕ} → Takes b at k i m → Takes m i l next c → Takes b at (k + l) next c
+takes-then p q = record { ends = omega (arith, p .ends, q .ends); same = q .same ∙ p .same }
+
+-- and leaves room for l bytes more, or for one, where the buffer has room for all
+pub takes-room : {b c : List ℕ} {at next k : ℕ} (room l : ℕ) → at + room ≤ length b → Takes b at k next c → k + l ≤ room → next + l ≤ length c
+takes-room room l h p e = omega (arith, p .ends, p .same)
+
+pub takes-one : {b c : List ℕ} {at next k : ℕ} (room : ℕ) → at + room ≤ length b → Takes b at k next c → k < room → next < length c
+takes-one room h p e = omega (arith, p .ends, p .same)
 
 -- a text put at the beginning is what the buffer then begins with
 pub put-first : {b c : List ℕ} {next : ℕ} {t : List ℕ} → Put b 0 t next c → next ≤ length b → take next c ≡ t

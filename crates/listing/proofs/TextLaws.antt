@@ -1,4 +1,4 @@
--- The laws of the digits: one number's digits from those of a tenth of it, and how many there are.
+-- The laws of the digits: one number's digits from those of a tenth or a hundredth of it, and how many there are; fields and lines.
 use Prim.Native.Nat.{ℕ, zero, suc, _+_, _*_, _/_, _%_, _^_, _≤_, _<_}
 use Prim.Native.Char.{code}
 use mathlib.Core.Path.{_≡_, refl, sym, ap, _∙_}
@@ -13,7 +13,7 @@ use lib.Seq.{take-suc}
 use borrow.Author.Tests.{lt-ltb, le-ltb}
 use Rattle.listing.specs.Text.{digits, decimal, field, threeFields, stepLine, stopText, stopsText, routeLine, bytes}
 use Rattle.listing.specs.Put.{Put}
-use Rattle.listing.proofs.PutLaws.{put-then, put-length}
+use Rattle.listing.proofs.PutLaws.{put-then, put-length, Takes}
 
 -- room for one digit more changes nothing where the number has no more digits
 pub digits-room : (f v : ℕ) → v < 10 ^ suc f → digits (suc (suc f)) v ≡ digits (suc f) v
@@ -33,9 +33,9 @@ digits-few (suc f) v = go (ltb v 10) (digits-few f (v / 10))
     go false h = omega (arith, length-append (digits f (v / 10)) ((48 + v % 10) ∷ []))
 
 -- a number below ten
-pub decimal-one : (v : ℕ) → v < 10 → decimal v ≡ (48 + v % 10) ∷ []
+pub decimal-one : (v : ℕ) → v < 10 → decimal v ≡ (48 + v) ∷ []
 unfolding digits
-decimal-one v h = rw (lt-ltb v 10 h)
+decimal-one v h = let e : v % 10 ≡ v = omega arith in rw (lt-ltb v 10 h, e) refl
 
 decimal-next : (v : ℕ) → 10 ≤ v → decimal v ≡ digits 19 (v / 10) ++ ((48 + v % 10) ∷ [])
 unfolding digits
@@ -45,17 +45,43 @@ decimal-next v l = rw (le-ltb v 10 l)
 pub decimal-more : (v : ℕ) → v < 2 ^ 64 → 10 ≤ v → decimal v ≡ decimal (v / 10) ++ ((48 + v % 10) ∷ [])
 decimal-more v h l = decimal-next v l ∙ ap (λ (t : List ℕ). t ++ ((48 + v % 10) ∷ [])) (sym (digits-room 18 (v / 10) (omega arith)))
 
--- a tenth of a 64-bit number has at most 19 digits
-pub tenth-short : (v : ℕ) → v < 2 ^ 64 → length (decimal (v / 10)) ≤ 19
-tenth-short v h = omega (arith, ap length (digits-room 18 (v / 10) (omega arith)), digits-few 19 (v / 10))
+-- the two digits of a number below 100, the first of them 0 for a number below ten
+abbrev pair : ℕ → List ℕ
+pair v = (48 + v / 10) ∷ (48 + v % 10) ∷ []
 
--- a number put into a buffer: below ten one digit, otherwise a tenth of it and then the last digit
-pub put-one : {b c : List ℕ} {at next : ℕ} (v : ℕ) → v < 10 → Put b at ((48 + v % 10) ∷ []) next c → Put b at (decimal v) next c
+decimal-two : (v : ℕ) → v < 100 → 10 ≤ v → decimal v ≡ pair v
+decimal-two v h l = decimal-more v (omega arith) l ∙ ap (λ (t : List ℕ). t ++ ((48 + v % 10) ∷ [])) (decimal-one (v / 10) (omega arith))
+
+-- from 100 on: the digits of a hundredth, then the last two
+decimal-hundred : (v : ℕ) → v < 2 ^ 64 → 100 ≤ v → decimal v ≡ decimal (v / 100) ++ pair (v % 100)
+decimal-hundred v h l =
+    let tens : v / 10 / 10 ≡ v / 100 = omega arith in
+    let last : v % 100 % 10 ≡ v % 10 = omega arith in
+    let one : v % 100 / 10 ≡ v / 10 % 10 = omega arith in
+    decimal-more v h (omega arith)
+    ∙ ap (λ (t : List ℕ). t ++ ((48 + v % 10) ∷ [])) (decimal-more (v / 10) (omega arith) (omega arith))
+    ∙ append-assoc (decimal (v / 10 / 10)) ((48 + v / 10 % 10) ∷ []) ((48 + v % 10) ∷ [])
+    ∙ rw (tens, last, one) refl
+
+-- a hundredth of a 64-bit number has at most 18 digits
+pub hundredth-short : (v : ℕ) → v < 2 ^ 64 → length (decimal (v / 100)) ≤ 18
+hundredth-short v h =
+    omega (arith, ap length (digits-room 18 (v / 100) (omega arith)), ap length (digits-room 17 (v / 100) (omega arith)), digits-few 18 (v / 100))
+
+-- a number put into a buffer: one digit, two, or a hundredth of it and then the last two
+pub put-one : {b c : List ℕ} {at next : ℕ} (v : ℕ) → v < 10 → Put b at ((48 + v) ∷ []) next c → Put b at (decimal v) next c
 put-one v h p = rw (decimal-one v h) p
 
-pub put-more : {b m c : List ℕ} {at i next : ℕ} (v : ℕ) → v < 2 ^ 64 → 10 ≤ v
-    → Put b at (decimal (v / 10)) i m → Put m i ((48 + v % 10) ∷ []) next c → Put b at (decimal v) next c
-put-more v h l p q = rw (decimal-more v h l) (put-then p q)
+pub put-two : {b c : List ℕ} {at next : ℕ} (v : ℕ) → v < 100 → 10 ≤ v → Put b at (pair v) next c → Put b at (decimal v) next c
+put-two v h l p = rw (decimal-two v h l) p
+
+pub put-hundred : {b m c : List ℕ} {at i next : ℕ} (v : ℕ) → v < 2 ^ 64 → 100 ≤ v
+    → Put b at (decimal (v / 100)) i m → Put m i (pair (v % 100)) next c → Put b at (decimal v) next c
+put-hundred v h l p q = rw (decimal-hundred v h l) (put-then p q)
+
+-- a number takes at most 20 bytes
+pub takes-number : {b c : List ℕ} {at next : ℕ} (v : ℕ) → Put b at (decimal v) next c → Takes b at 20 next c
+takes-number v p = record { ends = omega (arith, p .next-is, digits-few 20 v); same = put-length p }
 
 field-few : (name : List ℕ) (v after : ℕ) → length (field name v after) ≤ length name + 22
 unfolding field
@@ -66,7 +92,24 @@ field-few name v after =
 pub field-takes : {b c : List ℕ} {at next : ℕ} (name : List ℕ) (v after : ℕ) → Put b at (field name v after) next c → (next ≤ at + length name + 22) × (length c ≡ length b)
 field-takes name v after p = (omega (arith, p .next-is, field-few name v after), put-length p)
 
--- and three of them
+-- the space before a field's name goes to the text between two numbers
+label-join : (x name d e : List ℕ) → (x ++ bytes " ") ++ (name ++ bytes " " ++ d ++ e) ≡ x ++ (bytes " " ++ name ++ bytes " ") ++ d ++ e
+label-join x name d e =
+    sym (append-assoc (x ++ bytes " ") (name ++ bytes " " ++ d) e)
+    ∙ ap (λ (t : List ℕ). t ++ e) (sym (append-assoc (x ++ bytes " ") (name ++ bytes " ") d) ∙ ap (λ (t : List ℕ). t ++ d) (append-assoc x (bytes " ") (name ++ bytes " ")))
+
+-- three fields as numbers and the texts between them
+pub put-fields : {b c : List ℕ} {at next : ℕ} (a₁ : List ℕ) (v : ℕ) (a₂ : List ℕ) (w : ℕ) (a₃ : List ℕ) (u after : ℕ)
+    → Put b at (a₁ ++ bytes " " ++ decimal v ++ (bytes " " ++ a₂ ++ bytes " ") ++ decimal w ++ (bytes " " ++ a₃ ++ bytes " ") ++ decimal u ++ (after ∷ [])) next c
+    → Put b at (threeFields a₁ v a₂ w a₃ u after) next c
+unfolding field threeFields
+put-fields {b} {c} {at} {next} a₁ v a₂ w a₃ u after p =
+    let first = a₁ ++ bytes " " ++ decimal v in
+    let second = first ++ (bytes " " ++ a₂ ++ bytes " ") ++ decimal w in
+    let e = ap (λ (t : List ℕ). t ++ (a₃ ++ bytes " " ++ decimal u ++ (after ∷ []))) (label-join first a₂ (decimal w) (bytes " ")) ∙ label-join second a₃ (decimal u) (after ∷ []) in
+    rw e p
+
+-- what three fields take of the buffer
 three-few : (a₁ : List ℕ) (v : ℕ) (a₂ : List ℕ) (w : ℕ) (a₃ : List ℕ) (u after : ℕ)
     → length (threeFields a₁ v a₂ w a₃ u after) ≤ length a₁ + length a₂ + length a₃ + 66
 unfolding threeFields

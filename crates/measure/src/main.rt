@@ -6,6 +6,7 @@ use board::State;
 use board::places::count;
 use dock::TEXT;
 use dock::TRAIL;
+use fleet::Fleet;
 use libc::STDIN_FILENO;
 use libc::STDOUT_FILENO;
 use listing::put_number;
@@ -32,65 +33,131 @@ fn weigh(out: &[u8], used: usize) -> u64
 
 // Operation 7: the listing, weighed.
 fn listing_of(sheet: &[u8], trail: &mut [u64], out: &mut [u8]) -> u64
-    requires { ⌜ length (now out) ≡ 401350 ⌝ }
+    requires { ⌜ length (now out) ≡ 410800 ⌝ }
 {
-    let used = dock::list(sheet, trail, out);
+    let used = dock::lines::list(sheet, trail, out);
     weigh(out, used)
 }
 
-// One step: the sum of what it gives.
-fn one_step(
-    sheet: &[u8],
-    state: State,
-    trail: &mut [u64],
-    kind: usize,
+// What a van has: its records and its open places.
+fn van_sum(one: State) -> u64 {
+    let places = count(&one.sets, Node::MOST);
+    wrapping_add_u64(one.records as u64, places as u64)
+}
+
+// A step that is measured.
+struct Task {
+    word: usize,
     first: usize,
     second: usize,
-) -> u64 {
-    let s = planner::step(sheet, state, trail, kind, first, second);
-    let a = wrapping_add_u64(s.answer as u64, s.rounds as u64);
-    let b = wrapping_add_u64(a, s.state.records as u64);
-    let places = count(&s.state.sets, Node::MOST);
-    wrapping_add_u64(b, places as u64)
+}
+
+// One step: the sum of what it gives, over v vans.
+fn one_step(sheet: &[u8], fleet: Fleet, v: usize, trail: &mut [u64], task: Task) -> u64 {
+    let s = planner::step(sheet, fleet, trail, task.word, task.first, task.second);
+    let vans = s.fleet.vans;
+    let mut sum = wrapping_add_u64(s.answer as u64, s.rounds as u64);
+    let mut j = 0;
+    while j < Fleet::VANS {
+        if j < v {
+            sum = wrapping_add_u64(sum, van_sum(vans[j]));
+        }
+        j += 1;
+    }
+    sum
 }
 
 fn one_if(b: bool) -> u64 {
     if b { 1 } else { 0 }
 }
 
-// Operations 1 to 6 and 8, once.
-fn ask(operation: usize, sheet: &[u8], state: State, trail: &mut [u64], half: usize) -> u64
-    requires { ⌜ 2 ≤ half ⌝ }
-{
+// Operation 1: the answer, and the stops of all states.
+fn one_opening(sheet: &[u8]) -> u64 {
+    let o = planner::open(sheet);
+    let vans = o.fleet.vans;
+    let mut sum = o.answer as u64;
+    let mut j = 0;
+    while j < Fleet::VANS {
+        let one = vans[j];
+        sum = wrapping_add_u64(sum, one.stops as u64);
+        j += 1;
+    }
+    sum
+}
+
+// Operations 1 to 6, 8 and 9, once.
+fn ask(
+    operation: usize,
+    sheet: &[u8],
+    fleet: Fleet,
+    v: usize,
+    trail: &mut [u64],
+    task: Task,
+) -> u64 {
     match operation {
-        1 => {
-            let o = planner::open(sheet);
-            let opened = o.state;
-            wrapping_add_u64(o.answer as u64, opened.stops as u64)
-        },
-        2 => one_step(sheet, state, trail, Step::PLACE, half - 2, half - 1),
+        1 => one_opening(sheet),
         6 => {
-            let v = planner::verdict(sheet, state);
-            wrapping_add_u64(v.answer as u64, one_if(v.alive))
+            let j = planner::verdict(sheet, fleet);
+            wrapping_add_u64(j.answer as u64, one_if(j.alive))
         },
         8 => {
-            let p = planner::open_places(sheet, state);
+            let p = planner::open_places(sheet, fleet);
             wrapping_add_u64(p.answer as u64, p.places as u64)
         },
-        _ => one_step(sheet, state, trail, Step::SETTLE, 0, 0),
+        _ => one_step(sheet, fleet, v, trail, task),
     }
 }
 
-// The state with the stops 0, 1, 2, .. in order, `stops` in all with the end.
-fn build(sheet: &[u8], fresh: State, trail: &mut [u64], stops: usize) -> State {
-    let mut state = fresh;
+// The stop before the end of a van's route: its last ward, or the start.
+fn last_stop(one: State) -> usize {
+    let stops = one.stops;
+    if stops < 2 {
+        return 0;
+    }
+    if Node::MOST < stops {
+        return 0;
+    }
+    one.route[stops - 2]
+}
+
+// The van whose turn ward x is, of v vans, and at most the last there can be.
+fn turn_of(x: usize, v: usize) -> usize
+    ensures { λ r. ⌜ r < 8 ⌝ }
+{
+    if x < 1 {
+        return 0;
+    }
+    if v < 1 {
+        return 0;
+    }
+    let j = (x - 1) % v;
+    if j < Fleet::VANS { j } else { 0 }
+}
+
+// Placing ward x, which the vans get by turns, after the last ward of its van. There is no ward 0, so that is refused.
+fn ward_task(fleet: Fleet, v: usize, x: usize) -> Task {
+    let j = turn_of(x, v);
+    let vans = fleet.vans;
+    let one = vans[j];
+    let last = if x == 0 { usize::MAX } else { last_stop(one) };
+    Task {
+        word: Step::VAN * j + Step::PLACE,
+        first: last,
+        second: x,
+    }
+}
+
+// The fleet with the wards from 1 on below `end`, each in its turn.
+fn build(sheet: &[u8], fresh: Fleet, v: usize, trail: &mut [u64], end: usize) -> Fleet {
+    let mut fleet = fresh;
     let mut x = 1;
-    while x < stops {
-        let s = planner::step(sheet, state, trail, Step::PLACE, x - 1, x);
-        state = s.state;
+    while x < end {
+        let task = ward_task(fleet, v, x);
+        let s = planner::step(sheet, fleet, trail, task.word, task.first, task.second);
+        fleet = s.fleet;
         x += 1;
     }
-    state
+    fleet
 }
 
 fn set_byte(sheet: &mut [u8], at: usize, b: u8) {
@@ -122,23 +189,22 @@ fn diagonal(sheet: &[u8]) -> usize
     4 * at.seconds
 }
 
-// The sum over all times, of one of the operations 1 to 6 and 8.
+// The sum over all times, of one of the operations 1 to 6, 8 and 9.
 fn repeat(
     operation: usize,
     count: usize,
     sheet: &mut [u8],
-    state: State,
-    half: usize,
+    fleet: Fleet,
+    v: usize,
     trail: &mut [u64],
-) -> u64
-    requires { ⌜ 2 ≤ half ⌝ }
-{
+    task: Task,
+) -> u64 {
     let spot = diagonal(sheet);
     let mut sum: u64 = 0;
     let mut i = 0;
     while i < count {
         mark(sheet, spot, i % 1000);
-        sum = wrapping_add_u64(sum, ask(operation, sheet, state, trail, half));
+        sum = wrapping_add_u64(sum, ask(operation, sheet, fleet, v, trail, task));
         i += 1;
     }
     sum
@@ -146,7 +212,7 @@ fn repeat(
 
 // The same of operation 7.
 fn repeat_listing(count: usize, sheet: &mut [u8], trail: &mut [u64], out: &mut [u8]) -> u64
-    requires { ⌜ length (now out) ≡ 401350 ⌝ }
+    requires { ⌜ length (now out) ≡ 410800 ⌝ }
 {
     let spot = diagonal(sheet);
     let mut sum: u64 = 0;
@@ -166,22 +232,49 @@ fn number(bytes: &[u8], at: usize) -> usize
     sheet::word(bytes, at) as usize + 4294967296 * (sheet::word(bytes, at + 1) as usize)
 }
 
-// How many stops the state of an operation has, the end counted.
-fn stops_of(operation: usize, n: usize) -> usize {
-    match operation {
+// Below which ward the fleet of an operation is built.
+fn end_of(operation: usize, n: usize) -> usize {
+    let stops = match operation {
         5 => n,
-        2 | 4 | 6 | 8 => n / 2,
+        2 | 4 | 6 | 8 | 9 => n / 2,
         _ => 0,
-    }
+    };
+    if stops < 1 { 0 } else { stops - 1 }
 }
 
-// The state that an operation starts from, made with one stop fewer to place than it has.
-fn start(operation: usize, sheet: &[u8], fresh: State, trail: &mut [u64], n: usize) -> State {
-    let stops = stops_of(operation, n);
-    if stops < 2 {
-        return fresh;
+// The fleet that an operation starts from; stepping back undoes a level opened before all.
+fn start(
+    operation: usize,
+    sheet: &[u8],
+    fresh: Fleet,
+    v: usize,
+    trail: &mut [u64],
+    n: usize,
+) -> Fleet {
+    let end = end_of(operation, n);
+    if operation == 9 {
+        let level = planner::step(sheet, fresh, trail, Step::LEVEL, 0, 0);
+        return build(sheet, level.fleet, v, trail, end);
     }
-    build(sheet, fresh, trail, stops - 1)
+    build(sheet, fresh, v, trail, end)
+}
+
+// The step of an operation: the next ward after the half, stepping back, or settling the first van.
+fn task_of(operation: usize, fleet: Fleet, v: usize, n: usize) -> Task {
+    let half = n / 2;
+    match operation {
+        2 => ward_task(fleet, v, if half < 1 { 0 } else { half - 1 }),
+        9 => Task {
+            word: Step::BACK,
+            first: 0,
+            second: 0,
+        },
+        _ => Task {
+            word: Step::SETTLE,
+            first: 0,
+            second: 0,
+        },
+    }
 }
 
 fn write(out: &[u8], used: usize) {
@@ -200,18 +293,11 @@ fn tell(sum: u64) {
     io::write_all(STDOUT_FILENO, b"\n");
 }
 
-// Half of the nodes, and at least the two ends.
-fn half_of(n: usize) -> usize
-    ensures { λ r. ⌜ 2 ≤ r ⌝ }
-{
-    if n < 4 { 2 } else { n / 2 }
-}
-
 // Whether there is no such operation, or it asks for a sheet that opens and this one is refused.
 fn cannot(operation: usize, refusal: usize) -> bool {
     match operation {
         1 | 7 => false,
-        2 | 3 | 4 | 5 | 6 | 8 => refusal != 0,
+        2 | 3 | 4 | 5 | 6 | 8 | 9 => refusal != 0,
         _ => true,
     }
 }
@@ -221,7 +307,7 @@ fn measure(operation: usize, count: usize, sheet: &mut [u8]) {
     let mut trail = [0u64; TRAIL];
     let mut out = [0u8; TEXT];
     if operation == 0 {
-        let used = dock::list(sheet, &mut trail, &mut out);
+        let used = dock::lines::list(sheet, &mut trail, &mut out);
         write(&out, used);
         return;
     }
@@ -236,9 +322,45 @@ fn measure(operation: usize, count: usize, sheet: &mut [u8]) {
     }
     let found = day::checked(sheet);
     let at = found.layout;
-    let n = at.nodes;
-    let state = start(operation, sheet, opened.state, &mut trail, n);
-    tell(repeat(operation, count, sheet, state, half_of(n), &mut trail));
+    repeat_on(
+        operation,
+        count,
+        sheet,
+        opened.fleet,
+        at.nodes,
+        at.vans,
+        &mut trail,
+    );
+}
+
+// Words of the trail that v vans are lent.
+fn lent_words(v: usize) -> usize
+    ensures { λ r. ⌜ r ≤ 64480 ⌝ }
+{
+    if v < Fleet::VANS {
+        return TRAIL / Fleet::VANS * v;
+    }
+    TRAIL
+}
+
+// One of the operations 1 to 6, 8 and 9 on a sheet of n nodes and v vans.
+fn repeat_on(
+    operation: usize,
+    count: usize,
+    sheet: &mut [u8],
+    fresh: Fleet,
+    n: usize,
+    v: usize,
+    trail: &mut [u64],
+) {
+    let words = lent_words(v);
+    if trail.len() < words {
+        return;
+    }
+    let lent: &mut [u64] = &mut trail[..words];
+    let fleet = start(operation, sheet, fresh, v, lent, n);
+    let task = task_of(operation, fleet, v, n);
+    tell(repeat(operation, count, sheet, fleet, v, lent, task));
 }
 
 fn main() {

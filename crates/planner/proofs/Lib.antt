@@ -1,11 +1,9 @@
--- The promises are stated in specs/Promises.antt, and All has the proof of all of them. It rests on
--- One (one outcome, and the jobs of the bytes), Answers (a step refused, and a step accepted), Plans (what an accepted step does to the plan that its state stands for), Kept (demand 1's form
--- and demand 2's rounds, settling, gaps), Moves (an accepted step is one that the trail's theorems speak of), Courses (stepping back, the bound on
--- records), Never (17, 19 and 20 are not met from fresh), Worked (demand 3).
--- For the functions: FaceLaws (the answers, as the code
--- comes to them).
--- PaperCases: the table P1 to P12, computed.
-pub mod FaceLaws
+-- The promises proved. All: every one of them. One: one outcome, and the jobs. Answers: a step refused and a step accepted, van by van.
+-- Kept: the form kept, and the sets of rounds that each step keeps. Courses: accepted steps one after another. Never: 17, 19 and 20 never met.
+-- Worked: demand 3. Below them, Backs: when a fleet steps back. Depths: the levels open after each
+-- step. For the functions: AskLaws (asking a call), RowFacts (a fleet in form in rows), TakenLaws (a step refused and taken). PaperCases: the table P1 to P12.
+pub mod Backs
+pub mod Depths
 pub mod One
 pub mod Answers
 pub mod Kept
@@ -13,4 +11,7 @@ pub mod Courses
 pub mod Never
 pub mod Worked
 pub mod All
+pub mod AskLaws
+pub mod RowFacts
+pub mod TakenLaws
 pub mod PaperCases

@@ -1,7 +1,7 @@
 -- The table P1 to P12 holds: each line is computed.
 use mathlib.Core.Path.{refl}
 use lib.Count.{ones, onesIn}
-use Rattle.laws.specs.Basic.{allBelow, orElse, sumBelow, tab}
+use Rattle.laws.specs.Basic.{allBelow, anyBelow, orElse, sumBelow, tab, partAt, joined}
 use Rattle.bits.specs.Places.{digit, has, with, within}
 use Rattle.rules.specs.Rounds.{keeps}
 use Rattle.rules.specs.Day.{isInner}
@@ -17,10 +17,16 @@ use Rattle.along.specs.Sets.{wordFrom, setsOf}
 use Rattle.board.specs.Route.{wordOf, indexOf, insertIn}
 use Rattle.board.specs.Change.{heir, placedAfter}
 use Rattle.board.specs.Board.{routeOf, onRoute, legsOf, setOf, openAt, legNode, placesOf}
-use Rattle.board.specs.Fresh.{freshState, freshSets, freshSet}
-use Rattle.board.specs.Form.{stopOk, setOk, markOk, boardOk, levelOk, levelsOk, inForm, formWith}
+use Rattle.board.specs.Fresh.{noState, freshState, freshSets, freshSet}
+use Rattle.fleet.specs.Fleet.{stateIn, freshFleet, shareOf, trailIn}
+use Rattle.fleet.specs.Form.{hasWard, clearOf, sharesNone, vanFits, idle, inFormAll, formWithAll}
+use Rattle.fleet.specs.Sums.{placesAll}
+use Rattle.turns.specs.Together.{unlessBarred, together, alone}
+use Rattle.turns.specs.Act.{turnOf, claimed, roomy, placeBar, vanAct, actAll}
+use Rattle.rules.specs.Fleet.{aliveAll}
+use Rattle.board.specs.Form.{stopOk, setOk, onlyInner, markOk, mustOk, boardOk, levelOk, levelsOk, inForm, formWith}
 use Rattle.trail.specs.Trail.{roomOf, shrunk, noteBelow, noteOne, pushed}
-use Rattle.trail.specs.Refusals.{placeRefusal}
+use Rattle.trail.specs.Refusals.{placeShut, placeRefusal, excludeRefusal}
 use Rattle.planner.specs.Face.{stepOf, stepRefusal, askRefusal, countOf, judgeOf}
 use Rattle.planner.specs.Paper.{Paper}
 use Rattle.rules.specs.Verdict as rules
@@ -28,5 +34,5 @@ use Rattle.trail.specs.Steps as trail
 use Rattle.van.specs.Act.{actOf}
 
 paper-cases : Paper
-unfolding allBelow orElse sumBelow tab wordAt headRefusal limitsRefusal nodesRefusal jobsRefusal tableRefusal stepsRefusal laterRefusal readRefusal jobAt clash apart cell callRefusal digit has with within stays round strikes settleIn roundsIn keeps owed rules.alive everyRound wordOf indexOf insertIn routeOf onRoute legsOf setOf openAt isInner legNode placesOf ones onesIn heir placedAfter freshState freshSets freshSet stopOk setOk markOk boardOk levelOk levelsOk inForm formWith roomOf shrunk noteBelow noteOne pushed placeRefusal trail.placeStep trail.recorded trail.settleStep trail.unlessRefused setsOf wordFrom stepOf actOf stepRefusal askRefusal countOf judgeOf
+unfolding allBelow anyBelow orElse sumBelow tab partAt joined wordAt headRefusal limitsRefusal nodesRefusal jobsRefusal tableRefusal stepsRefusal laterRefusal readRefusal jobAt clash apart cell callRefusal digit has with within stays round strikes settleIn roundsIn keeps owed rules.alive everyRound wordOf indexOf insertIn routeOf onRoute legsOf setOf openAt isInner legNode placesOf ones onesIn heir placedAfter noState freshState freshSets freshSet stopOk setOk onlyInner markOk mustOk boardOk levelOk levelsOk inForm formWith roomOf shrunk noteBelow noteOne pushed placeShut placeRefusal excludeRefusal trail.placeStep trail.recorded trail.settleStep trail.unlessRefused setsOf wordFrom stepOf actOf stepRefusal askRefusal countOf judgeOf stateIn freshFleet shareOf trailIn hasWard clearOf sharesNone vanFits idle inFormAll formWithAll placesAll unlessBarred together alone turnOf claimed roomy placeBar vanAct actAll aliveAll
 paper-cases = record { p1 = refl; p2 = refl; p3 = refl; p4 = refl; p5 = refl; p6 = refl; p7 = refl; p8 = refl; p8-dead = refl; p9 = refl; p9-rounds = refl; p9-alive = refl; p10 = refl; p10-none = refl; p10-alive = refl; p11 = refl; p11-dead = refl; p12 = refl; p12-kept = refl }

@@ -3,3 +3,4 @@
 pub mod Face
 pub mod Promises
 pub mod Paper
+pub mod Sized

@@ -22,39 +22,39 @@ use Rattle.rules.specs.Day.{Day}
 use Rattle.rules.specs.declared.Van.{Van}
 use Rattle.rules.specs.Plan.{Plan}
 use Rattle.rules.specs.Every.{everyRound, belongs, count}
-use Rattle.board.specs.declared.State.{State}
-use Rattle.board.specs.Board.{boardOf, openAt}
-use Rattle.board.specs.Fresh.{freshState}
+use Rattle.fleet.specs.Fleet.{freshFleet, boardIn}
+use Rattle.fleet.specs.declared.Fleet.{Fleet}
+use Rattle.board.specs.Board.{openAt}
 use Rattle.planner.specs.Face.{stepOf, countOf, judgeOf}
-use Rattle.van.specs.Act.{planIn}
+use Rattle.planner.specs.Promises.{planAt}
 
 -- a trail of four records, as good as any here
 abbrev none : List ℕ
 none = replicate 8 0
 
--- the fresh state
-abbrev fresh : State
-fresh = freshState 4
+-- the fresh fleet, of one van
+abbrev fresh : Fleet
+fresh = freshFleet 4 1
 
--- the state with node 2 placed after 0
-abbrev two : List ℕ → State
-two sheet = stepOf sheet fresh none kinds.PLACE 0 2 .0 .state
+-- the fleet with node 2 placed after 0
+abbrev two : List ℕ → Fleet
+two sheet = stepOf sheet fresh none kinds.PLACE 0 2 .0 .fleet
 
--- the state after settling
-abbrev after : List ℕ → State → State
-after sheet s = stepOf sheet s none kinds.SETTLE 0 0 .0 .state
+-- the fleet after settling
+abbrev after : List ℕ → Fleet → Fleet
+after sheet f = stepOf sheet f none kinds.SETTLE 0 0 .0 .fleet
 
 -- the rounds that settling tells
-abbrev rounds : List ℕ → State → ℕ
-rounds sheet s = stepOf sheet s none kinds.SETTLE 0 0 .0 .rounds
+abbrev rounds : List ℕ → Fleet → ℕ
+rounds sheet f = stepOf sheet f none kinds.SETTLE 0 0 .0 .rounds
 
 -- the open places in all
-abbrev places : List ℕ → State → ℕ
-places sheet s = countOf sheet s .places
+abbrev places : List ℕ → Fleet → ℕ
+places sheet f = countOf sheet f .places
 
 -- the verdict
-abbrev alive : List ℕ → State → Bool
-alive sheet s = judgeOf sheet s .alive
+abbrev alive : List ℕ → Fleet → Bool
+alive sheet f = judgeOf sheet f .alive
 
 -- the sheet of document 01
 abbrev paper : List ℕ
@@ -75,9 +75,9 @@ pub record Paper : Type 0 where
   pub p2 : lastAt (dayOf paper) (0 ∷ 2 ∷ 3 ∷ []) 1 ≡ pos 25
   pub p3 : lastAt (dayOf paper) (0 ∷ 2 ∷ 3 ∷ []) 0 ≡ pos 0
   -- route 0 2 3: place 0 of node 1 stays; with latest(2) = 24 it is struck; place 2 of node 1 is struck
-  pub p4 : openAt (boardOf (after paper (two paper))) 1 0 ≡ true
-  pub p5 : openAt (boardOf (after (sheetWith 2 60 24 100) (two (sheetWith 2 60 24 100)))) 1 0 ≡ false
-  pub p6 : openAt (boardOf (after paper (two paper))) 1 2 ≡ false
+  pub p4 : openAt (boardIn (after paper (two paper)) 0) 1 0 ≡ true
+  pub p5 : openAt (boardIn (after (sheetWith 2 60 24 100) (two (sheetWith 2 60 24 100))) 0) 1 0 ≡ false
+  pub p6 : openAt (boardIn (after paper (two paper)) 0) 1 2 ≡ false
   -- fresh, metre limit 30: both places stay; 29: both struck, dead
   pub p7 : places (sheetWith 2 30 25 100) (after (sheetWith 2 30 25 100) fresh) ≡ 2
   pub p8 : places (sheetWith 2 29 25 100) (after (sheetWith 2 29 25 100) fresh) ≡ 0
@@ -94,5 +94,5 @@ pub record Paper : Type 0 where
   pub p11 : lastAt (dayOf (sheetWith 2 60 25 10)) (0 ∷ 3 ∷ []) 0 ≡ negsuc 19
   pub p11-dead : alive (sheetWith 2 60 25 10) fresh ≡ false
   -- fresh: 5 rounds belong, 2 keep the rules, 0 3 and 0 1 2 3
-  pub p12 : count (belongs (dayOf paper) (planIn fresh)) (everyRound (dayOf paper)) ≡ 5
-  pub p12-kept : kept (dayOf paper) (vanOf paper) (planIn fresh) ≡ (0 ∷ 3 ∷ []) ∷ (0 ∷ 1 ∷ 2 ∷ 3 ∷ []) ∷ []
+  pub p12 : count (belongs (dayOf paper) (planAt fresh 0)) (everyRound (dayOf paper)) ≡ 5
+  pub p12-kept : kept (dayOf paper) (vanOf paper 0) (planAt fresh 0) ≡ (0 ∷ 3 ∷ []) ∷ (0 ∷ 1 ∷ 2 ∷ 3 ∷ []) ∷ []

@@ -1,30 +1,38 @@
-// The planner's five entry points. Each is total: any bytes, any state, any trail, any numbers.
+// The planner's five entry points. Each is total: any bytes, any fleet, any trail, any numbers.
 ghost use mathlib.Core.Path.{_≡_};
+ghost use mathlib.Core.Bool.{cond};
 ghost use mathlib.Core.List.{List};
 ghost use Prim.Native.Nat.{ℕ, _≤_};
-ghost use lib.ListN.{length};
-ghost use Rattle.board.specs.Board.{stateWith};
-ghost use Rattle.board.specs.Held.{Held};
+ghost use Rattle.rules.specs.Numbers.{mostVans};
 ghost use Rattle.sheet.specs.Place.{found};
 ghost use Rattle.day.specs.Refuse.{callRefusal};
-ghost use Rattle.trail.specs.Steps.{ran};
-ghost use Rattle.planner.specs.Face.{askRefusal, stepRefusal, stepOf, Opens, Sections, Stepping, Counts, Judges};
+ghost use lib.ListN.{length};
+ghost use lib.Dec.{eqb, ltb};
+ghost use Rattle.fleet.specs.Fleet.{fleetOf, stateIn, HeldAll};
+ghost use Rattle.turns.specs.Together.{actedAll};
+ghost use Rattle.fleet.specs.Rows.{rowState, fleetWith, Rows, Blank};
+ghost use Rattle.planner.specs.Sized.{Sized};
+ghost use Rattle.planner.specs.Face.{askRefusal, Opens, Sections, Stepping, Counts, Judges};
 use board::Figures;
 use board::State;
-use board::form::in_form;
-use board::places::count;
+use fleet::Fleet;
+use fleet::form::rest_idle;
+use fleet::form::vans_ok;
+use fleet::form::within_room;
+use fleet::rows::pack;
+use fleet::rows::unpack;
 use rules::Node;
 use rules::Refusal;
 use rules::Step;
 use sheet::Found;
-use trail::Outcome;
-use trail::Stepped;
-use trail::steps::same;
+use turns::Outcomes;
+use turns::Turned;
+use turns::steps::act;
 
-// What opening gives: 0 and the fresh state, or the number of a refusal and the state with every number 0.
+// What opening gives: 0 and the fresh fleet, or the number of a refusal and the fleet with every number 0.
 pub struct Opened {
     pub answer: usize,
-    pub state: State,
+    pub fleet: Fleet,
 }
 
 // The open places in all, or the number of a refusal beside 0.
@@ -45,14 +53,14 @@ pub fn open(sheet: &[u8]) -> Opened
 {
     let found = day::opening(sheet);
     let at = found.layout;
-    let state = if found.answer == 0 {
-        State::fresh(at.nodes)
+    let fleet = if found.answer == 0 {
+        Fleet::fresh(at.nodes, at.vans)
     } else {
-        State::none()
+        Fleet::none()
     };
     Opened {
         answer: found.answer,
-        state: state,
+        fleet: fleet,
     }
 }
 
@@ -63,161 +71,160 @@ pub fn section(sheet: &[u8], number: usize) -> &[u8]
     day::section(sheet, number)
 }
 
-// The numbers of a state beside its arrays.
-fn figures(stops: usize, marks: u64, depth: usize, records: usize) -> Figures
-    ensures { λ r. ⌜ r ≡ record { stops = stops; marks = marks; depth = depth; records = records } ⌝ }
-{
-    Figures {
-        stops: stops,
-        marks: marks,
-        depth: depth,
-        records: records,
-    }
+// Why a call on a fleet is refused, or 0, and then its vans are in the rows; and their other numbers.
+pub struct Asked {
+    pub answer: usize,
+    pub figures: [Figures; Fleet::VANS],
 }
 
-// Why a call on a state is refused, the trail's room apart, or 0: `read` is what checking the sheet found.
-fn asked<'a>(
+// Asks a call, the trail's room apart: `read` is what checking the sheet found.
+fn ask(
     read: Found,
-    route: &'a [usize; Node::MOST],
-    sets: &'a [u64; Node::MOST],
-    levels: &'a [usize; State::LEVELS],
-    f: Figures,
-) -> usize
-    requires { ⌜ (read .answer ≡ 0 → read .layout .nodes ≤ 64) × (length (now route) ≡ 64) ⌝ }
-    ensures { λ r. ⌜ ((sheet : List ℕ) → read ≡ found callRefusal sheet →
-        r ≡ askRefusal sheet (stateWith (now (route .entry)) (now (sets .entry)) (now (levels .entry)) f)) ⌝ }
+    fleet: Fleet,
+    routes: &mut [[usize; Node::MOST]; Fleet::VANS],
+    sets: &mut [[u64; Node::MOST]; Fleet::VANS],
+    levels: &mut [[usize; State::LEVELS]; Fleet::VANS],
+) -> Asked
+    requires { ⌜ Blank (now routes) × Blank (now sets) × Blank (now levels) × HeldAll fleet × (read .answer ≡ 0 → Sized (read .layout)) ⌝ }
+    ensures { λ r. ⌜ ((sheet : List ℕ) → read ≡ found callRefusal sheet → (r .answer ≡ askRefusal sheet fleet)
+        × (r .answer ≡ 0 → (fleetWith (now (routes .exit)) (now (sets .exit)) (now (levels .exit)) (r .figures) ≡ fleet)
+        × Rows (now (routes .exit)) × Rows (now (sets .exit)) × Rows (now (levels .exit)) × (length (r .figures) ≡ mostVans))) ⌝ }
 {
+    let none = [Figures::none(); Fleet::VANS];
     if read.answer != 0 {
-        return read.answer;
+        return Asked {
+            answer: read.answer,
+            figures: none,
+        };
     }
     let at = read.layout;
-    let form = in_form(route, sets, levels, f, at.nodes);
-    if form { 0 } else { Refusal::FORM }
-}
-
-// The same of a step, whatever its kind: it lends a trail.
-fn called<'a>(
-    read: Found,
-    route: &'a [usize; Node::MOST],
-    sets: &'a [u64; Node::MOST],
-    levels: &'a [usize; State::LEVELS],
-    f: Figures,
-    trail: &[u64],
-) -> usize
-    requires { ⌜ (read .answer ≡ 0 → read .layout .nodes ≤ 64) × (length (now route) ≡ 64) ⌝ }
-    ensures { λ r. ⌜ ((sheet : List ℕ) → read ≡ found callRefusal sheet →
-        r ≡ stepRefusal sheet (stateWith (now (route .entry)) (now (sets .entry)) (now (levels .entry)) f) (now (trail .entry))) ⌝ }
-{
-    let answer = asked(read, route, sets, levels, f);
-    if answer != 0 {
-        return answer;
-    }
-    if f.records <= trail.len() / 2 {
-        0
-    } else {
-        Refusal::FORM
+    let idle = rest_idle(fleet, at.vans);
+    let figures = unpack(fleet, at.vans, routes, sets, levels);
+    let form = idle & vans_ok(routes, sets, levels, figures, at.nodes, at.vans);
+    let answer = if form { 0 } else { Refusal::FORM };
+    Asked {
+        answer: answer,
+        figures: figures,
     }
 }
 
-// One step on a state in arrays: refused whatever its kind, or done in place.
-fn step_in(
-    sheet: &[u8],
-    route: &mut [usize; Node::MOST],
-    sets: &mut [u64; Node::MOST],
-    levels: &mut [usize; State::LEVELS],
-    f: Figures,
-    trail: &mut [u64],
-    step: Step,
-) -> Outcome
-    requires { ⌜ Held (stateWith (now route) (now sets) (now levels) f) ⌝ }
-    ensures { λ r. ⌜ stepOf (now (sheet .entry)) (stateWith (now (route .entry)) (now (sets .entry)) (now (levels .entry)) f)
-        (now (trail .entry)) (step .kind) (step .first) (step .second)
-        ≡ ran r (now (route .exit)) (now (sets .exit)) (now (levels .exit)) (now (trail .exit)) ⌝ }
+// Refused: the fleet as it was handed in.
+fn refused(answer: usize, fleet: Fleet) -> Turned
+    ensures { λ r. ⌜ ((t : List ℕ) → (r, t) ≡ actedAll answer 0 fleet t) ⌝ }
 {
-    let read = day::checked(sheet);
-    let answer = called(read, route, sets, levels, f, trail);
-    if answer != 0 {
-        return same(answer, f);
+    Turned {
+        answer: answer,
+        rounds: 0,
+        fleet: fleet,
     }
-    let at = read.layout;
-    let van = day::look::van(sheet, at);
-    van::act(sheet, at, van, route, sets, levels, f, trail, step)
+}
+
+// What a step gives by what was done in the rows: refused, the fleet as it was handed in; taken, its vans as the rows have them.
+fn outcome<'a>(
+    fleet: Fleet,
+    v: usize,
+    routes: &'a [[usize; Node::MOST]; Fleet::VANS],
+    sets: &'a [[u64; Node::MOST]; Fleet::VANS],
+    levels: &'a [[usize; State::LEVELS]; Fleet::VANS],
+    o: Outcomes,
+) -> Turned
+    requires { ⌜ v ≤ mostVans ⌝ }
+    ensures { λ r. ⌜ ((t : List ℕ) → (r, t) ≡ cond (eqb (o .answer) 0) (actedAll 0 (o .rounds)
+        (fleetOf (λ j. cond (ltb j v) (rowState (now (routes .entry)) (now (sets .entry)) (now (levels .entry)) (o .after) j) (stateIn fleet j))) t)
+        (actedAll (o .answer) 0 fleet t)) ⌝ }
+{
+    if o.answer != 0 {
+        return refused(o.answer, fleet);
+    }
+    let after = o.after;
+    let packed = pack(fleet, v, routes, sets, levels, after);
+    Turned {
+        answer: 0,
+        rounds: o.rounds,
+        fleet: packed,
+    }
 }
 
 // One step: the outcome, and the trail.
 pub fn step(
     sheet: &[u8],
-    state: State,
+    fleet: Fleet,
     trail: &mut [u64],
-    kind: usize,
+    word: usize,
     first: usize,
     second: usize,
-) -> Stepped
-    ensures { λ r. ⌜ Stepping (now (sheet .entry)) state (now (trail .entry)) kind first second (r, now (trail .exit)) ⌝ }
+) -> Turned
+    ensures { λ r. ⌜ Stepping (now (sheet .entry)) fleet (now (trail .entry)) word first second (r, now (trail .exit)) ⌝ }
 {
-    let f = figures(state.stops, state.marks, state.depth, state.records);
-    let asked = Step {
-        kind: kind,
-        first: first,
-        second: second,
-    };
-    let mut route = state.route;
-    let mut sets = state.sets;
-    let mut levels = state.levels;
-    let o = step_in(sheet, &mut route, &mut sets, &mut levels, f, trail, asked);
-    let after = o.after;
-    Stepped {
-        answer: o.answer,
-        rounds: o.rounds,
-        state: State {
-            route: route,
-            stops: after.stops,
-            sets: sets,
-            marks: after.marks,
-            levels: levels,
-            depth: after.depth,
-            records: after.records,
-        },
+    let mut routes = [[0usize; Node::MOST]; Fleet::VANS];
+    let mut sets = [[0u64; Node::MOST]; Fleet::VANS];
+    let mut levels = [[0usize; State::LEVELS]; Fleet::VANS];
+    let read = day::checked(sheet);
+    let a = ask(read, fleet, &mut routes, &mut sets, &mut levels);
+    if a.answer != 0 {
+        return refused(a.answer, fleet);
     }
+    let at = read.layout;
+    let v = at.vans;
+    let figures = a.figures;
+    if !within_room(figures, v, trail.len() / v / 2) {
+        return refused(Refusal::FORM, fleet);
+    }
+    let said = Step::said(word, first, second);
+    let o = act(
+        sheet,
+        at,
+        &mut routes,
+        &mut sets,
+        &mut levels,
+        figures,
+        trail,
+        said,
+    );
+    outcome(fleet, v, &routes, &sets, &levels, o)
 }
 
-// The open places of a state in all.
-pub fn open_places(sheet: &[u8], state: State) -> Counted
-    ensures { λ r. ⌜ Counts (now (sheet .entry)) state r ⌝ }
+// The open places of a fleet in all.
+pub fn open_places(sheet: &[u8], fleet: Fleet) -> Counted
+    ensures { λ r. ⌜ Counts (now (sheet .entry)) fleet r ⌝ }
 {
-    let f = figures(state.stops, state.marks, state.depth, state.records);
+    let mut routes = [[0usize; Node::MOST]; Fleet::VANS];
+    let mut sets = [[0u64; Node::MOST]; Fleet::VANS];
+    let mut levels = [[0usize; State::LEVELS]; Fleet::VANS];
     let read = day::checked(sheet);
-    let answer = asked(read, &state.route, &state.sets, &state.levels, f);
-    if answer != 0 {
+    let a = ask(read, fleet, &mut routes, &mut sets, &mut levels);
+    if a.answer != 0 {
         return Counted {
-            answer: answer,
+            answer: a.answer,
             places: 0,
         };
     }
     let at = read.layout;
     Counted {
         answer: 0,
-        places: count(&state.sets, at.nodes),
+        places: fleet::sums::places(&sets, at.nodes, at.vans),
     }
 }
 
-// The verdict of a state.
-pub fn verdict(sheet: &[u8], state: State) -> Judged
-    ensures { λ r. ⌜ Judges (now (sheet .entry)) state r ⌝ }
+// The verdict of a fleet.
+pub fn verdict(sheet: &[u8], fleet: Fleet) -> Judged
+    ensures { λ r. ⌜ Judges (now (sheet .entry)) fleet r ⌝ }
 {
-    let f = figures(state.stops, state.marks, state.depth, state.records);
+    let mut routes = [[0usize; Node::MOST]; Fleet::VANS];
+    let mut sets = [[0u64; Node::MOST]; Fleet::VANS];
+    let mut levels = [[0usize; State::LEVELS]; Fleet::VANS];
     let read = day::checked(sheet);
-    let answer = asked(read, &state.route, &state.sets, &state.levels, f);
-    if answer != 0 {
+    let a = ask(read, fleet, &mut routes, &mut sets, &mut levels);
+    if a.answer != 0 {
         return Judged {
-            answer: answer,
+            answer: a.answer,
             alive: false,
         };
     }
     let at = read.layout;
-    let van = day::look::van(sheet, at);
+    let figures = a.figures;
     Judged {
         answer: 0,
-        alive: van::alive(sheet, at, van, &state.route, &state.sets, f),
+        alive: fleet::sums::alive(sheet, at, &routes, &sets, figures),
     }
 }

@@ -3,6 +3,7 @@ ghost use mathlib.Core.Path.{_≡_};
 ghost use Prim.Native.Nat.{_≤_, _<_};
 ghost use lib.ListN.{length};
 use board::State;
+use fleet::Fleet;
 use libc::STDIN_FILENO;
 use libc::STDOUT_FILENO;
 use listing::put_number;
@@ -11,28 +12,28 @@ use rules::Node;
 // The most bytes of a sheet and words of a trail, and the bytes of what stands before them.
 const SHEET: usize = 61440;
 
-const TRAIL: usize = 8192;
+const TRAIL: usize = 65536;
 
-const HEAD: usize = 1616;
+const HEAD: usize = 12600;
 
 // What stands before a case's bytes and trail words.
 struct Case {
     bytes: usize,
     words: usize,
     question: usize,
-    kind: usize,
+    word: usize,
     first: usize,
     second: usize,
-    state: State,
+    fleet: Fleet,
 }
 
-// The numbers that begin a line, and the state that came back.
+// The numbers that begin a line, and the fleet that came back.
 struct Told {
     answer: usize,
     rounds: usize,
     places: usize,
     alive: usize,
-    state: State,
+    fleet: Fleet,
 }
 
 fn wide(b: u8) -> u64 {
@@ -62,7 +63,7 @@ fn number(bytes: &[u8], i: usize) -> usize {
 
 // As many numbers as there are nodes, from word `from` on.
 fn numbers(bytes: &[u8], from: usize) -> [usize; Node::MOST]
-    requires { ⌜ from ≤ 1000 ⌝ }
+    requires { ⌜ from ≤ 2000 ⌝ }
 {
     let mut a = [0usize; Node::MOST];
     let mut i = 0;
@@ -75,7 +76,7 @@ fn numbers(bytes: &[u8], from: usize) -> [usize; Node::MOST]
 
 // As many sets, from word `from` on.
 fn sets(bytes: &[u8], from: usize) -> [u64; Node::MOST]
-    requires { ⌜ from ≤ 1000 ⌝ }
+    requires { ⌜ from ≤ 2000 ⌝ }
 {
     let mut a = [0u64; Node::MOST];
     let mut i = 0;
@@ -86,41 +87,58 @@ fn sets(bytes: &[u8], from: usize) -> [u64; Node::MOST]
     a
 }
 
-fn state_of(head: &[u8]) -> State {
-    let route = numbers(head, 6);
-    let stops = number(head, 70);
-    let sets = sets(head, 71);
-    let marks = word(head, 135);
-    let levels = numbers(head, 136);
-    let depth = number(head, 200);
-    let records = number(head, 201);
+// The state whose numbers begin at word `from`; the marks "must go somewhere" stand elsewhere.
+fn state_of(head: &[u8], from: usize, must: u64) -> State
+    requires { ⌜ from ≤ 1600 ⌝ }
+{
+    let route = numbers(head, from);
+    let stops = number(head, from + 64);
+    let sets = sets(head, from + 65);
+    let marks = word(head, from + 129);
+    let levels = numbers(head, from + 130);
+    let depth = number(head, from + 194);
+    let records = number(head, from + 195);
     State {
         route: route,
         stops: stops,
         sets: sets,
         marks: marks,
+        must: must,
         levels: levels,
         depth: depth,
         records: records,
     }
 }
 
+// Eight states, and behind them the marks "must go somewhere", which the first van holds.
+fn fleet_of(head: &[u8]) -> Fleet {
+    let none = State::none();
+    let mut vans = [none; Fleet::VANS];
+    vans[0] = state_of(head, 6, word(head, 1574));
+    let mut j = 1;
+    while j < Fleet::VANS {
+        vans[j] = state_of(head, 6 + 196 * j, 0);
+        j += 1;
+    }
+    Fleet { vans: vans }
+}
+
 fn case_of(head: &[u8]) -> Case {
     let bytes = number(head, 0);
     let words = number(head, 1);
     let question = number(head, 2);
-    let kind = number(head, 3);
+    let word = number(head, 3);
     let first = number(head, 4);
     let second = number(head, 5);
-    let state = state_of(head);
+    let fleet = fleet_of(head);
     Case {
         bytes: bytes,
         words: words,
         question: question,
-        kind: kind,
+        word: word,
         first: first,
         second: second,
-        state: state,
+        fleet: fleet,
     }
 }
 
@@ -212,51 +230,65 @@ fn put_state(out: &mut [u8], used: usize, state: State) -> usize {
     put(out, f, state.records as u64)
 }
 
+// The eight states, and then the marks "must go somewhere".
+fn put_fleet(out: &mut [u8], used: usize, fleet: Fleet) -> usize {
+    let vans = fleet.vans;
+    let mut next = used;
+    let mut j = 0;
+    while j < Fleet::VANS {
+        let s = vans[j];
+        next = put_state(out, next, s);
+        j += 1;
+    }
+    let first = vans[0];
+    put(out, next, first.must)
+}
+
 fn put_told(out: &mut [u8], used: usize, told: Told) -> usize {
     let a = put(out, used, told.answer as u64);
     let b = put(out, a, told.rounds as u64);
     let c = put(out, b, told.places as u64);
     let d = put(out, c, told.alive as u64);
-    put_state(out, d, told.state)
+    put_fleet(out, d, told.fleet)
 }
 
 fn one_if(b: bool) -> usize {
     if b { 1 } else { 0 }
 }
 
-// What a case is told: the four numbers, and the state.
-fn tell(answer: usize, rounds: usize, places: usize, alive: usize, state: State) -> Told {
+// What a case is told: the four numbers, and the fleet.
+fn tell(answer: usize, rounds: usize, places: usize, alive: usize, fleet: Fleet) -> Told {
     Told {
         answer: answer,
         rounds: rounds,
         places: places,
         alive: alive,
-        state: state,
+        fleet: fleet,
     }
 }
 
-// A question about a sheet and a state.
+// A question about a sheet and a fleet.
 fn ask(sheet: &[u8], case: Case, trail: &mut [u64]) -> Told {
-    let state = case.state;
+    let fleet = case.fleet;
     let question = case.question;
     match question {
         0 => {
             let o = planner::open(sheet);
-            let opened = o.state;
+            let opened = o.fleet;
             tell(o.answer, 0, 0, 0, opened)
         },
         1 => {
-            let s = planner::step(sheet, state, trail, case.kind, case.first, case.second);
-            let after = s.state;
+            let s = planner::step(sheet, fleet, trail, case.word, case.first, case.second);
+            let after = s.fleet;
             tell(s.answer, s.rounds, 0, 0, after)
         },
         2 => {
-            let p = planner::open_places(sheet, state);
-            tell(p.answer, 0, p.places, 0, state)
+            let p = planner::open_places(sheet, fleet);
+            tell(p.answer, 0, p.places, 0, fleet)
         },
         _ => {
-            let v = planner::verdict(sheet, state);
-            tell(v.answer, 0, 0, one_if(v.alive), state)
+            let v = planner::verdict(sheet, fleet);
+            tell(v.answer, 0, 0, one_if(v.alive), fleet)
         },
     }
 }
@@ -264,7 +296,7 @@ fn ask(sheet: &[u8], case: Case, trail: &mut [u64]) -> Told {
 // The line of a case.
 fn answer(sheet: &[u8], case: Case, trail: &mut [u64], out: &mut [u8], used: usize) -> usize {
     if case.question == 4 {
-        let a = put_bytes(out, used, planner::section(sheet, case.kind));
+        let a = put_bytes(out, used, planner::section(sheet, case.word));
         return end_line(out, a);
     }
     let told = ask(sheet, case, trail);
@@ -340,7 +372,7 @@ fn line(
 // The rest of a case: its bytes, its trail words, its line.
 fn rest(case: Case, out: &mut [u8], used: usize) -> Next {
     let mut bytes = [0u8; SHEET];
-    let mut packed = [0u8; 65536];
+    let mut packed = [0u8; 8 * TRAIL];
     let mut trail = [0u64; TRAIL];
     if TRAIL < case.words {
         return bad(out, used);

@@ -11,17 +11,17 @@ use listing::put_refused;
 use rules::Refusal;
 
 // The bytes of the longest sheet. One more is read, by which a longer input is known.
-const SHEET: usize = 60048;
+const SHEET: usize = 60104;
 
 // What the program prints for an input, into a buffer; the answer is its length.
 fn put_printed(input: &[u8], trail: &mut [u64], out: &mut [u8]) -> usize
-    requires { ⌜ (now trail ≡ replicate 7936 0) × (length (now out) ≡ 401350) ⌝ }
+    requires { ⌜ (now trail ≡ replicate 64480 0) × (length (now out) ≡ 410800) ⌝ }
     ensures { λ r. ⌜ (take r (now (out .exit)) ≡ printed (now (input .entry))) × (r ≤ length (now (out .exit))) ⌝ }
 {
     if SHEET < input.len() {
         return put_refused(out, 0, Refusal::SHORT as u64);
     }
-    dock::list(input, trail, out)
+    dock::lines::list(input, trail, out)
 }
 
 // Writes what is printed for the input.

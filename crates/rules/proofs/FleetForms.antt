@@ -1,5 +1,5 @@
 -- Several vans: the fresh fleet is in form, and the steps keep the form.
-use mathlib.Core.Path.{sym, _∙_}
+use mathlib.Core.Path.{sym, subst, _∙_}
 use Prim.Native.Nat.{ℕ, _≤_, _<_}
 use mathlib.Core.Bool.{cond, not, _&&_, _||_, Bool}
 use mathlib.Core.List.{List, [], _∷_}
@@ -17,7 +17,7 @@ use Rattle.rules.proofs.Left.{_⊆_}
 use Rattle.rules.proofs.Placing.{split-old}
 use Rattle.rules.proofs.Fixpoint.{settle-less}
 use Rattle.rules.proofs.Forms.{fresh-plan-formed, placed-formed, closed-formed, excluded-formed, settled-formed, required-formed}
-use Rattle.rules.proofs.FleetRounds.{open-served, open-off}
+use Rattle.rules.proofs.FleetRounds.{open-served, open-off, SamePlans, van-same}
 use Rattle.laws.proofs.Logic.{and-i, and-l, and-r, or-l, or-r, or-e, or-mono, not-or-i, contra, by-test}
 use Rattle.laws.specs.Basic.{mem, any, In}
 use Rattle.laws.proofs.Lists.{any-i, any-e, any-none}
@@ -130,3 +130,11 @@ module _ (d : Day) (f : Plans) (form : FormedAll d f) where
   -- 8: the mark "must go somewhere"
   pub obliged-formed-all : (x : ℕ) → FormedAll d (obliged x f)
   obliged-formed-all x = record { each = form .each; apart = form .apart }
+
+-- plans that differ only where there is no van are in form together
+pub formed-same : (d : Day) {f g : Plans} → SamePlans f g → FormedAll d f → FormedAll d g
+formed-same d s form = record {
+  each = λ i l. subst (λ (a : Plan). Formed d a) (s .plan i (van-same s l)) (form .each i (van-same s l));
+  apart = λ i j x l k ne n m. subst (λ (a : Plan). T (not (served a x))) (s .plan j (van-same s k))
+      (form .apart i j x (van-same s l) (van-same s k) ne n (subst (λ (a : Plan). T (mem x (a .route))) (sym (s .plan i (van-same s l))) m));
+}

@@ -1,9 +1,9 @@
 -- Several vans: the steps keep exactly the sets of rounds that 02 names. Placing a ward keeps those whose round of the van uses the place: its
 -- exclusion from the other vans loses none of these, for the rounds of a set share no ward. A step of one van keeps of the sets what it keeps
 -- of that van's rounds.
-use mathlib.Core.Path.{subst, sym}
+use mathlib.Core.Path.{_≡_, subst, sym}
 use Prim.Native.Nat.{ℕ, _<_}
-use mathlib.Core.Bool.{cond, not}
+use mathlib.Core.Bool.{Bool, cond, not}
 use mathlib.Core.List.{List}
 use mathlib.Core.Logic.{⊎-elim, _↔_, _≢_}
 use lib.Dec.{T, T-not, not-T, eqb, eqb→eq, eqb-refl}
@@ -121,3 +121,30 @@ obliged-sets d f R x = (
     holds = λ y t. ⊎-elim (u .0 .holds y) (λ e. rw (eqb→eq y x e) (u .1)) (or-e (f .must y) (eqb y x) t);
   },
 )
+
+-- ---- plans that differ only where there is no van
+
+-- as many vans, the same plan of each, and the same wards that must go somewhere
+pub record SamePlans (f g : Plans) : Type 0 where
+  pub vans : f .vans ≡ g .vans
+  pub plan : (i : ℕ) → i < f .vans → f .plan i ≡ g .plan i
+  pub must : (x : ℕ) → f .must x ≡ g .must x
+
+-- a van of the one is a van of the other
+pub van-same : {f g : Plans} → SamePlans f g → {i : ℕ} → i < g .vans → i < f .vans
+van-same s {i} l = subst (λ (k : ℕ). i < k) (sym (s .vans)) l
+
+pub same-back : {f g : Plans} → SamePlans f g → SamePlans g f
+same-back s = record { vans = sym (s .vans); plan = λ i l. sym (s .plan i (van-same s l)); must = λ x. sym (s .must x) }
+
+-- they have the same sets of rounds
+pub belong-same : (d : Day) {f g : Plans} (R : ℕ → List ℕ) → SamePlans f g → BelongAll d f R → BelongAll d g R
+belong-same d R s b = record {
+  each = λ i l. subst (λ (a : Plan). Belongs d a (R i)) (s .plan i (van-same s l)) (b .each i (van-same s l));
+  apart = λ i j x l k. b .apart i j x (van-same s l) (van-same s k);
+  holds = λ x t. subst (λ (k : ℕ). T (anyBelow k (λ i. mem x (R i)))) (s .vans) (b .holds x (subst (λ (c : Bool). T c) (sym (s .must x)) t));
+}
+
+-- so what is said of the sets of the one is said of those of the other
+pub sets-same : (d : Day) {f g : Plans} (R : ℕ → List ℕ) {P : Type 0} → SamePlans f g → BelongAll d g R ↔ P → BelongAll d f R ↔ P
+sets-same d R s h = (λ b. h .0 (belong-same d R s b), λ p. belong-same d R (same-back s) (h .1 p))

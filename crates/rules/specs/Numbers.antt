@@ -1,8 +1,9 @@
--- 01's numbers, named once: why a sheet or a step is refused, and the kinds of steps.
-use Prim.Native.Nat.{ℕ}
+-- The numbers of 01 and 02, named once: why a sheet or a step is refused, the kinds of steps, and what the words of a step say.
+use Prim.Native.Nat.{ℕ, _/_, _%_}
+use Rattle.rules.specs.declared.Step.{Step}
 
--- why a sheet or a step is refused: the numbers of 01's table
-abbrev pub refusal : record { SHORT : ℕ; COUNT : ℕ; VALUE : ℕ; TWICE : ℕ; TRIANGLE : ℕ; KIND : ℕ; NODE : ℕ; PLACED : ℕ; UNPLACED : ℕ; SHUT : ℕ; OWED : ℕ; ROOM : ℕ; DEPTH : ℕ; FORM : ℕ; MISFIT : ℕ }
+-- why a sheet or a step is refused: the numbers of 01's table, and of 02
+abbrev pub refusal : record { SHORT : ℕ; COUNT : ℕ; VALUE : ℕ; TWICE : ℕ; TRIANGLE : ℕ; KIND : ℕ; NODE : ℕ; PLACED : ℕ; UNPLACED : ℕ; SHUT : ℕ; OWED : ℕ; ROOM : ℕ; DEPTH : ℕ; FORM : ℕ; MISFIT : ℕ; VAN : ℕ; CLAIMED : ℕ }
 refusal = record {
   SHORT = 1;  -- "byte length not a multiple of 4, a count missing, a section short, words left over"
   COUNT = 2;  -- "a count out of its range"
@@ -19,10 +20,12 @@ refusal = record {
   DEPTH = 18;  -- "a 65th level, or stepping back with none"
   FORM = 19;  -- "state out of form"
   MISFIT = 20;  -- "a record to be undone does not fit"
+  VAN = 21;  -- "van number out of range"
+  CLAIMED = 22;  -- "another van owes the ward"
 }
 
 -- the kinds of steps
-abbrev pub kinds : record { PLACE : ℕ; CLOSE : ℕ; EXCLUDE : ℕ; REQUIRE : ℕ; SETTLE : ℕ; LEVEL : ℕ; BACK : ℕ }
+abbrev pub kinds : record { PLACE : ℕ; CLOSE : ℕ; EXCLUDE : ℕ; REQUIRE : ℕ; SETTLE : ℕ; LEVEL : ℕ; BACK : ℕ; OBLIGE : ℕ }
 kinds = record {
   PLACE = 1;  -- "1 p x, place x after p"
   CLOSE = 2;  -- "2 p x, close the place"
@@ -31,4 +34,17 @@ kinds = record {
   SETTLE = 5;  -- "5, settle"
   LEVEL = 6;  -- "6, open a level"
   BACK = 7;  -- "7, step back: undo to the last level and drop it"
+  OBLIGE = 8;  -- "Step 8 x sets that mark": x must go somewhere
 }
+
+-- "Up to eight vans over the same wards"
+abbrev pub mostVans : ℕ
+mostVans = 8
+
+-- what the first word of a step counts: "256 times the van (from 0) plus the kind"
+abbrev pub vanWeight : ℕ
+vanWeight = 256
+
+-- the step that three words say
+abbrev pub stepSaid : ℕ → ℕ → ℕ → Step
+stepSaid word first second = record { van = word / vanWeight; kind = word % vanWeight; first = first; second = second }

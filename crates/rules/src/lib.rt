@@ -1,6 +1,8 @@
 // The rules of the round as mathematics: what a reader must believe stands in specs/, the theorems in proofs/.
-// The code here is what the mathematics, the sheet and the planner share: two types, and the limits and numbers of document 01, each with the
+// The code here is what the mathematics, the sheet and the planner share: a few types, and the limits and numbers of 01 and 02, each with the
 // type that it belongs to.
+ghost use mathlib.Core.Path.{_≡_};
+ghost use Rattle.rules.specs.Numbers.{stepSaid};
 
 // A job is one of three things, each with its own data: aboard from the start to a node, from a node to the end,
 // or from one node to another.
@@ -21,6 +23,11 @@ pub struct Van {
     pub limit: usize,
 }
 
+impl Van {
+    // The most vans that a sheet has.
+    pub const MOST: usize = 8;
+}
+
 // A node of the day: the start, a ward or the end, named by its number.
 pub struct Node;
 
@@ -29,8 +36,9 @@ impl Node {
     pub const MOST: usize = 64;
 }
 
-// A step that a sheet or a caller asks for: its kind, and two words for the nodes that it names.
+// A step that a sheet or a caller asks for: the van it is for, its kind, and two words for the nodes that it names.
 pub struct Step {
+    pub van: usize,
     pub kind: usize,
     pub first: usize,
     pub second: usize,
@@ -53,6 +61,23 @@ impl Step {
     pub const LEVEL: usize = 6;
 
     pub const BACK: usize = 7;
+
+    pub const OBLIGE: usize = 8;
+
+    // What one van weighs in the first word of a step.
+    pub const VAN: usize = 256;
+
+    // The step that three words say.
+    pub fn said(word: usize, first: usize, second: usize) -> Step
+        ensures { λ r. ⌜ r ≡ stepSaid word first second ⌝ }
+    {
+        Step {
+            van: word / Step::VAN,
+            kind: word % Step::VAN,
+            first: first,
+            second: second,
+        }
+    }
 }
 
 // Why a sheet or a step is refused: 01's table of numbers. Each is explained in specs/Numbers.antt.
@@ -90,4 +115,8 @@ impl Refusal {
     pub const FORM: usize = 19;
 
     pub const MISFIT: usize = 20;
+
+    pub const VAN: usize = 21;
+
+    pub const CLAIMED: usize = 22;
 }

@@ -1,17 +1,18 @@
 -- All that is known of an accepted sheet, and the laws of code that reads one section after another.
-use Prim.Native.Nat.{ℕ, zero, suc, _+_, _*_, _<_}
+use Prim.Native.Nat.{ℕ, zero, suc, _+_, _*_, _%_, _<_}
 use mathlib.Core.Bool.{Bool, true, false, cond}
 use mathlib.Core.Path.{_≡_, refl, sym, ap, _∙_}
 use mathlib.Core.List.{List}
 use native.Mathlib.Nat.{suc-ne-zero}
 use native.Mathlib.Omega.{arith}
-use lib.Dec.{leb, eqb}
+use lib.Dec.{leb, ltb, eqb}
 use borrow.Author.Tests.{leb-true, eqb-true, ne-eqb}
-use Rattle.laws.specs.Basic.{orElse, unless}
+use Rattle.laws.specs.Basic.{allBelow, orElse, unless}
 use Rattle.laws.proofs.Choice.{or-else-first, or-else-next, or-else-zero, unless-zero}
 use Rattle.laws.proofs.Logic.{and-true}
-use Rattle.sheet.specs.Word.{size, wordAt}
-use Rattle.sheet.specs.Section.{vansAt, nodesAt, jobsAt, headRefusal, limitsRefusal, nodesRefusal, jobsRefusal, tableRefusal, stepsRefusal, laterRefusal, readRefusal}
+use Rattle.rules.specs.Numbers.{refusal, mostVans}
+use Rattle.sheet.specs.Word.{size, words, wordAt, limitsAtOk}
+use Rattle.sheet.specs.Section.{vansAt, vansOf, nodesAt, jobsAt, headRefusal, limitsRefusal, nodesRefusal, jobsRefusal, tableRefusal, stepsRefusal, laterRefusal, readRefusal}
 use Rattle.sheet.specs.declared.Part.{Part}
 use Rattle.sheet.specs.declared.Layout.{Layout}
 use Rattle.sheet.specs.declared.Found.{Found}
@@ -88,9 +89,16 @@ head-zero s at lo hi width h =
     }
 
 -- what sections that are not refused tell of their counts
-pub limits-zero : (s : List ℕ) → limitsRefusal s ≡ 0 → Headed s vansAt size.van size.van 1
+pub limits-zero : (s : List ℕ) → limitsRefusal s ≡ 0 → (wordAt s vansAt % size.van ≡ 0) × Headed s vansAt size.van (size.van * mostVans) 1
 unfolding limitsRefusal
-limits-zero s h = head-zero s _ _ _ _ (or-else-zero _ _ h .0)
+limits-zero s h =
+    let a = or-else-zero _ _ (or-else-zero _ _ h .1) in (eqb-true _ _ (unless-zero _ _ (a .0)), head-zero s _ _ _ _ (or-else-zero _ _ (a .1) .0))
+
+-- the limits of a sheet whose count is there and even: the tests that are left
+pub limits-left : (s : List ℕ) → ltb vansAt (words s) ≡ true → eqb (wordAt s vansAt % size.van) 0 ≡ true
+    → orElse (headRefusal s vansAt size.van (size.van * mostVans) 1) (unless (allBelow (vansOf s) (limitsAtOk s (vansAt + 1))) refusal.VALUE) ≡ limitsRefusal s
+unfolding limitsRefusal orElse
+limits-left s a b = rw (a, b) refl
 
 pub nodes-zero : (s : List ℕ) → nodesRefusal s ≡ 0 → Headed s (nodesAt s) 2 64 size.node
 unfolding nodesRefusal
@@ -127,17 +135,23 @@ fine s h =
     let h4 = or-else-zero _ _ (h3 .1) in
     let h5 = or-else-zero _ _ (h4 .1) in
     let h6 = or-else-zero _ _ (h5 .1) in
+    let vans = limits-zero s (h1 .0) in
+    let hv = vans .1 in
+    let even = vans .0 in
     let nodes = or-else-zero _ _ (h2 .0) in
     let jobs = or-else-zero _ _ (h3 .0) in
     let hn = head-zero s _ _ _ _ (nodes .0) in
     record {
+      vans-low = omega (arith, hv .low);
+      vans-high = omega (arith, hv .high);
+      pairs = omega (arith, even);
       n-low = hn .low;
       n-high = hn .high;
       m-high = head-zero s _ _ _ _ (jobs .0) .high;
       k-high = head-zero s _ _ _ _ (h6 .0) .high;
       whole = eqb-true _ _ (unless-zero _ _ (h0 .0));
       long = eqb-true _ _ (unless-zero _ _ (h6 .1));
-      limits = unless-zero _ _ (or-else-zero _ _ (h1 .0) .1);
+      limits = unless-zero _ _ (or-else-zero _ _ (or-else-zero _ _ (or-else-zero _ _ (h1 .0) .1) .1) .1);
       nodes = unless-zero _ _ (nodes .1);
       jobs = unless-zero _ _ (jobs .1);
       seconds = unless-zero _ _ (or-else-zero _ _ (h4 .0) .1);
@@ -148,6 +162,7 @@ laid : {s : List ℕ} {l : Layout} → Fine s → l ≡ layoutOf s → Laid s l
 laid f e = record {
   is = e;
   fine = f;
+  vans = ap (λ (l : Layout). l .vans) e;
   nodes = ap (λ (l : Layout). l .nodes) e;
   jobs = ap (λ (l : Layout). l .jobs) e;
   steps = ap (λ (l : Layout). l .steps) e;

@@ -6,8 +6,9 @@ use mathlib.Core.List.{List}
 use lib.ListN.{length}
 use lib.Dec.{eqb}
 use Rattle.laws.specs.Basic.{allBelow}
-use Rattle.sheet.specs.Word.{size, words, wordAt, limitsOk, nodeAtOk, jobAtOk, entryOk}
-use Rattle.sheet.specs.Section.{stepsAt, nOf, mOf, kOf, endOf, vansAt, nodesAt, jobsAt, secondsAt, metresAt}
+use Rattle.rules.specs.Numbers.{mostVans}
+use Rattle.sheet.specs.Word.{size, words, wordAt, limitsAtOk, nodeAtOk, jobAtOk, entryOk}
+use Rattle.sheet.specs.Section.{stepsAt, vansOf, nOf, mOf, kOf, endOf, vansAt, nodesAt, jobsAt, secondsAt, metresAt}
 use Rattle.sheet.specs.Section.{readRefusal}
 use Rattle.sheet.specs.declared.Part.{Part}
 use Rattle.sheet.specs.declared.Layout.{Layout}
@@ -34,6 +35,7 @@ pub record Stands (s : List ℕ) (at width : ℕ) (p : Part) : Type 0 where
 -- the layout that the sheet says: its counts, and the word of the first entry of each section
 abbrev pub layoutOf : List ℕ → Layout
 layoutOf s = record {
+  vans = vansOf s;
   nodes = nOf s;
   jobs = mOf s;
   steps = kOf s;
@@ -47,7 +49,7 @@ layoutOf s = record {
 
 -- the layout beside a refusal
 abbrev pub noLayout : Layout
-noLayout = record { nodes = 0; jobs = 0; steps = 0; van = 0; node = 0; job = 0; seconds = 0; metres = 0; step = 0 }
+noLayout = record { vans = 0; nodes = 0; jobs = 0; steps = 0; van = 0; node = 0; job = 0; seconds = 0; metres = 0; step = 0 }
 
 -- a sheet whose sections the number k refuses
 abbrev pub refused : ℕ → Found
@@ -67,13 +69,16 @@ pub record Headed (s : List ℕ) (at lo hi width : ℕ) : Type 0 where
 
 -- a sheet whose sections are not refused: how long it is, and every rule of its words
 pub record Fine (s : List ℕ) : Type 0 where
+  pub vans-low : 1 ≤ vansOf s
+  pub vans-high : vansOf s ≤ mostVans
+  pub pairs : wordAt s vansAt ≡ size.van * vansOf s
   pub n-low : 2 ≤ nOf s
   pub n-high : nOf s ≤ 64
   pub m-high : mOf s ≤ 155
   pub k-high : kOf s ≤ 2000
   pub whole : length s % 4 ≡ 0
   pub long : words s ≡ endOf s (stepsAt s) size.step
-  pub limits : limitsOk (wordAt s (vansAt + 1)) (wordAt s (vansAt + 2)) ≡ true
+  pub limits : allBelow (vansOf s) (limitsAtOk s (vansAt + 1)) ≡ true
   pub nodes : allBelow (nOf s) (nodeAtOk s (nodesAt s + 1)) ≡ true
   pub jobs : allBelow (mOf s) (jobAtOk s (nOf s) (jobsAt s + 1)) ≡ true
   pub seconds : allBelow (nOf s * nOf s) (entryOk s (secondsAt s + 1)) ≡ true
@@ -84,6 +89,7 @@ pub record Fine (s : List ℕ) : Type 0 where
 pub record Laid (s : List ℕ) (l : Layout) : Type 0 where
   pub is : l ≡ layoutOf s
   pub fine : Fine s
+  pub vans : l .vans ≡ vansOf s
   pub nodes : l .nodes ≡ nOf s
   pub jobs : l .jobs ≡ mOf s
   pub steps : l .steps ≡ kOf s

@@ -1,13 +1,13 @@
 -- The sections of a sheet: where each stands, and what reading them finds: "First the length, then sections in order (count, shortness, values), then
 -- leftovers".
-use Prim.Native.Nat.{ℕ, _+_, _*_, _%_}
+use Prim.Native.Nat.{ℕ, _+_, _*_, _/_, _%_}
 use mathlib.Core.Bool.{_&&_}
 use mathlib.Core.List.{List}
 use lib.ListN.{length}
 use lib.Dec.{leb, ltb, eqb}
 use Rattle.laws.specs.Basic.{allBelow, orElse, unless}
-use Rattle.rules.specs.Numbers.{refusal}
-use Rattle.sheet.specs.Word.{size, words, wordAt, limitsOk, nodeAtOk, jobAtOk, entryOk}
+use Rattle.rules.specs.Numbers.{refusal, mostVans}
+use Rattle.sheet.specs.Word.{size, words, wordAt, limitsAtOk, nodeAtOk, jobAtOk, entryOk}
 
 -- ---- where a section stands: the word of its count, then its first entry; each section behind the one before it
 
@@ -15,9 +15,13 @@ use Rattle.sheet.specs.Word.{size, words, wordAt, limitsOk, nodeAtOk, jo
 abbrev pub vansAt : ℕ
 vansAt = 0
 
+-- the number of vans that the sheet says: the count of the limits is of words, "twice the number of vans"
+abbrev pub vansOf : List ℕ → ℕ
+vansOf s = wordAt s vansAt / size.van
+
 -- the word of the count of section 2, the nodes
 abbrev pub nodesAt : List ℕ → ℕ
-nodesAt s = vansAt + 1 + size.van
+nodesAt s = vansAt + 1 + wordAt s vansAt
 
 -- the number of nodes that the sheet says
 abbrev pub nOf : List ℕ → ℕ
@@ -60,9 +64,13 @@ headRefusal s at lo hi width =
     (orElse (unless (leb lo (wordAt s at) && leb (wordAt s at) hi) refusal.COUNT)
     (unless (leb (endOf s at width) (words s)) refusal.SHORT))
 
--- "limits: count 2": the count is of words
+-- "The limits section's count becomes twice the number of vans, 2 to 16, pair by pair": the count is of words, and an odd one is out of its range too
 unfoldable pub limitsRefusal : List ℕ → ℕ
-limitsRefusal s = orElse (headRefusal s vansAt size.van size.van 1) (unless (limitsOk (wordAt s (vansAt + 1)) (wordAt s (vansAt + 2))) refusal.VALUE)
+limitsRefusal s =
+    orElse (unless (ltb vansAt (words s)) refusal.SHORT)
+    (orElse (unless (eqb (wordAt s vansAt % size.van) 0) refusal.COUNT)
+    (orElse (headRefusal s vansAt size.van (size.van * mostVans) 1)
+    (unless (allBelow (vansOf s) (limitsAtOk s (vansAt + 1))) refusal.VALUE)))
 
 -- "nodes: count n, 2 to 64"
 unfoldable pub nodesRefusal : List ℕ → ℕ

@@ -44,6 +44,10 @@ secondOk n kind a b = eqb kind 3 && (isInner n b && not (eqb a b)) || (eqb kind 
 abbrev pub jobOk : ℕ → ℕ → ℕ → ℕ → ℕ → Bool
 jobOk n kind a b load = isInner n a && (leb 1 load && leb load 1000) && secondOk n kind a b
 
+-- the i-th van's limits, where the entries begin at word `from`
+abbrev pub limitsAtOk : List ℕ → ℕ → ℕ → Bool
+limitsAtOk s from i = let p = from + size.van * i in limitsOk (wordAt s p) (wordAt s (p + 1))
+
 -- the i-th node, where the entries begin at word `from`
 abbrev pub nodeAtOk : List ℕ → ℕ → ℕ → Bool
 nodeAtOk s from i = let p = from + size.node * i in nodeOk (wordAt s p) (wordAt s (p + 1)) (wordAt s (p + 2))

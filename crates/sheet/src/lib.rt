@@ -4,7 +4,7 @@ ghost use mathlib.Core.Bool.{cond};
 ghost use Prim.Native.Nat.{_+_, _*_, _<_, _≤_};
 ghost use Rattle.laws.specs.Basic.{allBelow, orElse};
 ghost use Rattle.rules.specs.Day.{isInner};
-ghost use Rattle.sheet.specs.Word.{size, words, wordAt, Reads, limitsOk, nodeOk, secondOk, jobOk, nodeAtOk, jobAtOk, entryOk};
+ghost use Rattle.sheet.specs.Word.{size, words, wordAt, Reads, limitsOk, nodeOk, secondOk, jobOk, limitsAtOk, nodeAtOk, jobAtOk, entryOk};
 ghost use Rattle.sheet.specs.Section.{vansAt, nodesAt, jobsAt, stepsAt, nOf};
 ghost use Rattle.sheet.specs.Section.{headRefusal, limitsRefusal, nodesRefusal, jobsRefusal, tableRefusal, stepsRefusal, laterRefusal, readRefusal};
 ghost use Rattle.sheet.specs.Place.{noPart, partOf, Stands, refused, found};
@@ -12,9 +12,11 @@ use rules::Job;
 use rules::Node;
 use rules::Refusal;
 use rules::Step;
+use rules::Van;
 
-// Where an accepted sheet has what: how many nodes, jobs and steps, and the word of the first van, node, job, second, metre and step.
+// Where an accepted sheet has what: how many vans, nodes, jobs and steps, and the word of the first van, node, job, second, metre and step.
 pub struct Layout {
+    pub vans: usize,
     pub nodes: usize,
     pub jobs: usize,
     pub steps: usize,
@@ -50,6 +52,7 @@ impl Found {
         Found {
             answer: number,
             layout: Layout {
+                vans: 0,
                 nodes: 0,
                 jobs: 0,
                 steps: 0,
@@ -191,6 +194,28 @@ fn job_ok(n: u32, kind: u32, a: u32, b: u32, load: u32) -> bool
     is_inner(n, a) & ((1 <= load) & (load <= 1000)) & second_ok(n, kind, a, b)
 }
 
+fn limits_at_ok(s: &[u8], from: usize, i: usize) -> bool
+    requires { ⌜ from + size.van * i + size.van ≤ words (now s) ⌝ }
+    ensures { λ r. ⌜ r ≡ limitsAtOk (now (s .entry)) from i ⌝ }
+{
+    let p = from + Layout::VAN * i;
+    limits_ok(word(s, p), word(s, p + 1))
+}
+
+fn all_limits_ok(s: &[u8], from: usize, v: usize) -> bool
+    requires { ⌜ from + size.van * v ≤ words (now s) ⌝ }
+    ensures { λ r. ⌜ r ≡ allBelow v (limitsAtOk (now (s .entry)) from) ⌝ }
+{
+    let mut i = 0;
+    while i < v {
+        if !limits_at_ok(s, from, i) {
+            return false;
+        }
+        i += 1;
+    }
+    true
+}
+
 fn node_at_ok(s: &[u8], from: usize, i: usize) -> bool
     requires { ⌜ from + size.node * i + size.node ≤ words (now s) ⌝ }
     ensures { λ r. ⌜ r ≡ nodeAtOk (now (s .entry)) from i ⌝ }
@@ -295,21 +320,27 @@ fn square(n: usize) -> usize
     n * n
 }
 
-// Section 1, whose count is of words.
+// Section 1, whose count is of words: an odd one is refused before the section is found short.
 fn limits(s: &[u8]) -> Part
     ensures { λ r. ⌜ r ≡ partOf (now (s .entry)) vansAt 1 (limitsRefusal (now (s .entry))) ⌝ }
 {
-    let p = head(s, 0, Layout::VAN, Layout::VAN, 1);
+    if s.len() < 4 {
+        return Part::refused(Refusal::SHORT);
+    }
+    if word(s, 0) as usize % Layout::VAN != 0 {
+        return Part::refused(Refusal::COUNT);
+    }
+    let p = head(s, 0, Layout::VAN, Layout::VAN * Van::MOST, 1);
     if p.answer != 0 {
         return p;
     }
-    let ok = limits_ok(word(s, p.from), word(s, p.from + 1));
+    let ok = all_limits_ok(s, p.from, p.count / Layout::VAN);
     p.judged(ok, Refusal::VALUE)
 }
 
 // Section 2.
 fn nodes(s: &[u8], at: usize) -> Part
-    requires { ⌜ at ≡ nodesAt (now s) ⌝ }
+    requires { ⌜ (at ≡ nodesAt (now s)) × (at < 90000) ⌝ }
     ensures { λ r. ⌜ r ≡ partOf (now (s .entry)) (nodesAt (now (s .entry))) size.node (nodesRefusal (now (s .entry))) ⌝ }
 {
     let p = head(s, at, 2, Node::MOST, Layout::NODE);
@@ -322,7 +353,7 @@ fn nodes(s: &[u8], at: usize) -> Part
 
 // Section 3, of n nodes.
 fn jobs(s: &[u8], at: usize, n: usize) -> Part
-    requires { ⌜ (at ≡ jobsAt (now s)) × (n ≡ nOf (now s)) × (2 ≤ n) × (n ≤ 64) ⌝ }
+    requires { ⌜ (at ≡ jobsAt (now s)) × (at < 90000) × (n ≡ nOf (now s)) × (2 ≤ n) × (n ≤ 64) ⌝ }
     ensures { λ r. ⌜ r ≡ partOf (now (s .entry)) (jobsAt (now (s .entry))) size.job (jobsRefusal (now (s .entry))) ⌝ }
 {
     let p = head(s, at, 0, Job::MOST, Layout::JOB);
@@ -361,9 +392,10 @@ fn steps(s: &[u8], at: usize) -> Part
 }
 
 // Sections 4 to 6 of a sheet whose first three are fine.
-fn later(s: &[u8], van: usize, nodes: Part, jobs: Part) -> Found
-    requires { ⌜ (van ≡ vansAt + 1) × (nodesRefusal (now s) ≡ 0) × (jobsRefusal (now s) ≡ 0) × (readRefusal (now s) ≡ laterRefusal (now s)) ⌝ }
-    requires { ⌜ Stands (now s) (nodesAt (now s)) size.node nodes × Stands (now s) (jobsAt (now s)) size.job jobs ⌝ }
+fn later(s: &[u8], vans: Part, nodes: Part, jobs: Part) -> Found
+    requires { ⌜ (limitsRefusal (now s) ≡ 0) × (nodesRefusal (now s) ≡ 0) × (jobsRefusal (now s) ≡ 0) ⌝ }
+    requires { ⌜ Stands (now s) vansAt 1 vans × Stands (now s) (nodesAt (now s)) size.node nodes × Stands (now s) (jobsAt (now s)) size.job jobs ⌝ }
+    requires { ⌜ readRefusal (now s) ≡ laterRefusal (now s) ⌝ }
     ensures { λ r. ⌜ r ≡ found readRefusal (now (s .entry)) ⌝ }
 {
     let n = nodes.count;
@@ -382,10 +414,11 @@ fn later(s: &[u8], van: usize, nodes: Part, jobs: Part) -> Found
     Found {
         answer: 0,
         layout: Layout {
+            vans: vans.count / Layout::VAN,
             nodes: n,
             jobs: jobs.count,
             steps: steps.count,
-            van: van,
+            van: vans.from,
             node: nodes.from,
             job: jobs.from,
             seconds: seconds.from,
@@ -397,8 +430,9 @@ fn later(s: &[u8], van: usize, nodes: Part, jobs: Part) -> Found
 
 // Sections 3 to 6 of a sheet whose first two are fine. Each of these functions goes on to the next, and is no long list of calls: one that
 // stands behind many tests the compiler takes for rare and leaves a call, and then every number goes through memory.
-fn from_jobs(s: &[u8], van: usize, nodes: Part) -> Found
-    requires { ⌜ (van ≡ vansAt + 1) × (nodesRefusal (now s) ≡ 0) × Stands (now s) (nodesAt (now s)) size.node nodes ⌝ }
+fn from_jobs(s: &[u8], vans: Part, nodes: Part) -> Found
+    requires { ⌜ (limitsRefusal (now s) ≡ 0) × (nodesRefusal (now s) ≡ 0) ⌝ }
+    requires { ⌜ Stands (now s) vansAt 1 vans × Stands (now s) (nodesAt (now s)) size.node nodes ⌝ }
     requires { ⌜ readRefusal (now s) ≡ orElse (jobsRefusal (now s)) (laterRefusal (now s)) ⌝ }
     ensures { λ r. ⌜ r ≡ found readRefusal (now (s .entry)) ⌝ }
 {
@@ -406,7 +440,7 @@ fn from_jobs(s: &[u8], van: usize, nodes: Part) -> Found
     if jobs.answer != 0 {
         return Found::refused(jobs.answer);
     }
-    later(s, van, nodes, jobs)
+    later(s, vans, nodes, jobs)
 }
 
 // Reads the sections: the length, each section in order, what is left over; and hands on where they stand.
@@ -424,5 +458,5 @@ pub fn sections(s: &[u8]) -> Found
     if nodes.answer != 0 {
         return Found::refused(nodes.answer);
     }
-    from_jobs(s, vans.from, nodes)
+    from_jobs(s, vans, nodes)
 }

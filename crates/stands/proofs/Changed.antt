@@ -1,4 +1,4 @@
--- Each change of the board is the rules' step of the plan that it stands for.
+-- Each change of the board is the rules' step of the plan that it stands for; the marks "must go somewhere" are none of its plan.
 use Prim.Native.Nat.{ℕ, suc, _+_, _≤_, _<_}
 use mathlib.Core.Path.{_≡_, refl, ap, _∙_}
 use mathlib.Core.Bool.{true}
@@ -12,7 +12,7 @@ use Rattle.bits.specs.Places.{without}
 use Rattle.bits.proofs.Members.{false-true}
 use Rattle.board.specs.Route.{indexOf}
 use Rattle.board.specs.Board.{Board, routeOf, onRoute, setOf, openAt}
-use Rattle.board.specs.Change.{putSet, placedAfter, marked}
+use Rattle.board.specs.Change.{putSet, placedAfter, marked, obliged, unobliged}
 use Rattle.board.specs.Held.{FormedBoard, Wide, Splits}
 use Rattle.board.proofs.Inverse.{placed-route}
 use Rattle.board.proofs.PlaceLaws.{open-closed, open-excluded, open-placed, mark-marked}
@@ -52,3 +52,12 @@ excluded-stands b x h = plan-ext _ _ refl (λ y q. open-excluded b x y q h) (λ 
 pub required-stands : (b : Board) (x : ℕ) → x < 64 → planOf (marked b x) ≡ step.required x (planOf b)
 unfolding marked routeOf openAt setOf
 required-stands b x h = plan-ext _ _ refl (λ y q. refl) (λ y. mark-marked b x y h)
+
+-- step 8: a mark "must go somewhere" says nothing of the van's own plan, nor does its undoing
+pub obliged-stands : (b : Board) (x : ℕ) → planOf (obliged b x) ≡ planOf b
+unfolding obliged routeOf openAt setOf
+obliged-stands b x = refl
+
+pub unobliged-stands : (b : Board) (x : ℕ) → planOf (unobliged b x) ≡ planOf b
+unfolding unobliged routeOf openAt setOf
+unobliged-stands b x = refl

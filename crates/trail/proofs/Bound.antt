@@ -1,10 +1,12 @@
--- From a fresh state any accepted steps keep the record count at or below n(n − 2).
--- What a board is still worth: for each inner node off the route its open places, its mark, and one for each node not yet placed. Each record lowers it.
+-- From a fresh state any accepted steps keep the record count at or below n(n − 2), and one for each mark "must go somewhere": (n + 1)(n − 2).
+-- What a board is still worth: for each inner node off the route its open places, its mark, and one for each node not yet placed. Each record lowers
+-- it but that of a mark "must go somewhere", which stands for itself.
 use mathlib.Core.Path.{_≡_, refl, ap, sym, _∙_}
 use mathlib.Core.Bool.{Bool, true, false, cond, not, _&&_, and-false}
 use mathlib.Core.List.{List, []}
 use Prim.Native.Nat.{ℕ, zero, suc, _+_, _-_, _*_, _≤_, _<_, min}
-use native.Mathlib.Nat.{mul-suc, mul-le-mul-left}
+use native.Mathlib.Nat.{mul-suc, suc-mul, mul-le-mul-left}
+use native.Mathlib.Numerals.{add-one}
 use native.Mathlib.Omega.{arith}
 use lib.ListN.{getD}
 use lib.Dec.{eqb}
@@ -12,24 +14,25 @@ use borrow.Author.Tests.{eqb-true, eqb-false, not-true}
 use Rattle.laws.proofs.Logic.{decided, and-true}
 use Rattle.laws.proofs.Sum.{sum-le, sum-lt}
 use Rattle.laws.specs.Basic.{sumBelow}
-use Rattle.bits.specs.Places.{has, with, within}
-use Rattle.bits.proofs.Members.{has-none, with-same, with-other}
-use Rattle.bits.proofs.Number.{members, members-strict, members-most, members-first}
+use Rattle.bits.specs.Places.{digit, has, with, within}
+use Rattle.bits.proofs.Digits.{digit-lt}
+use Rattle.bits.proofs.Members.{digit-not, has-none, with-same, with-other}
+use Rattle.bits.proofs.Number.{members, members-none, members-with, members-strict, members-most, members-first}
 use Rattle.rules.specs.Day.{isInner}
 use Rattle.rules.proofs.Inner.{is-inner}
 use Rattle.board.specs.Board.{Board, board, boardOf, onRoute, routeOf, setOf}
 use Rattle.board.specs.Fresh.{freshState, freshSet}
 use Rattle.board.proofs.FreshForm.{fresh-is, freshBoard, fresh-wide, fresh-set, fresh-off, fresh-formed, fresh-inform, fresh-held}
-use Rattle.board.specs.Change.{heir, putSet, placedAfter, marked}
+use Rattle.board.specs.Change.{heir, putSet, placedAfter, marked, obliged}
 use Rattle.board.proofs.FormLaws.{room-left}
-use Rattle.board.specs.Held.{Words, Sound, Splits}
+use Rattle.board.specs.Held.{Words, FormedBoard, Sound, Splits}
 use Rattle.board.specs.declared.State.{State}
-use Rattle.board.proofs.Keep.{put-same, put-other, placed-set, placed-on, placed-others, heir-yes, heir-no}
+use Rattle.board.proofs.Keep.{must-inner, put-same, put-other, placed-set, placed-on, placed-others, heir-yes, heir-no}
 use Rattle.trail.specs.Trail.{shrunk}
 use Rattle.trail.specs.Undo.{strictly, Undone}
 use Rattle.trail.specs.Steps.{undoLevel, baseOf}
 use Rattle.trail.proofs.StepLaws.{Free}
-use Rattle.trail.proofs.Small.{Small, shrinks, places, marks}
+use Rattle.trail.proofs.Small.{Small, shrinks, places, marks, obliges, put-marks, placed-marks}
 use Rattle.trail.proofs.Spells.{Spells, none, more, spells-sound, spells-undo}
 use Rattle.trail.specs.Run.{Smaller, Runs}
 use Rattle.trail.specs.Run as run
@@ -141,39 +144,54 @@ places-less n b p x s f =
     other n b p x y (placed-others n b p x (s .small) (s .wide) (s .form) f y d) (placed-set n b p x (s .small) (s .wide) (s .form) f y m d) l left))
     l less
 
--- ---- all three, and many
+-- ---- a mark "must go somewhere"
 
-pub small-less : {n : ℕ} {b : Board} {a w : ℕ} {c : Board} → Sound n b → Small n b a w c → worth n c < worth n b
-small-less {n = n} {b = b} s (shrinks x v f t h i j k) = rw k (shrinks-less n b x v s f t)
-small-less {n = n} {b = b} s (places p x f o i j k) = rw k (places-less n b p x s f)
-small-less {n = n} {b = b} s (marks x f o i j k) = rw k (marks-less n b x s f o)
+pub mark-must : (b : Board) (x : ℕ) → marked b x .must ≡ b .must
+unfolding marked
+mark-must b x = refl
 
-pub spells-worth : {n : ℕ} {t : List ℕ} {b : Board} {k m : ℕ} {c : Board} → Sound n b → Spells n t b k m c → worth n c + m ≤ worth n b
+oblige-worth : (n : ℕ) (b : Board) (x : ℕ) → worth n (obliged b x) ≡ worth n b
+unfolding worth weight onRoute routeOf setOf obliged
+oblige-worth n b x = refl
+
+oblige-more : (n : ℕ) (b : Board) (x : ℕ) → Sound n b → isInner n x ≡ true → has (b .must) x ≡ false → members 64 (obliged b x .must) ≡ members 64 (b .must) + 1
+unfolding obliged
+oblige-more n b x s i o = let l : x < 64 = omega (arith, is-inner n x i .1, s .small) in members-with 64 (b .must) x l l o
+
+-- ---- all four, and many
+
+pub small-less : {n : ℕ} {b : Board} {a w : ℕ} {c : Board} → Sound n b → Small n b a w c → worth n c + 1 + members 64 (b .must) ≤ worth n b + members 64 (c .must)
+small-less {n = n} {b = b} s (shrinks x v f t h i j k) = rw k (omega (arith, shrinks-less n b x v s f t, ap (members 64) (put-marks b x v .1)))
+small-less {n = n} {b = b} s (places p x f o i j k) = rw k (omega (arith, places-less n b p x s f, ap (members 64) (placed-marks b p x .1)))
+small-less {n = n} {b = b} s (marks x f o i j k) = rw k (omega (arith, marks-less n b x s f o, ap (members 64) (mark-must b x)))
+small-less {n = n} {b = b} s (obliges x f o i j k) = rw k (omega (arith, oblige-worth n b x, oblige-more n b x s f o))
+
+pub spells-worth : {n : ℕ} {t : List ℕ} {b : Board} {k m : ℕ} {c : Board} → Sound n b → Spells n t b k m c → worth n c + m + members 64 (b .must) ≤ worth n b + members 64 (c .must)
 spells-worth s none = omega arith
 spells-worth s (more p q) = omega (arith, spells-worth s p, small-less (spells-sound s p) q)
 
 -- ---- settling: each set that shrank lowers it
 
-new-road : (b : Board) (new : List ℕ) (y : ℕ) → (onRoute (board (b .route) (b .stops) new (b .marks)) y ≡ onRoute b y) × (setOf (board (b .route) (b .stops) new (b .marks)) y ≡ getD new y 0)
+new-road : (b : Board) (new : List ℕ) (y : ℕ) → (onRoute (board (b .route) (b .stops) new (b .marks) (b .must)) y ≡ onRoute b y) × (setOf (board (b .route) (b .stops) new (b .marks) (b .must)) y ≡ getD new y 0)
 unfolding onRoute routeOf setOf
 new-road b new y = (refl, refl)
 
-settle-same : (n : ℕ) (b : Board) (new : List ℕ) (y : ℕ) → setOf b y ≡ getD new y 0 → weight n (board (b .route) (b .stops) new (b .marks)) y ≡ weight n b y
+settle-same : (n : ℕ) (b : Board) (new : List ℕ) (y : ℕ) → setOf b y ≡ getD new y 0 → weight n (board (b .route) (b .stops) new (b .marks) (b .must)) y ≡ weight n b y
 unfolding weight
 settle-same n b new y e = let r = new-road b new y in rw (r .1, r .0, e)
 
 settle-one : (n : ℕ) (b : Board) (new : List ℕ) (y : ℕ) → isInner n y ≡ true → onRoute b y ≡ false → members 64 (getD new y 0) < members 64 (setOf b y)
-    → weight n (board (b .route) (b .stops) new (b .marks)) y < weight n b y
+    → weight n (board (b .route) (b .stops) new (b .marks) (b .must)) y < weight n b y
 settle-one n b new y i o q =
     let r = new-road b new y in
-    rw (weight-free n (board (b .route) (b .stops) new (b .marks)) y i (r .0 ∙ o), weight-free n b y i o, r .1) (omega (arith, q))
+    rw (weight-free n (board (b .route) (b .stops) new (b .marks) (b .must)) y i (r .0 ∙ o), weight-free n b y i o, r .1) (omega (arith, q))
 
 sets-at : (b : Board) (y : ℕ) → setOf b y ≡ getD (b .sets) y 0
 unfolding setOf
 sets-at b y = refl
 
 settle-less : (n : ℕ) (b : Board) (new : List ℕ) → Sound n b → Words b → Smaller (b .sets) new → (k : ℕ) → k ≤ 64
-    → sumBelow k (weight n (board (b .route) (b .stops) new (b .marks))) + shrunk (b .sets) new k ≤ sumBelow k (weight n b)
+    → sumBelow k (weight n (board (b .route) (b .stops) new (b .marks) (b .must))) + shrunk (b .sets) new k ≤ sumBelow k (weight n b)
 unfolding sumBelow shrunk strictly
 settle-less n b new s h g zero l = omega arith
 settle-less n b new s h g (suc k) l =
@@ -210,12 +228,30 @@ fresh-weight n two small y l =
     (λ e. rw (fresh-set n two small y l, e, fresh-off n two small y e, has-none y, members-first) (omega arith))
     (λ e. rw e (omega arith))
 
+-- there are n - 2 inner nodes
+inner-all : (n m : ℕ) → 2 ≤ n → n ≤ 64 → sumBelow 64 (λ y. cond (isInner n y) m 0) ≤ m * (n - 2)
+inner-all n m two small = let z : min 64 (n - 1) - 1 ≡ n - 2 = omega arith in rw z at (inner-sum n m 64)
+
 pub fresh-worth : (n : ℕ) → 2 ≤ n → n ≤ 64 → worth n (freshBoard n) ≤ n * (n - 2)
 unfolding worth
 fresh-worth n two small =
-    let z : min 64 (n - 1) - 1 ≡ n - 2 = omega arith in
-    let i : sumBelow 64 (λ y. cond (isInner n y) n 0) ≤ n * (n - 2) = rw z at (inner-sum n n 64) in
-    omega (arith, i, sum-le 64 (weight n (freshBoard n)) (λ y. cond (isInner n y) n 0) (fresh-weight n two small))
+    omega (arith, inner-all n n two small, sum-le 64 (weight n (freshBoard n)) (λ y. cond (isInner n y) n 0) (fresh-weight n two small))
+
+-- ---- at most n - 2 marks "must go somewhere"
+
+one-must : (n : ℕ) (b : Board) → FormedBoard n b → (y : ℕ) → y < 64 → digit (b .must) y ≤ cond (isInner n y) 1 0
+one-must n b f y l =
+    decided (has (b .must) y)
+    (λ h. rw (must-inner n b f y l h) (omega (arith, digit-lt (b .must) y)))
+    (λ h. omega (arith, digit-not (b .must) y h))
+
+pub must-most : (n : ℕ) (b : Board) → 2 ≤ n → n ≤ 64 → FormedBoard n b → members 64 (b .must) ≤ n - 2
+unfolding members
+must-most n b two small f = omega (arith, inner-all n 1 two small, sum-le 64 (digit (b .must)) (λ y. cond (isInner n y) 1 0) (one-must n b f))
+
+-- (n + 1) times a number
+pub one-more : (n m : ℕ) → (n + 1) * m ≡ n * m + m
+one-more n m = ap (λ (k : ℕ). k * m) (add-one n) ∙ suc-mul n m
 
 -- ---- runs from a fresh state
 
@@ -248,24 +284,42 @@ module _ (n : ℕ) (two : 2 ≤ n) (small : n ≤ 64) (t : List ℕ) (r : State)
   pub reached : Since n (freshBoard n) 0 0 [] t r u
   reached = runs-since fresh-sound (fresh-held n two small .words) start run
 
-  all-records : worth n (boardOf r) + r .records ≤ n * (n - 2)
+  all-records : worth n (boardOf r) + r .records ≤ n * (n - 2) + members 64 (r .must)
   all-records =
       let z : r .records - 0 ≡ r .records = omega arith in
-      let w : worth n (boardOf r) + r .records ≤ worth n (freshBoard n) = rw z at (spells-worth fresh-sound (reached .spelled)) in
+      let w : worth n (boardOf r) + r .records + members 64 0 ≤ worth n (freshBoard n) + members 64 (r .must) = rw z at (spells-worth fresh-sound (reached .spelled)) in
       omega (arith, w, fresh-worth n two small)
-
-  -- FROM FRESH any accepted steps keep the record count at or below n(n − 2)
-  pub records-bound : r .records ≤ n * (n - 2)
-  records-bound = omega (arith, all-records)
 
   sound : Sound n (boardOf r)
   sound = record { small = small; wide = reached .held .wide; form = reached .form .board }
 
+  -- ---- how many marks "must go somewhere" there can be
+
+  -- with room for (n + 1)(n − 2) there is room for any
+  pub space-full : (k : ℕ) → (n + 1) * (n - 2) ≤ k → n * (n - 2) + members 64 (r .must) ≤ k
+  space-full k h = omega (arith, must-most n (boardOf r) two small (reached .form .board), one-more n (n - 2))
+
+  -- with none room for n(n − 2) is enough
+  pub space-plain : (k : ℕ) → r .must ≡ 0 → n * (n - 2) ≤ k → n * (n - 2) + members 64 (r .must) ≤ k
+  space-plain k z h = rw (z, members-none 64) (omega arith)
+
+  -- FROM FRESH any accepted steps keep the record count at or below n(n − 2) and one for each mark "must go somewhere"
+  pub records-must : r .records ≤ n * (n - 2) + members 64 (r .must)
+  records-must = omega (arith, all-records)
+
+  -- so at or below (n + 1)(n − 2)
+  pub records-bound : r .records ≤ (n + 1) * (n - 2)
+  records-bound = omega (arith, records-must, space-full ((n + 1) * (n - 2)) (omega arith))
+
+  -- and with no such mark at or below n(n − 2)
+  pub records-bound-plain : r .must ≡ 0 → r .records ≤ n * (n - 2)
+  records-bound-plain z = omega (arith, records-must, space-plain (n * (n - 2)) z (omega arith))
+
   -- so with that room one record more never exceeds it, and neither does a settling
-  pub record-room : (a w : ℕ) (c : Board) → Small n (boardOf r) a w c → r .records < n * (n - 2)
+  pub record-room : (a w : ℕ) (c : Board) → Small n (boardOf r) a w c → r .records < n * (n - 2) + members 64 (c .must)
   record-room a w c q = omega (arith, all-records, small-less sound q)
 
-  pub settle-room : (new : List ℕ) → Smaller (r .sets) new → r .records + shrunk (r .sets) new 64 ≤ n * (n - 2)
+  pub settle-room : (new : List ℕ) → Smaller (r .sets) new → r .records + shrunk (r .sets) new 64 ≤ n * (n - 2) + members 64 (r .must)
   unfolding worth
   settle-room new g = omega (arith, all-records, settle-less n (boardOf r) new sound (reached .held .words) g 64 (omega arith))
 

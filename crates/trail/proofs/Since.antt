@@ -21,18 +21,18 @@ use Rattle.rules.specs.Day.{isInner}
 use Rattle.rules.proofs.Inner.{is-inner}
 use Rattle.board.specs.Board.{Board, board, boardOf, stateOf, onBoard, onRoute, legsOf, setOf, openAt}
 use Rattle.board.specs.Form.{setOk}
-use Rattle.board.specs.Change.{putSet, placedAfter, marked}
+use Rattle.board.specs.Change.{putSet, placedAfter, marked, obliged}
 use Rattle.board.specs.Held.{Words, Held, Sound, Levels, InForm}
 use Rattle.board.specs.declared.State.{State}
 use Rattle.trail.specs.Trail.{roomOf, pushed, firstOf, secondOf, change, firstWord, shrunk, noteOne, noteBelow}
 use Rattle.trail.proofs.TrailLaws.{pushed-first, pushed-second, pushed-long, pushed-room, pushed-other, shrunk-upto, shrunk-differ, note-same, note-differ, note-all, Noted}
-use Rattle.trail.specs.Refusals.{placeRefusal, excludeRefusal, requireRefusal}
+use Rattle.trail.specs.Refusals.{placeRefusal, excludeRefusal, requireRefusal, obligeRefusal}
 use Rattle.trail.specs.Undo.{strictly, undoMany}
-use Rattle.trail.specs.Steps.{Ran, acted, answered, unlessRefused, recorded, shrank, placeStep, closeStep, excludeStep, requireStep, settleStep, levelStep, backStep, baseOf, undoLevel, dropped}
-use Rattle.trail.proofs.StepLaws.{step-yes, step-zero, placeable, Free, excludable, requirable}
-use Rattle.trail.proofs.Small.{Small, shrinks, places, marks, small-sound, small-words}
+use Rattle.trail.specs.Steps.{Ran, acted, answered, unlessRefused, recorded, shrank, placeStep, closeStep, excludeStep, requireStep, settleStep, levelStep, backStep, obligeStep, baseOf, undoLevel, dropped}
+use Rattle.trail.proofs.StepLaws.{step-yes, step-zero, placeable, Free, excludable, requirable, obligeable}
+use Rattle.trail.proofs.Small.{Small, shrinks, places, marks, obliges, small-sound, small-words}
 use Rattle.trail.proofs.Spells.{Spells, more, spells-sound, spells-words, spells-agree, spells-undo}
-use Rattle.trail.specs.Run.{Smaller, Move, place, close, exclude, require, settle, level, back}
+use Rattle.trail.specs.Run.{Smaller, Move, place, close, exclude, require, settle, level, back, oblige}
 
 pub record Since (n : ℕ) (b : Board) (k d : ℕ) (levels t₀ : List ℕ) (s : State) (t : List ℕ) : Type 0 where
   pub small : n ≤ 64
@@ -197,6 +197,16 @@ module _ (n : ℕ) (b : Board) (k d : ℕ) (levels t₀ : List ℕ) where
       (λ z. at-ran (rw z at (a .1)) h)
       (λ z. at-ran (rw z at (a .1)) (record-since s t (firstWord change.MARKING x) 0 (marked (boardOf s) x) h (marks x (o .0) z refl refl refl) (o .1 z)))
 
+  oblige-since : {j : ℕ} (s : State) (t : List ℕ) (x : ℕ) (r : State) (u : List ℕ) → Since n b k d levels t₀ s t → obligeStep n s t x ≡ acted 0 j r u → Since n b k d levels t₀ r u
+  unfolding obligeStep recorded
+  oblige-since s t x r u h e =
+      let ran = cond (has (s .must) x) (answered 0 s t) (recorded s t (obliged (boardOf s) x) (firstWord change.OBLIGING x) 0) in
+      let a = accepted (obligeRefusal n (boardOf s) (s .records) (roomOf t) x) s t ran r u e in
+      let o = obligeable n (boardOf s) (s .records) (roomOf t) x (a .0) in
+      decided (has (s .must) x)
+      (λ z. at-ran (rw z at (a .1)) h)
+      (λ z. at-ran (rw z at (a .1)) (record-since s t (firstWord change.OBLIGING x) 0 (obliged (boardOf s) x) h (obliges x (o .0) z refl refl refl) (o .1 z)))
+
   -- ---- settling: node by node
 
   module _ (s : State) (t new : List ℕ) (h : Since n b k d levels t₀ s t) (g : Smaller (s .sets) new) (l : s .records + shrunk (s .sets) new 64 ≤ roomOf t) where
@@ -204,7 +214,7 @@ module _ (n : ℕ) (b : Board) (k d : ℕ) (levels t₀ : List ℕ) where
     noted y = noteBelow (s .sets) new y (s .records, t)
 
     abbrev upto : ℕ → State
-    upto y = onBoard s (board (s .route) (s .stops) (swept (s .sets) new y) (s .marks)) (noteBelow (s .sets) new y (s .records, t) .0)
+    upto y = onBoard s (board (s .route) (s .stops) (swept (s .sets) new y) (s .marks) (s .must)) (noteBelow (s .sets) new y (s .records, t) .0)
 
     long : length new ≡ length (s .sets)
     long = g .long ∙ sym (h .held .wide .sets)
@@ -214,7 +224,7 @@ module _ (n : ℕ) (b : Board) (k d : ℕ) (levels t₀ : List ℕ) where
     unfolding setOf
     old-set y = swept-ahead (s .sets) new y y long (omega arith)
 
-    next-board : (y : ℕ) → y < 64 → putSet (boardOf (upto y)) y (getD new y 0) ≡ board (s .route) (s .stops) (swept (s .sets) new (y + 1)) (s .marks)
+    next-board : (y : ℕ) → y < 64 → putSet (boardOf (upto y)) y (getD new y 0) ≡ board (s .route) (s .stops) (swept (s .sets) new (y + 1)) (s .marks) (s .must)
     unfolding putSet
     next-board y m = rw (swept-more (s .sets) new y long (omega (arith, h .held .wide .sets)))
 
@@ -260,13 +270,13 @@ module _ (n : ℕ) (b : Board) (k d : ℕ) (levels t₀ : List ℕ) where
     all-noted : noted 64 .0 ≡ s .records + shrunk (s .sets) new 64
     all-noted = note-all (s .sets) new 64 (s .records) t .0
 
-    settled-since : Since n b k d levels t₀ (onBoard s (board (s .route) (s .stops) new (s .marks)) (s .records + shrunk (s .sets) new 64)) (noted 64 .1)
+    settled-since : Since n b k d levels t₀ (onBoard s (board (s .route) (s .stops) new (s .marks) (s .must)) (s .records + shrunk (s .sets) new 64)) (noted 64 .1)
     settled-since = rw (swept-end (s .sets) new 64 (omega (arith, h .held .wide .sets)) (omega (arith, g .long)), all-noted) at (turns 64 (omega arith))
 
   settle-since : {j : ℕ} (s : State) (t : List ℕ) (rounds : ℕ) (new : List ℕ) (r : State) (u : List ℕ) → Since n b k d levels t₀ s t → Smaller (s .sets) new → settleStep s t rounds new ≡ acted 0 j r u → Since n b k d levels t₀ r u
   unfolding settleStep
   settle-since s t rounds new r u h g e =
-      let ran = acted 0 rounds (onBoard s (board (s .route) (s .stops) new (s .marks)) (s .records + shrunk (s .sets) new 64)) (noteBelow (s .sets) new 64 (s .records, t) .1) in
+      let ran = acted 0 rounds (onBoard s (board (s .route) (s .stops) new (s .marks) (s .must)) (s .records + shrunk (s .sets) new 64)) (noteBelow (s .sets) new 64 (s .records, t) .1) in
       let a = accepted (unless (leb (s .records + shrunk (s .sets) new 64) (roomOf t)) refusal.ROOM) s t ran r u e in
       at-ran (a .1) (settled-since s t new h g (leb-true _ _ (passed (leb (s .records + shrunk (s .sets) new 64) (roomOf t)) refusal.ROOM refl (a .0))))
 
@@ -275,7 +285,7 @@ module _ (n : ℕ) (b : Board) (k d : ℕ) (levels t₀ : List ℕ) where
   level-since : {j : ℕ} (s : State) (t : List ℕ) (r : State) (u : List ℕ) → Since n b k d levels t₀ s t → levelStep s t ≡ acted 0 j r u → Since n b k d levels t₀ r u
   unfolding levelStep
   level-since s t r u h e =
-      let q = stateOf (s .route) (s .stops) (s .sets) (s .marks) (set (s .levels) (s .depth) (s .records)) (s .depth + 1) (s .records) in
+      let q = stateOf (s .route) (s .stops) (s .sets) (s .marks) (s .must) (set (s .levels) (s .depth) (s .records)) (s .depth + 1) (s .records) in
       let a = accepted (unless (ltb (s .depth) 64) refusal.DEPTH) s t (answered 0 q t) r u e in
       let l = ltb-true (s .depth) 64 (passed (ltb (s .depth) 64) refusal.DEPTH refl (a .0)) in
       let same = getD-set-same (s .levels) (s .depth) (s .records) 0 (omega (arith, h .held .levels)) in
@@ -337,6 +347,7 @@ module _ (n : ℕ) (b : Board) (k d : ℕ) (levels t₀ : List ℕ) where
   step-since s t r u h (settle rounds new g e) = inl (settle-since s t rounds new r u h g e)
   step-since s t r u h (level e) = inl (level-since s t r u h e)
   step-since s t r u h (back e) = inr (_, e)
+  step-since s t r u h (oblige x e) = inl (oblige-since s t x r u h e)
 
   -- an accepted step that leaves d levels open
   pub move-since : (s : State) (t : List ℕ) (r : State) (u : List ℕ) → Sound n b → Words b → Since n b k d levels t₀ s t → Move n s t r u → d ≤ r .depth → Since n b k d levels t₀ r u

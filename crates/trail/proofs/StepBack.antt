@@ -62,7 +62,7 @@ run-since {n = n} {b = b} {k = k} {d = d} {levels = levels} {t₀ = t₀} f w h 
 module _ (n : ℕ) (s₀ : State) (t₀ : List ℕ) (small : n ≤ 64) (held : Held s₀) (form : InForm n s₀) (room : s₀ .records ≤ roomOf t₀)
     (s₁ : State) (t₁ : List ℕ) {j : ℕ} (opened : levelStep s₀ t₀ ≡ acted 0 j s₁ t₁) where
   next : State
-  next = stateOf (s₀ .route) (s₀ .stops) (s₀ .sets) (s₀ .marks) (set (s₀ .levels) (s₀ .depth) (s₀ .records)) (s₀ .depth + 1) (s₀ .records)
+  next = stateOf (s₀ .route) (s₀ .stops) (s₀ .sets) (s₀ .marks) (s₀ .must) (set (s₀ .levels) (s₀ .depth) (s₀ .records)) (s₀ .depth + 1) (s₀ .records)
 
   opened-is : (s₀ .depth < 64) × (s₁ ≡ next)
   unfolding levelStep next

@@ -5,20 +5,22 @@ use mathlib.Core.List.{List}
 use Prim.Native.Nat.{ℕ, _+_, _-_, _≤_, _<_}
 use native.Mathlib.Omega.{arith}
 use lib.Dec.{eqb, ltb}
+use lib.ListN.{getD}
 use borrow.Author.Tests.{eqb-true, eqb-false, ne-eqb, ltb-true, not-true, lt-ltb, le-ltb, le-leb}
 use Rattle.laws.proofs.Logic.{decided, and-true}
-use Rattle.laws.proofs.Choice.{or-else-zero, passed}
+use Rattle.laws.proofs.Choice.{or-else-first, or-else-zero, passed}
 use Rattle.laws.specs.Basic.{orElse, unless}
 use Rattle.bits.specs.Places.{has}
 use Rattle.bits.proofs.Members.{false-true}
 use Rattle.rules.specs.Numbers.{refusal}
 use Rattle.rules.specs.Day.{isInner}
+use Rattle.rules.proofs.Inner.{is-inner}
 use Rattle.board.specs.Board.{Board, boardOf, onBoard, onRoute, setOf, openAt, legNode}
 use Rattle.board.specs.Held.{InForm, Splits}
 use Rattle.board.specs.declared.State.{State}
 use Rattle.trail.specs.Trail.{roomOf, shrunk}
 use Rattle.trail.proofs.TrailLaws.{shrunk-still, note-still, Noted}
-use Rattle.trail.specs.Refusals.{placeRefusal, excludeRefusal, requireRefusal}
+use Rattle.trail.specs.Refusals.{placeShut, placeRefusal, excludeRefusal, requireRefusal, obligeRefusal}
 use Rattle.trail.specs.Steps.{Ran, answered, unlessRefused, settleStep, baseOf, undoLevel, dropped, backStep}
 
 pub step-no : (k : ℕ) (s : State) (t : List ℕ) (ran : Ran) → (k ≡ 0 → ⊥) → unlessRefused k s t ran ≡ answered k s t
@@ -42,19 +44,34 @@ pub record Placeable (n : ℕ) (b : Board) (records room p x : ℕ) : Type 0 whe
   pub place : openAt b x p ≡ true
   pub left : records < room
 
-pub placeable : (n : ℕ) (b : Board) (records room p x : ℕ) → placeRefusal n b records room p x ≡ 0 → Placeable n b records room p x
-unfolding placeRefusal
-placeable n b records room p x e =
+-- the place is open
+pub not-shut : (n : ℕ) (b : Board) (p x : ℕ) → placeShut n b p x ≡ 0 → Splits n b p x × (openAt b x p ≡ true)
+unfolding placeShut
+not-shut n b p x e =
     let h = or-else-zero (unless (isInner n x && legNode n p) refusal.NODE) _ e in
     let i = and-true (isInner n x) (legNode n p) (passed (isInner n x && legNode n p) refusal.NODE refl (h .0)) in
     let o = or-else-zero (unless (not (onRoute b x)) refusal.PLACED) _ (h .1) in
-    let q = or-else-zero (unless (onRoute b p) refusal.UNPLACED) _ (o .1) in
-    let r = or-else-zero (unless (openAt b x p) refusal.SHUT) _ (q .1) in
-    record {
-      split = record { node = i .0; leg = i .1; off = not-true (onRoute b x) (passed (not (onRoute b x)) refusal.PLACED refl (o .0)); on = passed (onRoute b p) refusal.UNPLACED refl (q .0) };
-      place = passed (openAt b x p) refusal.SHUT refl (r .0);
-      left = ltb-true records room (passed (ltb records room) refusal.ROOM refl (r .1));
-    }
+    let q = or-else-zero (unless (onRoute b p) refusal.UNPLACED) _ (o .1) in (
+      record { node = i .0; leg = i .1; off = not-true (onRoute b x) (passed (not (onRoute b x)) refusal.PLACED refl (o .0)); on = passed (onRoute b p) refusal.UNPLACED refl (q .0) },
+      passed (openAt b x p) refusal.SHUT refl (q .1),
+    )
+
+pub placeable : (n : ℕ) (b : Board) (records room p x : ℕ) → placeRefusal n b records room p x ≡ 0 → Placeable n b records room p x
+unfolding placeRefusal
+placeable n b records room p x e =
+    let h = or-else-zero (placeShut n b p x) _ e in
+    let s = not-shut n b p x (h .0) in
+    record { split = s .0; place = s .1; left = ltb-true records room (passed (ltb records room) refusal.ROOM refl (h .1)) }
+
+-- a shut place refuses, whatever the room
+pub place-shut : (n : ℕ) (b : Board) (records room p x : ℕ) → (placeShut n b p x ≡ 0 → ⊥) → placeRefusal n b records room p x ≡ placeShut n b p x
+unfolding placeRefusal
+place-shut n b records room p x h = sym (or-else-first (placeShut n b p x) _ h)
+
+-- an open place and room for one record: nothing refuses
+pub place-open : (n : ℕ) (b : Board) (records room p x : ℕ) → placeShut n b p x ≡ 0 → records < room → placeRefusal n b records room p x ≡ 0
+unfolding placeRefusal orElse
+place-open n b records room p x e h = rw (e, lt-ltb records room h)
 
 -- x may change: it is an inner node off the route
 pub record Free (n : ℕ) (b : Board) (x : ℕ) : Type 0 where
@@ -77,6 +94,22 @@ excludable n b records room owed x e =
       λ d. ltb-true records room (or-left (eqb (setOf b x) 0) (ltb records room) r (ne-eqb (setOf b x) 0 d)),
     )
 
+-- what is excluded is not owed
+pub not-owed : (n : ℕ) (b : Board) (records room : ℕ) (owed : Bool) (x : ℕ) → excludeRefusal n b records room owed x ≡ 0 → owed ≡ false
+unfolding excludeRefusal
+not-owed n b records room owed x e =
+    let h = or-else-zero (unless (isInner n x) refusal.NODE) _ e in
+    let o = or-else-zero (unless (not (onRoute b x)) refusal.PLACED) _ (h .1) in
+    not-true owed (passed (not owed) refusal.OWED refl (or-else-zero (unless (not owed) refusal.OWED) _ (o .1) .0))
+
+-- so it has a set, and there is room for its record: what the doing of it asks
+pub shut-out-asks : (n : ℕ) (b : Board) (records room : ℕ) (owed : Bool) (x : ℕ) → n ≤ 64 → excludeRefusal n b records room owed x ≡ 0
+    → (x < 64) × ((getD (b .sets) x 0 ≡ 0 → ⊥) → records < room)
+unfolding setOf
+shut-out-asks n b records room owed x small e =
+    let h = excludable n b records room owed x e in
+    (omega (arith, is-inner n x (h .0 .node) .1, small), h .1)
+
 pub requirable : (n : ℕ) (b : Board) (records room x : ℕ) → requireRefusal n b records room x ≡ 0
     → Free n b x × (has (b .marks) x ≡ false → records < room)
 unfolding requireRefusal
@@ -87,6 +120,14 @@ requirable n b records room x e =
       record { node = passed (isInner n x) refusal.NODE refl (h .0); off = not-true (onRoute b x) (passed (not (onRoute b x)) refusal.PLACED refl (o .0)) },
       λ d. ltb-true records room (or-left (has (b .marks) x) (ltb records room) r d),
     )
+
+pub obligeable : (n : ℕ) (b : Board) (records room x : ℕ) → obligeRefusal n b records room x ≡ 0
+    → (isInner n x ≡ true) × (has (b .must) x ≡ false → records < room)
+unfolding obligeRefusal
+obligeable n b records room x e =
+    let h = or-else-zero (unless (isInner n x) refusal.NODE) _ e in
+    let r = passed (has (b .must) x || ltb records room) refusal.ROOM refl (h .1) in
+    (passed (isInner n x) refusal.NODE refl (h .0), λ d. ltb-true records room (or-left (has (b .must) x) (ltb records room) r d))
 
 -- ---- settling
 

@@ -1,4 +1,4 @@
--- A step that neither writes nor takes back a record leaves the board as it was: route, sets and marks.
+-- A step that neither writes nor takes back a record leaves the board as it was: route, sets, and marks of either sort.
 use mathlib.Core.Path.{_≡_, refl, ap, ap₂, sym, _∙_}
 use mathlib.Core.Bool.{Bool, true, false, cond}
 use mathlib.Core.List.{List, [], _∷_}
@@ -16,7 +16,7 @@ use Rattle.trail.proofs.TrailLaws.{shrunk-upto, shrunk-differ}
 use Rattle.trail.specs.Undo.{undoMany}
 use Rattle.trail.specs.Steps as step
 use Rattle.trail.specs.Steps.{Ran, acted}
-use Rattle.trail.specs.Run.{Move, place, close, exclude, require, settle, level, back}
+use Rattle.trail.specs.Run.{Move, place, close, exclude, require, settle, level, back, oblige}
 use Rattle.trail.proofs.Since.{accepted}
 
 -- lists of one length with the same entries are one
@@ -51,13 +51,14 @@ module _ (s r : State) (t u : List ℕ) (e : r .records ≡ s .records) where
       ap (λ (x : Ran). boardOf (x .0 .state)) (sym a) ∙ h (ap (λ (x : Ran). x .0 .state .records) a ∙ e)
 
   pub move-still : (n : ℕ) → length (s .sets) ≡ 64 → Move n s t r u → boardOf r ≡ boardOf s
-  unfolding step.placeStep step.closeStep step.excludeStep step.requireStep step.settleStep step.levelStep step.backStep step.recorded step.undoLevel step.dropped undoMany
+  unfolding step.placeStep step.closeStep step.excludeStep step.requireStep step.settleStep step.levelStep step.backStep step.obligeStep step.recorded step.undoLevel step.dropped undoMany
   move-still n long (place p x q) = at-ran _ _ q (more s _)
   move-still n long (close p x q) = at-ran _ _ q (more s _)
   move-still n long (exclude owed x q) = at-ran _ _ q (either s (eqb (setOf (boardOf s) x) 0) _ _ (λ z. refl) (more s _))
   move-still n long (require x q) = at-ran _ _ q (either s (has (s .marks) x) _ _ (λ z. refl) (more s _))
+  move-still n long (oblige x q) = at-ran _ _ q (either s (has (s .must) x) _ _ (λ z. refl) (more s _))
   move-still n long (settle rounds new small q) =
-      at-ran _ _ q (λ z. ap (λ (w : List ℕ). board (s .route) (s .stops) w (s .marks)) (none-shrank (s .sets) new long (small .long) (omega arith)))
+      at-ran _ _ q (λ z. ap (λ (w : List ℕ). board (s .route) (s .stops) w (s .marks) (s .must)) (none-shrank (s .sets) new long (small .long) (omega arith)))
   move-still n long (level q) = at-ran _ _ q (λ z. refl)
   move-still n long (back q) =
       at-ran _ _ q (λ z. let k : s .records - step.baseOf s ≡ 0 = omega arith in ap (λ (i : ℕ). undoMany i n (boardOf s) (s .records) t .1) k)

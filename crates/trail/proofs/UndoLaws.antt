@@ -11,14 +11,14 @@ use Rattle.bits.specs.Places.{has, without, within}
 use Rattle.rules.specs.Day.{isInner}
 use Rattle.rules.proofs.Inner.{is-inner}
 use Rattle.board.specs.Board.{Board, routeOf, onRoute, legsOf, setOf}
-use Rattle.board.specs.Change.{putSet, unplaced, unmarked}
+use Rattle.board.specs.Change.{putSet, unplaced, unmarked, unobliged}
 use Rattle.board.proofs.FormLaws.{on-leg, route-long}
 use Rattle.board.specs.Held.{Wide, Sound}
 use Rattle.board.specs.Route.{indexOf}
 use Rattle.board.proofs.RouteLaws.{index-mem}
-use Rattle.board.proofs.Keep.{put-wide, put-formed, unplaced-wide, unplaced-formed, unmarked-formed}
+use Rattle.board.proofs.Keep.{put-wide, put-formed, unplaced-wide, unplaced-formed, unmarked-formed, unobliged-formed}
 use Rattle.trail.specs.Trail.{firstOf, secondOf, change, recordKind, recordNode}
-use Rattle.trail.specs.Undo.{strictly, stopBefore, fitsShrunk, fitsPlaced, fitsMarked, Undone, undone, undoShrunk, undoPlaced, undoMarked, undoOne, undoMany, Readable}
+use Rattle.trail.specs.Undo.{strictly, stopBefore, fitsShrunk, fitsPlaced, fitsMarked, fitsObliged, Undone, undone, undoShrunk, undoPlaced, undoMarked, undoObliged, undoOne, undoMany, Readable}
 
 pub readable : (n : ℕ) (b : Board) → Sound n b → Readable n (b .stops) (b .route)
 readable n b s = (s .small, omega (arith, s .small, s .form .route .most), s .wide .route, λ i h. omega (arith, s .small, s .form .route .below i h))
@@ -45,9 +45,14 @@ pub one-marked : (n : ℕ) (b : Board) (a w : ℕ) → recordKind a ≡ change.M
 unfolding undoOne
 one-marked n b a w e = rw e
 
-pub one-other : (n : ℕ) (b : Board) (a w : ℕ) → (recordKind a ≡ change.SHRINKING → ⊥) → (recordKind a ≡ change.PLACING → ⊥) → (recordKind a ≡ change.MARKING → ⊥) → undoOne n b a w ≡ (false, b)
+pub one-obliged : (n : ℕ) (b : Board) (a w : ℕ) → recordKind a ≡ change.OBLIGING → undoOne n b a w ≡ undoObliged b (recordNode a) w
 unfolding undoOne
-one-other n b a w e f g = rw (ne-eqb (recordKind a) change.SHRINKING e, ne-eqb (recordKind a) change.PLACING f, ne-eqb (recordKind a) change.MARKING g)
+one-obliged n b a w e = rw e
+
+pub one-other : (n : ℕ) (b : Board) (a w : ℕ) → (recordKind a ≡ change.SHRINKING → ⊥) → (recordKind a ≡ change.PLACING → ⊥) → (recordKind a ≡ change.MARKING → ⊥) → (recordKind a ≡ change.OBLIGING → ⊥)
+    → undoOne n b a w ≡ (false, b)
+unfolding undoOne
+one-other n b a w e f g h = rw (ne-eqb (recordKind a) change.SHRINKING e, ne-eqb (recordKind a) change.PLACING f, ne-eqb (recordKind a) change.MARKING g, ne-eqb (recordKind a) change.OBLIGING h)
 
 -- ---- the tests as the code makes them, on a board in form
 
@@ -126,11 +131,19 @@ unmarked-wide b x h = record { route = h .route; sets = h .sets }
 marked-sound : (n : ℕ) (b : Board) (x : ℕ) → Sound n b → Sound n (unmarked b x)
 marked-sound n b x s = record { small = s .small; wide = unmarked-wide b x (s .wide); form = unmarked-formed n b x (s .form) }
 
+unobliged-wide : (b : Board) (x : ℕ) → Wide b → Wide (unobliged b x)
+unfolding unobliged
+unobliged-wide b x h = record { route = h .route; sets = h .sets }
+
+obliged-sound : (n : ℕ) (b : Board) (x : ℕ) → Sound n b → Sound n (unobliged b x)
+obliged-sound n b x s = record { small = s .small; wide = unobliged-wide b x (s .wide); form = unobliged-formed n b x (s .form) }
+
 -- what holds after a record of each kind, and where none fits, holds after any
 pub one-by : (P : Undone → Type 0) (n : ℕ) (b : Board) (a w : ℕ) → P (undoShrunk n b (recordNode a) w) → P (undoPlaced n b (recordNode a) w) → P (undoMarked b (recordNode a) w)
-    → P (false, b) → P (undoOne n b a w)
+    → P (undoObliged b (recordNode a) w) → P (false, b) → P (undoOne n b a w)
 unfolding undoOne
-one-by P n b a w p q r s = pick (eqb (recordKind a) change.SHRINKING) p (pick (eqb (recordKind a) change.PLACING) q (pick (eqb (recordKind a) change.MARKING) r s))
+one-by P n b a w p q r o s =
+    pick (eqb (recordKind a) change.SHRINKING) p (pick (eqb (recordKind a) change.PLACING) q (pick (eqb (recordKind a) change.MARKING) r (pick (eqb (recordKind a) change.OBLIGING) o s)))
   where
     pick : (t : Bool) {x y : Undone} → P x → P y → P (cond t x y)
     pick true h g = h
@@ -142,6 +155,7 @@ one-sound n b a w s =
     (undone-keeps n (fitsShrunk n b (recordNode a) w) b _ (shrunk-sound n b (recordNode a) w s) s)
     (undone-keeps n (fitsPlaced n b (recordNode a) w) b _ (placed-sound n b (recordNode a) w s) s)
     (undone-keeps n (fitsMarked b (recordNode a) w) b _ (λ h. marked-sound n b (recordNode a) s) s)
+    (undone-keeps n (fitsObliged b (recordNode a) w) b _ (λ h. obliged-sound n b (recordNode a) s) s)
     s
 
 -- ---- many

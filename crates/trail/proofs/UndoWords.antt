@@ -12,11 +12,11 @@ use Rattle.bits.proofs.Members.{without-fits}
 use Rattle.rules.specs.Day.{isInner}
 use Rattle.rules.proofs.Inner.{is-inner}
 use Rattle.board.specs.Board.{Board, onRoute, setOf}
-use Rattle.board.specs.Change.{strike, putSet, unplaced, unmarked}
+use Rattle.board.specs.Change.{strike, putSet, unplaced, unmarked, unobliged}
 use Rattle.board.specs.Held.{Words, Sound}
 use Rattle.board.proofs.Keep.{unplaced-set, unplaced-here}
 use Rattle.trail.specs.Trail.{firstOf, secondOf, recordNode}
-use Rattle.trail.specs.Undo.{fitsShrunk, fitsPlaced, fitsMarked, Undone, undone, undoOne, undoMany}
+use Rattle.trail.specs.Undo.{fitsShrunk, fitsPlaced, fitsMarked, fitsObliged, Undone, undone, undoOne, undoMany}
 use Rattle.trail.proofs.UndoLaws.{one-by, one-sound, many-keeps}
 use Rattle.trail.proofs.Small.{put-words}
 
@@ -35,9 +35,9 @@ strike-word : (x w : ℕ) → w < 2 ^ 64 → strike x w < 2 ^ 64
 unfolding strike
 strike-word x w h = without-fits w x h
 
-unplaced-marks : (b : Board) (x w : ℕ) → unplaced b x w .marks ≡ b .marks
+unplaced-marks : (b : Board) (x w : ℕ) → (unplaced b x w .marks ≡ b .marks) × (unplaced b x w .must ≡ b .must)
 unfolding unplaced
-unplaced-marks b x w = refl
+unplaced-marks b x w = (refl, refl)
 
 placed-words : (n : ℕ) (b : Board) (x w : ℕ) → Sound n b → Words b → w < 2 ^ 64 → fitsPlaced n b x w ≡ true → Words (unplaced b x w)
 unfolding fitsPlaced
@@ -47,12 +47,17 @@ placed-words n b x w s h l e =
       fits = λ y m. decided (eqb y x)
           (λ z. rw (eqb-true y x z, unplaced-here n b x w (s .small) (s .wide) (s .form) (q .0) (q .1)) l)
           (λ z. rw (unplaced-set n b x w (s .small) (s .wide) (s .form) (q .0) (q .1) y m (eqb-false y x z)) (strike-word x (setOf b y) (h .fits y m)));
-      marks = rw (unplaced-marks b x w) (h .marks);
+      marks = rw (unplaced-marks b x w .0) (h .marks);
+      must = rw (unplaced-marks b x w .1) (h .must);
     }
 
 unmarked-words : (b : Board) (x : ℕ) → Words b → Words (unmarked b x)
 unfolding unmarked setOf
-unmarked-words b x h = record { fits = h .fits; marks = without-fits (b .marks) x (h .marks) }
+unmarked-words b x h = record { fits = h .fits; marks = without-fits (b .marks) x (h .marks); must = h .must }
+
+unobliged-words : (b : Board) (x : ℕ) → Words b → Words (unobliged b x)
+unfolding unobliged setOf
+unobliged-words b x h = record { fits = h .fits; marks = h .marks; must = without-fits (b .must) x (h .must) }
 
 one-words : (n : ℕ) (b : Board) (a w : ℕ) → Sound n b → Words b → w < 2 ^ 64 → Words (undoOne n b a w .1)
 one-words n b a w s h l =
@@ -60,6 +65,7 @@ one-words n b a w s h l =
     (undone-words (fitsShrunk n b (recordNode a) w) b _ (shrunk-words n b (recordNode a) w s h l) h)
     (undone-words (fitsPlaced n b (recordNode a) w) b _ (placed-words n b (recordNode a) w s h l) h)
     (undone-words (fitsMarked b (recordNode a) w) b _ (λ z. unmarked-words b (recordNode a) h) h)
+    (undone-words (fitsObliged b (recordNode a) w) b _ (λ z. unobliged-words b (recordNode a) h) h)
     h
 
 second-word : (t : List ℕ) → ((i : ℕ) → getD t i 0 < 2 ^ 64) → (i : ℕ) → secondOf t i < 2 ^ 64

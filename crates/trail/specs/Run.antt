@@ -6,7 +6,7 @@ use Prim.Native.Nat.{ℕ, _<_, _^_}
 use lib.ListN.{length, getD}
 use Rattle.bits.specs.Places.{within}
 use Rattle.board.specs.declared.State.{State}
-use Rattle.trail.specs.Steps.{acted, placeStep, closeStep, excludeStep, requireStep, settleStep, levelStep, backStep}
+use Rattle.trail.specs.Steps.{acted, placeStep, closeStep, excludeStep, requireStep, settleStep, levelStep, backStep, obligeStep}
 
 -- new sets for a settling: words, each within the one before
 pub record Smaller (old new : List ℕ) : Type 0 where
@@ -23,6 +23,7 @@ pub data Move (n : ℕ) (s : State) (t : List ℕ) (r : State) (u : List ℕ) : 
   settle : {k : ℕ} (rounds : ℕ) (new : List ℕ) → Smaller (s .sets) new → settleStep s t rounds new ≡ acted 0 k r u → Move n s t r u
   level : {k : ℕ} → levelStep s t ≡ acted 0 k r u → Move n s t r u
   back : {k : ℕ} → backStep n s t ≡ acted 0 k r u → Move n s t r u
+  oblige : {k : ℕ} (x : ℕ) → obligeStep n s t x ≡ acted 0 k r u → Move n s t r u
 
 -- accepted steps that leave more than d levels open throughout
 pub data RunAbove (n d : ℕ) (s : State) (t : List ℕ) : State → List ℕ → Type 0 where

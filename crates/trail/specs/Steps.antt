@@ -1,4 +1,4 @@
--- The steps on a state in form: the answer with the rounds of settling and the state, and the trail (01, Steps).
+-- The steps on a state in form: the answer with the rounds of settling and the state, and the trail (01, Steps; 02, No. 1).
 use mathlib.Core.Bool.{Bool, cond}
 use mathlib.Core.List.{List}
 use Prim.Native.Nat.{ℕ, _+_, _-_}
@@ -8,11 +8,11 @@ use Rattle.laws.specs.Basic.{orElse, unless}
 use Rattle.bits.specs.Places.{has, without}
 use Rattle.rules.specs.Numbers.{refusal}
 use Rattle.board.specs.Board.{Board, board, stateOf, stateWith, boardOf, onBoard, setOf}
-use Rattle.board.specs.Change.{putSet, placedAfter, marked}
+use Rattle.board.specs.Change.{putSet, placedAfter, marked, obliged}
 use Rattle.board.specs.declared.State.{State}
 use Rattle.board.specs.declared.Figures.{Figures}
 use Rattle.trail.specs.Trail.{roomOf, pushed, change, firstWord, shrunk, noteBelow}
-use Rattle.trail.specs.Refusals.{placeRefusal, excludeRefusal, requireRefusal}
+use Rattle.trail.specs.Refusals.{placeRefusal, excludeRefusal, requireRefusal, obligeRefusal}
 use Rattle.trail.specs.Undo.{Undone, undoMany}
 use Rattle.trail.specs.declared.Outcome.{Outcome}
 use Rattle.trail.specs.declared.Stepped.{Stepped}
@@ -77,13 +77,13 @@ requireStep n s t x =
 unfoldable pub settleStep : State → List ℕ → ℕ → List ℕ → Ran
 settleStep s t rounds new =
     unlessRefused (unless (leb (s .records + shrunk (s .sets) new 64) (roomOf t)) refusal.ROOM) s t
-    (acted 0 rounds (onBoard s (board (s .route) (s .stops) new (s .marks)) (s .records + shrunk (s .sets) new 64)) (noteBelow (s .sets) new 64 (s .records, t) .1))
+    (acted 0 rounds (onBoard s (board (s .route) (s .stops) new (s .marks) (s .must)) (s .records + shrunk (s .sets) new 64)) (noteBelow (s .sets) new 64 (s .records, t) .1))
 
 -- step 6: open a level, which holds the record count. A 65th is refused
 unfoldable pub levelStep : State → List ℕ → Ran
 levelStep s t =
     unlessRefused (unless (ltb (s .depth) 64) refusal.DEPTH) s t
-    (answered 0 (stateOf (s .route) (s .stops) (s .sets) (s .marks) (set (s .levels) (s .depth) (s .records)) (s .depth + 1) (s .records)) t)
+    (answered 0 (stateOf (s .route) (s .stops) (s .sets) (s .marks) (s .must) (set (s .levels) (s .depth) (s .records)) (s .depth + 1) (s .records)) t)
 
 -- the record count that the last level holds
 unfoldable pub baseOf : State → ℕ
@@ -95,10 +95,16 @@ undoLevel n s t = undoMany (s .records - baseOf s) n (boardOf s) (s .records) t
 
 -- the last level dropped, on the board before it
 unfoldable pub dropped : State → Board → State
-dropped s b = stateOf (b .route) (b .stops) (b .sets) (b .marks) (set (s .levels) (s .depth - 1) 0) (s .depth - 1) (baseOf s)
+dropped s b = stateOf (b .route) (b .stops) (b .sets) (b .marks) (b .must) (set (s .levels) (s .depth - 1) 0) (s .depth - 1) (baseOf s)
 
 -- step 7: undo to the last level and drop it. Refused with none open, or where a record does not fit
 unfoldable pub backStep : ℕ → State → List ℕ → Ran
 backStep n s t =
     unlessRefused (orElse (unless (ltb 0 (s .depth)) refusal.DEPTH) (unless (undoLevel n s t .0) refusal.MISFIT)) s t
     (answered 0 (dropped s (undoLevel n s t .1)) t)
+
+-- step 8: x must go somewhere, placed or not. Already set: nothing changes. The second word is 0
+unfoldable pub obligeStep : ℕ → State → List ℕ → ℕ → Ran
+obligeStep n s t x =
+    unlessRefused (obligeRefusal n (boardOf s) (s .records) (roomOf t) x) s t
+    (cond (has (s .must) x) (answered 0 s t) (recorded s t (obliged (boardOf s) x) (firstWord change.OBLIGING x) 0))

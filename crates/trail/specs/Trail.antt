@@ -22,9 +22,10 @@ firstOf t i = getD t (2 * i) 0
 unfoldable pub secondOf : List ℕ → ℕ → ℕ
 secondOf t i = getD t (2 * i + 1) 0
 
--- the kinds of records: "Kind 1: set made smaller. Kind 2: placed. Kind 3: marked."; and what one kind weighs in a first word
-abbrev pub change : record { SHRINKING : ℕ; PLACING : ℕ; MARKING : ℕ; WEIGHT : ℕ }
-change = record { SHRINKING = 1; PLACING = 2; MARKING = 3; WEIGHT = 256 }
+-- the kinds of records: "Kind 1: set made smaller. Kind 2: placed. Kind 3: marked.", and kind 4: marked "must go somewhere"; and what one kind
+-- weighs in a first word
+abbrev pub change : record { SHRINKING : ℕ; PLACING : ℕ; MARKING : ℕ; OBLIGING : ℕ; WEIGHT : ℕ }
+change = record { SHRINKING = 1; PLACING = 2; MARKING = 3; OBLIGING = 4; WEIGHT = 256 }
 
 -- "First word 256 × kind + node"
 abbrev pub firstWord : ℕ → ℕ → ℕ

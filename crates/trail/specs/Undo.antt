@@ -1,4 +1,4 @@
--- Undoing: when a record fits, and the board before it; newest first (01, The trail).
+-- Undoing: when a record fits, and the board before it; newest first (01, The trail; 02, No. 1).
 use mathlib.Core.Bool.{Bool, true, false, cond, not, _&&_}
 use mathlib.Core.List.{List}
 use mathlib.Core.Path.{_≡_}
@@ -9,7 +9,7 @@ use Rattle.bits.specs.Places.{has, without, within}
 use Rattle.rules.specs.Day.{isInner}
 use Rattle.board.specs.Route.{indexOf}
 use Rattle.board.specs.Board.{Board, board, routeOf, onRoute, legsOf, setOf}
-use Rattle.board.specs.Change.{putSet, unplaced, unmarked}
+use Rattle.board.specs.Change.{putSet, unplaced, unmarked, unobliged}
 use Rattle.trail.specs.declared.undo.Undone as code
 use Rattle.trail.specs.Trail.{firstOf, secondOf, change, recordKind, recordNode}
 
@@ -33,13 +33,17 @@ fitsPlaced n b x w = (isInner n x && onRoute b x) && (within w (without (legsOf 
 unfoldable pub fitsMarked : Board → ℕ → ℕ → Bool
 fitsMarked b x w = not (onRoute b x) && (has (b .marks) x && eqb w 0)
 
+-- marked "must go somewhere": the node has that mark, second word 0
+unfoldable pub fitsObliged : Board → ℕ → ℕ → Bool
+fitsObliged b x w = has (b .must) x && eqb w 0
+
 -- whether it fits, and the board after
 abbrev pub Undone : Type 0
 Undone = Bool × Board
 
 -- what undoing has left in arrays, with what it answered
 abbrev pub undid : code.Undone → List ℕ → List ℕ → Undone
-undid u route sets = (u .fits, board route (u .stops) sets (u .marks))
+undid u route sets = (u .fits, board route (u .stops) sets (u .marks) (u .must))
 
 -- the board c where the record fits, the board as it is where it does not
 unfoldable pub undone : Bool → Board → Board → Undone
@@ -57,13 +61,18 @@ undoPlaced n b x w = undone (fitsPlaced n b x w) (unplaced b x w) b
 abbrev pub undoMarked : Board → ℕ → ℕ → Undone
 undoMarked b x w = undone (fitsMarked b x w) (unmarked b x) b
 
+-- a record of a mark "must go somewhere"
+abbrev pub undoObliged : Board → ℕ → ℕ → Undone
+undoObliged b x w = undone (fitsObliged b x w) (unobliged b x) b
+
 -- the record with these two words. No other kind fits
 unfoldable pub undoOne : ℕ → Board → ℕ → ℕ → Undone
 undoOne n b first w =
     cond (eqb (recordKind first) change.SHRINKING) (undoShrunk n b (recordNode first) w)
     (cond (eqb (recordKind first) change.PLACING) (undoPlaced n b (recordNode first) w)
     (cond (eqb (recordKind first) change.MARKING) (undoMarked b (recordNode first) w)
-    (false, b)))
+    (cond (eqb (recordKind first) change.OBLIGING) (undoObliged b (recordNode first) w)
+    (false, b))))
 
 -- the k newest of so many records, newest first, each against the board after the newer ones are undone, as far as they fit
 unfoldable pub undoMany : ℕ → ℕ → Board → ℕ → List ℕ → Undone

@@ -19,13 +19,16 @@ impl Record {
     // A node marked.
     pub const MARKING: u64 = 3;
 
+    // A node marked "must go somewhere".
+    pub const OBLIGING: u64 = 4;
+
     // What one kind counts in a first word.
     pub const WEIGHT: u64 = 256;
 }
 
 // The first word of a record: its kind and its node.
 pub fn first_word(kind: u64, x: usize) -> u64
-    requires { ⌜ (kind ≤ change.MARKING) × (x < 64) ⌝ }
+    requires { ⌜ (kind ≤ change.OBLIGING) × (x < 64) ⌝ }
     ensures { λ r. ⌜ r ≡ firstWord kind x ⌝ }
 {
     Record::WEIGHT * kind + x as u64

@@ -1,4 +1,4 @@
-// When a step is refused, in document 01's order. The state is in form, and the caller has asked so.
+// When a step is refused, in the order of documents 01 and 02. The state is in form, and the caller has asked so.
 use board::Figures;
 use board::form::inner;
 use board::form::leg_node;
@@ -10,20 +10,19 @@ ghost use mathlib.Core.List.{List};
 ghost use Prim.Native.Nat.{ℕ};
 ghost use Rattle.board.specs.Board.{board};
 ghost use Rattle.trail.specs.Undo.{Readable};
-ghost use Rattle.trail.specs.Refusals.{placeRefusal, excludeRefusal, requireRefusal};
+ghost use Rattle.trail.specs.Refusals.{placeShut, placeRefusal, excludeRefusal, requireRefusal, obligeRefusal};
 
-// Placing x after p and closing the place p of x are refused alike.
-pub fn place_refusal<'a>(
+// Placing x after p and closing the place p of x are refused alike; the room apart.
+pub fn place_shut<'a>(
     route: &'a [usize; Node::MOST],
     sets: &'a [u64; Node::MOST],
     f: Figures,
-    room: usize,
     n: usize,
     p: usize,
     x: usize,
 ) -> usize
     requires { ⌜ Readable n (f .stops) (now route) ⌝ }
-    ensures { λ r. ⌜ r ≡ placeRefusal n (board (now (route .entry)) (f .stops) (now (sets .entry)) (f .marks)) (f .records) room p x ⌝ }
+    ensures { λ r. ⌜ r ≡ placeShut n (board (now (route .entry)) (f .stops) (now (sets .entry)) (f .marks) (f .must)) p x ⌝ }
 {
     if !inner(n, x) {
         return Refusal::NODE;
@@ -38,8 +37,29 @@ pub fn place_refusal<'a>(
     if !bits::has(on, p) {
         return Refusal::UNPLACED;
     }
-    if !bits::has(sets[x], p) {
-        return Refusal::SHUT;
+    if bits::has(sets[x], p) {
+        0
+    } else {
+        Refusal::SHUT
+    }
+}
+
+// The same, and room for one record.
+pub fn place_refusal<'a>(
+    route: &'a [usize; Node::MOST],
+    sets: &'a [u64; Node::MOST],
+    f: Figures,
+    room: usize,
+    n: usize,
+    p: usize,
+    x: usize,
+) -> usize
+    requires { ⌜ Readable n (f .stops) (now route) ⌝ }
+    ensures { λ r. ⌜ r ≡ placeRefusal n (board (now (route .entry)) (f .stops) (now (sets .entry)) (f .marks) (f .must)) (f .records) room p x ⌝ }
+{
+    let shut = place_shut(route, sets, f, n, p, x);
+    if shut != 0 {
+        return shut;
     }
     if f.records < room { 0 } else { Refusal::ROOM }
 }
@@ -55,7 +75,7 @@ pub fn exclude_refusal<'a>(
     x: usize,
 ) -> usize
     requires { ⌜ Readable n (f .stops) (now route) ⌝ }
-    ensures { λ r. ⌜ r ≡ excludeRefusal n (board (now (route .entry)) (f .stops) (now (sets .entry)) (f .marks)) (f .records) room owed x ⌝ }
+    ensures { λ r. ⌜ r ≡ excludeRefusal n (board (now (route .entry)) (f .stops) (now (sets .entry)) (f .marks) (f .must)) (f .records) room owed x ⌝ }
 {
     if !inner(n, x) {
         return Refusal::NODE;
@@ -82,7 +102,7 @@ pub fn require_refusal(
     x: usize,
 ) -> usize
     requires { ⌜ Readable n (f .stops) (now route) ⌝ }
-    ensures { λ r. ⌜ ((sets : List ℕ) → r ≡ requireRefusal n (board (now (route .entry)) (f .stops) sets (f .marks)) (f .records) room x) ⌝ }
+    ensures { λ r. ⌜ ((sets : List ℕ) → r ≡ requireRefusal n (board (now (route .entry)) (f .stops) sets (f .marks) (f .must)) (f .records) room x) ⌝ }
 {
     if !inner(n, x) {
         return Refusal::NODE;
@@ -92,6 +112,19 @@ pub fn require_refusal(
         return Refusal::PLACED;
     }
     if bits::has(f.marks, x) {
+        return 0;
+    }
+    if f.records < room { 0 } else { Refusal::ROOM }
+}
+
+// Obliging x, placed or not.
+pub fn oblige_refusal(f: Figures, room: usize, n: usize, x: usize) -> usize
+    ensures { λ r. ⌜ ((route sets : List ℕ) → r ≡ obligeRefusal n (board route (f .stops) sets (f .marks) (f .must)) (f .records) room x) ⌝ }
+{
+    if !inner(n, x) {
+        return Refusal::NODE;
+    }
+    if bits::has(f.must, x) {
         return 0;
     }
     if f.records < room { 0 } else { Refusal::ROOM }

@@ -6,24 +6,27 @@ use crate::records::needed;
 use crate::records::note;
 use crate::records::push;
 use crate::refusals::exclude_refusal;
+use crate::refusals::oblige_refusal;
 use crate::refusals::place_refusal;
 use crate::refusals::require_refusal;
+use crate::undo::Undone;
 use crate::undo::undo_many;
 use board::Figures;
 use board::State;
 use rules::Node;
 use rules::Refusal;
 ghost use mathlib.Core.Path.{_≡_};
-ghost use mathlib.Core.Bool.{true};
+ghost use mathlib.Core.Bool.{true, false};
 ghost use mathlib.Core.List.{List};
 ghost use Prim.Native.Nat.{ℕ, _≤_, _<_};
-ghost use lib.ListN.{length};
+ghost use lib.ListN.{length, getD};
 ghost use Rattle.board.specs.Board.{board, stateWith};
 ghost use Rattle.board.specs.Form.{formWith};
 ghost use Rattle.board.specs.Held.{Sound};
 ghost use Rattle.trail.specs.Trail.{roomOf, Alike};
-ghost use Rattle.trail.specs.Undo.{Readable};
-ghost use Rattle.trail.specs.Steps.{ran, asBefore, shrank, placeStep, closeStep, excludeStep, requireStep, settleStep, levelStep, backStep};
+ghost use Rattle.trail.specs.Refusals.{placeRefusal, excludeRefusal};
+ghost use Rattle.trail.specs.Undo.{Readable, undid};
+ghost use Rattle.trail.specs.Steps.{ran, asBefore, shrank, placeStep, closeStep, excludeStep, requireStep, settleStep, levelStep, dropped, backStep, obligeStep};
 
 // Nothing changed: refused with a number, or 0 where nothing was to be done.
 pub fn same(answer: usize, f: Figures) -> Outcome
@@ -36,7 +39,7 @@ pub fn same(answer: usize, f: Figures) -> Outcome
     }
 }
 
-// Place x after p.
+// Place x after p, which nothing refuses.
 pub fn place(
     route: &mut [usize; Node::MOST],
     sets: &mut [u64; Node::MOST],
@@ -46,17 +49,13 @@ pub fn place(
     x: usize,
     trail: &mut [u64],
 ) -> Outcome
-    requires { ⌜ Sound n (board (now route) (f .stops) (now sets) (f .marks)) ⌝ }
+    requires { ⌜ Sound n (board (now route) (f .stops) (now sets) (f .marks) (f .must)) ⌝ }
+    requires { ⌜ placeRefusal n (board (now route) (f .stops) (now sets) (f .marks) (f .must)) (f .records) (roomOf (now trail)) p x ≡ 0 ⌝ }
     ensures { λ r. ⌜ ((levels : List ℕ) → placeStep n (stateWith (now (route .entry)) (now (sets .entry)) levels f) (now (trail .entry)) p x
         ≡ ran r (now (route .exit)) (now (sets .exit)) levels (now (trail .exit))) ⌝ }
 {
-    let room = trail.len() / 2;
     let stops = f.stops;
     let i = f.records;
-    let code = place_refusal(route, sets, f, room, n, p, x);
-    if code != 0 {
-        return same(code, f);
-    }
     push(trail, i, first_word(Record::PLACING, x), sets[x]);
     board::change::place(route, sets, stops, n, p, x);
     Outcome {
@@ -65,6 +64,7 @@ pub fn place(
         after: Figures {
             stops: stops + 1,
             marks: f.marks,
+            must: f.must,
             depth: f.depth,
             records: i + 1,
         },
@@ -86,6 +86,7 @@ fn shrink(sets: &mut [u64; Node::MOST], f: Figures, x: usize, w: u64, trail: &mu
         after: Figures {
             stops: f.stops,
             marks: f.marks,
+            must: f.must,
             depth: f.depth,
             records: i + 1,
         },
@@ -102,7 +103,7 @@ pub fn close(
     x: usize,
     trail: &mut [u64],
 ) -> Outcome
-    requires { ⌜ Sound n (board (now route) (f .stops) (now sets) (f .marks)) ⌝ }
+    requires { ⌜ Sound n (board (now route) (f .stops) (now sets) (f .marks) (f .must)) ⌝ }
     ensures { λ r. ⌜ ((levels : List ℕ) → closeStep n (stateWith (now (route .entry)) (now (sets .entry)) levels f) (now (trail .entry)) p x
         ≡ ran r (now (route .entry)) (now (sets .exit)) levels (now (trail .exit))) ⌝ }
 {
@@ -115,6 +116,20 @@ pub fn close(
     shrink(sets, f, x, bits::without(w, p), trail)
 }
 
+// Exclude x, which nothing refuses: close all its places. None open: nothing changes.
+pub fn shut_out(sets: &mut [u64; Node::MOST], f: Figures, x: usize, trail: &mut [u64]) -> Outcome
+    requires { ⌜ (x < 64) × ((getD (now sets) x 0 ≡ 0 → ⊥) → f .records < roomOf (now trail)) ⌝ }
+    ensures { λ r. ⌜ ((n : ℕ) (route levels : List ℕ)
+        → excludeRefusal n (board route (f .stops) (now (sets .entry)) (f .marks) (f .must)) (f .records) (roomOf (now (trail .entry))) false x ≡ 0
+        → excludeStep n (stateWith route (now (sets .entry)) levels f) (now (trail .entry)) false x
+        ≡ ran r route (now (sets .exit)) levels (now (trail .exit))) ⌝ }
+{
+    if sets[x] == 0 {
+        return same(0, f);
+    }
+    shrink(sets, f, x, 0, trail)
+}
+
 // Exclude x, which is owed or not.
 pub fn exclude(
     route: &[usize; Node::MOST],
@@ -125,7 +140,7 @@ pub fn exclude(
     x: usize,
     trail: &mut [u64],
 ) -> Outcome
-    requires { ⌜ Sound n (board (now route) (f .stops) (now sets) (f .marks)) ⌝ }
+    requires { ⌜ Sound n (board (now route) (f .stops) (now sets) (f .marks) (f .must)) ⌝ }
     ensures { λ r. ⌜ ((levels : List ℕ) → excludeStep n (stateWith (now (route .entry)) (now (sets .entry)) levels f) (now (trail .entry)) owed x
         ≡ ran r (now (route .entry)) (now (sets .exit)) levels (now (trail .exit))) ⌝ }
 {
@@ -134,10 +149,7 @@ pub fn exclude(
     if code != 0 {
         return same(code, f);
     }
-    if sets[x] == 0 {
-        return same(0, f);
-    }
-    shrink(sets, f, x, 0, trail)
+    shut_out(sets, f, x, trail)
 }
 
 // Require x.
@@ -169,6 +181,7 @@ pub fn require(
         after: Figures {
             stops: f.stops,
             marks: bits::with(marks, x),
+            must: f.must,
             depth: f.depth,
             records: i + 1,
         },
@@ -206,6 +219,7 @@ pub fn settle(
         after: Figures {
             stops: f.stops,
             marks: f.marks,
+            must: f.must,
             depth: f.depth,
             records: records,
         },
@@ -229,9 +243,58 @@ pub fn level(levels: &mut [usize; State::LEVELS], f: Figures) -> Outcome
         after: Figures {
             stops: f.stops,
             marks: f.marks,
+            must: f.must,
             depth: d + 1,
             records: f.records,
         },
+    }
+}
+
+// Oblige x, placed or not.
+pub fn oblige(f: Figures, n: usize, x: usize, trail: &mut [u64]) -> Outcome
+    requires { ⌜ n ≤ 64 ⌝ }
+    ensures { λ r. ⌜ ((route sets levels : List ℕ) → obligeStep n (stateWith route sets levels f) (now (trail .entry)) x
+        ≡ ran r route sets levels (now (trail .exit))) ⌝ }
+{
+    let room = trail.len() / 2;
+    let i = f.records;
+    let must = f.must;
+    let code = oblige_refusal(f, room, n, x);
+    if code != 0 {
+        return same(code, f);
+    }
+    if bits::has(must, x) {
+        return same(0, f);
+    }
+    push(trail, i, first_word(Record::OBLIGING, x), 0);
+    Outcome {
+        answer: 0,
+        rounds: 0,
+        after: Figures {
+            stops: f.stops,
+            marks: f.marks,
+            must: bits::with(must, x),
+            depth: f.depth,
+            records: i + 1,
+        },
+    }
+}
+
+// The last level dropped, once the records above it are undone: the numbers of the state before it.
+pub fn drop_level(levels: &mut [usize; State::LEVELS], f: Figures, u: Undone) -> Figures
+    requires { ⌜ (0 < f .depth) × (f .depth ≤ 64) × (length (now levels) ≡ 64) ⌝ }
+    ensures { λ r. ⌜ ((stops places route sets : List ℕ) →
+        stateWith route sets (now (levels .exit)) r ≡ dropped (stateWith stops places (now (levels .entry)) f) (undid u route sets .1)) ⌝ }
+{
+    let d = f.depth - 1;
+    let base = levels[d];
+    levels[d] = 0;
+    Figures {
+        stops: u.stops,
+        marks: u.marks,
+        must: u.must,
+        depth: d,
+        records: base,
     }
 }
 
@@ -244,7 +307,7 @@ pub fn back(
     n: usize,
     trail: &[u64],
 ) -> Outcome
-    requires { ⌜ Sound n (board (now route) (f .stops) (now sets) (f .marks)) × (length (now levels) ≡ 64) ⌝ }
+    requires { ⌜ Sound n (board (now route) (f .stops) (now sets) (f .marks) (f .must)) × (length (now levels) ≡ 64) ⌝ }
     requires { ⌜ formWith n (stateWith (now route) (now sets) (now levels) f) (roomOf (now trail)) ≡ true ⌝ }
     ensures { λ r. ⌜ backStep n (stateWith (now (route .entry)) (now (sets .entry)) (now (levels .entry)) f) (now (trail .entry))
         ≡ ran r (now (route .exit)) (now (sets .exit)) (now (levels .exit)) (now (trail .entry)) ⌝ }
@@ -260,17 +323,12 @@ pub fn back(
     if !u.fits {
         return same(Refusal::MISFIT, f);
     }
-    levels[depth - 1] = 0;
     *route = stops;
     *sets = places;
+    let after = drop_level(levels, f, u);
     Outcome {
         answer: 0,
         rounds: 0,
-        after: Figures {
-            stops: u.stops,
-            marks: u.marks,
-            depth: depth - 1,
-            records: base,
-        },
+        after: after,
     }
 }

@@ -16,23 +16,25 @@ ghost use Rattle.board.specs.Route.{wordOf};
 ghost use Rattle.board.specs.Board.{board};
 ghost use Rattle.board.specs.Held.{Sound};
 ghost use Rattle.trail.specs.Trail.{roomOf};
-ghost use Rattle.trail.specs.Undo.{strictly, undid, undoShrunk, undoPlaced, undoMarked, undoOne, undoMany};
+ghost use Rattle.trail.specs.Undo.{strictly, undid, undoShrunk, undoPlaced, undoMarked, undoObliged, undoOne, undoMany};
 
 // Whether it fitted, and the numbers of the board after; the arrays are changed in place.
 pub struct Undone {
     pub fits: bool,
     pub stops: usize,
     pub marks: u64,
+    pub must: u64,
 }
 
 // A record that does not fit: the numbers as they were.
-fn misfit(stops: usize, marks: u64) -> Undone
-    ensures { λ r. ⌜ ((route sets : List ℕ) → undid r route sets ≡ (false, board route stops sets marks)) ⌝ }
+fn misfit(stops: usize, marks: u64, must: u64) -> Undone
+    ensures { λ r. ⌜ ((route sets : List ℕ) → undid r route sets ≡ (false, board route stops sets marks must)) ⌝ }
 {
     Undone {
         fits: false,
         stops: stops,
         marks: marks,
+        must: must,
     }
 }
 
@@ -48,27 +50,29 @@ fn undo_shrunk(
     sets: &mut [u64; Node::MOST],
     stops: usize,
     marks: u64,
+    must: u64,
     legs: u64,
     n: usize,
     x: usize,
     w: u64,
 ) -> Undone
-    requires { ⌜ Sound n (board (now route) stops (now sets) marks) × (legs ≡ wordOf (stops - 1) (now route)) ⌝ }
-    ensures { λ r. ⌜ undoShrunk n (board (now (route .entry)) stops (now (sets .entry)) marks) x w ≡ undid r (now (route .entry)) (now (sets .exit)) ⌝ }
+    requires { ⌜ Sound n (board (now route) stops (now sets) marks must) × (legs ≡ wordOf (stops - 1) (now route)) ⌝ }
+    ensures { λ r. ⌜ undoShrunk n (board (now (route .entry)) stops (now (sets .entry)) marks must) x w ≡ undid r (now (route .entry)) (now (sets .exit)) ⌝ }
 {
     if !inner(n, x) {
-        return misfit(stops, marks);
+        return misfit(stops, marks, must);
     }
     let v = sets[x];
     let fits = !bits::has(legs, x) & grows(v, w, legs);
     if !fits {
-        return misfit(stops, marks);
+        return misfit(stops, marks, must);
     }
     sets[x] = w;
     Undone {
         fits: true,
         stops: stops,
         marks: marks,
+        must: must,
     }
 }
 
@@ -84,31 +88,33 @@ fn undo_placed(
     sets: &mut [u64; Node::MOST],
     stops: usize,
     marks: u64,
+    must: u64,
     legs: u64,
     n: usize,
     x: usize,
     old: u64,
 ) -> Undone
-    requires { ⌜ Sound n (board (now route) stops (now sets) marks) × (legs ≡ wordOf (stops - 1) (now route)) ⌝ }
-    ensures { λ r. ⌜ undoPlaced n (board (now (route .entry)) stops (now (sets .entry)) marks) x old ≡ undid r (now (route .exit)) (now (sets .exit)) ⌝ }
+    requires { ⌜ Sound n (board (now route) stops (now sets) marks must) × (legs ≡ wordOf (stops - 1) (now route)) ⌝ }
+    ensures { λ r. ⌜ undoPlaced n (board (now (route .entry)) stops (now (sets .entry)) marks must) x old ≡ undid r (now (route .exit)) (now (sets .exit)) ⌝ }
     ensures { λ r. ⌜ (r .stops ≡ stops → now (route .exit) ≡ now (route .entry)) ⌝ }
 {
     if !inner(n, x) {
-        return misfit(stops, marks);
+        return misfit(stops, marks, must);
     }
     let i = position(route, stops, x);
     if stops <= i {
-        return misfit(stops, marks);
+        return misfit(stops, marks, must);
     }
     let before = route[i - 1];
     if !left_legs(old, legs, x, before) {
-        return misfit(stops, marks);
+        return misfit(stops, marks, must);
     }
     unplace(route, sets, i, n, x, old);
     Undone {
         fits: true,
         stops: stops - 1,
         marks: marks,
+        must: must,
     }
 }
 
@@ -118,22 +124,40 @@ fn undo_marked<'a>(
     sets: &'a [u64; Node::MOST],
     stops: usize,
     marks: u64,
+    must: u64,
     n: usize,
     x: usize,
     w: u64,
 ) -> Undone
-    requires { ⌜ Sound n (board (now route) stops (now sets) marks) ⌝ }
-    ensures { λ r. ⌜ undoMarked (board (now (route .entry)) stops (now (sets .entry)) marks) x w ≡ undid r (now (route .entry)) (now (sets .entry)) ⌝ }
+    requires { ⌜ Sound n (board (now route) stops (now sets) marks must) ⌝ }
+    ensures { λ r. ⌜ undoMarked (board (now (route .entry)) stops (now (sets .entry)) marks must) x w ≡ undid r (now (route .entry)) (now (sets .entry)) ⌝ }
 {
     let i = position(route, stops, x);
     let fits = (stops <= i) & (bits::has(marks, x) & (w == 0));
     if !fits {
-        return misfit(stops, marks);
+        return misfit(stops, marks, must);
     }
     Undone {
         fits: true,
         stops: stops,
         marks: bits::without(marks, x),
+        must: must,
+    }
+}
+
+// A mark "must go somewhere": that of x is taken off, placed or not.
+fn undo_obliged(stops: usize, marks: u64, must: u64, x: usize, w: u64) -> Undone
+    ensures { λ r. ⌜ ((route sets : List ℕ) → undoObliged (board route stops sets marks must) x w ≡ undid r route sets) ⌝ }
+{
+    let fits = bits::has(must, x) & (w == 0);
+    if !fits {
+        return misfit(stops, marks, must);
+    }
+    Undone {
+        fits: true,
+        stops: stops,
+        marks: marks,
+        must: bits::without(must, x),
     }
 }
 
@@ -143,22 +167,24 @@ fn undo_one(
     sets: &mut [u64; Node::MOST],
     stops: usize,
     marks: u64,
+    must: u64,
     legs: u64,
     n: usize,
     first: u64,
     w: u64,
 ) -> Undone
-    requires { ⌜ Sound n (board (now route) stops (now sets) marks) × (legs ≡ wordOf (stops - 1) (now route)) ⌝ }
-    ensures { λ r. ⌜ undoOne n (board (now (route .entry)) stops (now (sets .entry)) marks) first w ≡ undid r (now (route .exit)) (now (sets .exit)) ⌝ }
+    requires { ⌜ Sound n (board (now route) stops (now sets) marks must) × (legs ≡ wordOf (stops - 1) (now route)) ⌝ }
+    ensures { λ r. ⌜ undoOne n (board (now (route .entry)) stops (now (sets .entry)) marks must) first w ≡ undid r (now (route .exit)) (now (sets .exit)) ⌝ }
     ensures { λ r. ⌜ (r .stops ≡ stops → now (route .exit) ≡ now (route .entry)) ⌝ }
 {
     let kind = first / Record::WEIGHT;
     let x = (first % Record::WEIGHT) as usize;
     match kind {
-        Record::SHRINKING => undo_shrunk(route, sets, stops, marks, legs, n, x, w),
-        Record::PLACING => undo_placed(route, sets, stops, marks, legs, n, x, w),
-        Record::MARKING => undo_marked(route, sets, stops, marks, n, x, w),
-        _ => misfit(stops, marks),
+        Record::SHRINKING => undo_shrunk(route, sets, stops, marks, must, legs, n, x, w),
+        Record::PLACING => undo_placed(route, sets, stops, marks, must, legs, n, x, w),
+        Record::MARKING => undo_marked(route, sets, stops, marks, must, n, x, w),
+        Record::OBLIGING => undo_obliged(stops, marks, must, x, w),
+        _ => misfit(stops, marks, must),
     }
 }
 
@@ -182,12 +208,13 @@ pub fn undo_many(
     base: usize,
     trail: &[u64],
 ) -> Undone
-    requires { ⌜ Sound n (board (now route) (f .stops) (now sets) (f .marks)) × (base ≤ f .records) × (f .records ≤ roomOf (now trail)) ⌝ }
-    ensures { λ r. ⌜ undoMany (f .records - base) n (board (now (route .entry)) (f .stops) (now (sets .entry)) (f .marks)) (f .records) (now (trail .entry))
+    requires { ⌜ Sound n (board (now route) (f .stops) (now sets) (f .marks) (f .must)) × (base ≤ f .records) × (f .records ≤ roomOf (now trail)) ⌝ }
+    ensures { λ r. ⌜ undoMany (f .records - base) n (board (now (route .entry)) (f .stops) (now (sets .entry)) (f .marks) (f .must)) (f .records) (now (trail .entry))
         ≡ undid r (now (route .exit)) (now (sets .exit)) ⌝ }
 {
     let mut s = f.stops;
     let mut m = f.marks;
+    let mut g = f.must;
     let mut legs = word(route, s - 1);
     let mut left = f.records;
     while base < left {
@@ -197,6 +224,7 @@ pub fn undo_many(
             sets,
             s,
             m,
+            g,
             legs,
             n,
             trail[2 * left],
@@ -208,10 +236,12 @@ pub fn undo_many(
         legs = legs_after(route, s, o.stops, legs);
         s = o.stops;
         m = o.marks;
+        g = o.must;
     }
     Undone {
         fits: true,
         stops: s,
         marks: m,
+        must: g,
     }
 }

@@ -1,38 +1,43 @@
-// The program `trial`: a caller of the planner, as README shows it. On a sheet from standard input it tries a place that leaves the round alive, and
-// one that leaves it dead, that one with every level open too, and tells the state after each.
+// The program `trial`: a caller of the planner, as README shows it. On a sheet from standard input it tries a place that leaves the fleet alive, and
+// one that leaves it dead, that one with every level open too, and tells the first van after each.
 ghost use mathlib.Core.Path.{_≡_};
+ghost use Prim.Native.Nat.{_<_};
+ghost use Rattle.rules.specs.Numbers.{mostVans};
 ghost use Rattle.trial.specs.Tried.{triedOf};
 use board::State;
+use fleet::Fleet;
 use libc::STDIN_FILENO;
 use libc::STDOUT_FILENO;
 use listing::put_number;
 use rules::Step;
 
-// Tries to place x after p: the state with it, settled, if nothing was refused and the round is alive; otherwise the caller's own state.
-fn try_place(sheet: &[u8], state: State, trail: &mut [u64], p: usize, x: usize) -> State
-    ensures { λ r. ⌜ triedOf (now (sheet .entry)) state (now (trail .entry)) p x ≡ (r, now (trail .exit)) ⌝ }
+// Tries to place x after p in a van: the fleet with it, that van settled, if nothing was refused and the fleet is alive; otherwise the caller's own.
+fn try_place(sheet: &[u8], fleet: Fleet, trail: &mut [u64], van: usize, p: usize, x: usize) -> Fleet
+    requires { ⌜ van < mostVans ⌝ }
+    ensures { λ r. ⌜ triedOf (now (sheet .entry)) fleet (now (trail .entry)) van p x ≡ (r, now (trail .exit)) ⌝ }
 {
-    let level = planner::step(sheet, state, trail, Step::LEVEL, 0, 0);
+    let level = planner::step(sheet, fleet, trail, Step::LEVEL, 0, 0);
     if level.answer != 0 {
-        return state;
+        return fleet;
     }
-    let placed = planner::step(sheet, level.state, trail, Step::PLACE, p, x);
-    let settled = planner::step(sheet, placed.state, trail, Step::SETTLE, 0, 0);
-    let judged = planner::verdict(sheet, settled.state);
+    let word = Step::VAN * van;
+    let placed = planner::step(sheet, level.fleet, trail, word + Step::PLACE, p, x);
+    let settled = planner::step(sheet, placed.fleet, trail, word + Step::SETTLE, 0, 0);
+    let judged = planner::verdict(sheet, settled.fleet);
     if (placed.answer == 0) & (settled.answer == 0) & judged.alive {
-        return settled.state;
+        return settled.fleet;
     }
-    let back = planner::step(sheet, settled.state, trail, Step::BACK, 0, 0);
-    back.state
+    let back = planner::step(sheet, settled.fleet, trail, Step::BACK, 0, 0);
+    back.fleet
 }
 
-// The state with every level open.
-fn deepest(sheet: &[u8], state: State, trail: &mut [u64]) -> State {
-    let mut deep = state;
+// The fleet with every level open.
+fn deepest(sheet: &[u8], fleet: Fleet, trail: &mut [u64]) -> Fleet {
+    let mut deep = fleet;
     let mut i = 0;
     while i < State::LEVELS {
         let s = planner::step(sheet, deep, trail, Step::LEVEL, 0, 0);
-        deep = s.state;
+        deep = s.fleet;
         i += 1;
     }
     deep
@@ -48,30 +53,32 @@ fn put(v: usize, after: &[u8]) {
     io::write_all(STDOUT_FILENO, after);
 }
 
-// A line: how many stops, levels and records a state has.
-fn tell(name: &[u8], state: State) {
+// A line: how many stops, levels and records the first van has.
+fn tell(name: &[u8], fleet: Fleet) {
+    let vans = fleet.vans;
+    let one = vans[0];
     io::write_all(STDOUT_FILENO, name);
-    put(state.stops, b" stops ");
-    put(state.depth, b" levels ");
-    put(state.records, b" records\n");
+    put(one.stops, b" stops ");
+    put(one.depth, b" levels ");
+    put(one.records, b" records\n");
 }
 
 // A trial that leaves the round dead: with a level to open, and with none left.
-fn try_dead(sheet: &[u8], state: State, trail: &mut [u64]) {
-    let left = try_place(sheet, state, trail, 0, 2);
+fn try_dead(sheet: &[u8], fleet: Fleet, trail: &mut [u64]) {
+    let left = try_place(sheet, fleet, trail, 0, 0, 2);
     tell(b"dead: ", left);
-    let deep = deepest(sheet, state, trail);
-    let shut = try_place(sheet, deep, trail, 0, 2);
+    let deep = deepest(sheet, fleet, trail);
+    let shut = try_place(sheet, deep, trail, 0, 0, 2);
     tell(b"dead, every level open: ", shut);
 }
 
 // A trial that leaves it alive, and those. With 1 placed after 0, 2 after 0 is a transfer in wrong order.
 fn run(sheet: &[u8], trail: &mut [u64]) {
     let opened = planner::open(sheet);
-    let kept = try_place(sheet, opened.state, trail, 0, 2);
+    let kept = try_place(sheet, opened.fleet, trail, 0, 0, 2);
     tell(b"alive: ", kept);
-    let wrong = planner::step(sheet, opened.state, trail, Step::PLACE, 0, 1);
-    try_dead(sheet, wrong.state, trail);
+    let wrong = planner::step(sheet, opened.fleet, trail, Step::PLACE, 0, 1);
+    try_dead(sheet, wrong.fleet, trail);
 }
 
 fn main() {

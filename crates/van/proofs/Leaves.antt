@@ -1,4 +1,4 @@
--- A step of a van, refused, leaves its state and its trail.
+-- A step of a van, refused, leaves its state and its trail; refused or not, it sets no mark "must go somewhere": that is step 8's, the fleet's.
 use Prim.Native.Nat.{ℕ}
 use mathlib.Core.Path.{_≡_, refl, sym, ap, _∙_}
 use mathlib.Core.Bool.{Bool, true, false, cond}
@@ -15,7 +15,8 @@ use Rattle.board.specs.declared.State.{State}
 use Rattle.trail.specs.Steps.{Ran, answered}
 use Rattle.trail.specs.Steps as trail
 use Rattle.trail.proofs.StepLaws.{step-no, step-yes}
-use Rattle.van.specs.Act.{actOf}
+use Rattle.trail.proofs.Must.{place-must, close-must, exclude-must, require-must, settle-must, level-must, back-must}
+use Rattle.van.specs.Act.{actOf, owedOf, settledSets, settlingRounds}
 
 abbrev Leaves : State → List ℕ → Ran → Type 0
 Leaves s t r = (r .0 .answer ≡ 0 → ⊥) → r ≡ answered (r .0 .answer) s t
@@ -46,3 +47,23 @@ act-leaves v d s t kind a b =
     (either (Leaves s t) (eqb kind kinds.SETTLE) (leaves _ s t _ refl)
     (either (Leaves s t) (eqb kind kinds.LEVEL) (leaves _ s t _ refl)
     (either (Leaves s t) (eqb kind kinds.BACK) (leaves _ s t _ refl) (λ n. refl)))))))
+
+-- step 8 too
+pub oblige-leaves : (n : ℕ) (s : State) (t : List ℕ) (x : ℕ) → Leaves s t (trail.obligeStep n s t x)
+unfolding trail.obligeStep trail.recorded
+oblige-leaves n s t x = leaves _ s t _ (zero-both (has (s .must) x) _ _ refl refl)
+
+abbrev None : Ran → Type 0
+None r = r .0 .state .must ≡ 0
+
+-- a van without such marks has none after its step
+pub act-must : (v : Van) (d : Day) (s : State) (t : List ℕ) (kind a b : ℕ) → s .must ≡ 0 → actOf v d s t kind a b .0 .state .must ≡ 0
+unfolding actOf
+act-must v d s t kind a b z =
+    either None (eqb kind kinds.PLACE) (place-must (d .n) s t a b ∙ z)
+    (either None (eqb kind kinds.CLOSE) (close-must (d .n) s t a b ∙ z)
+    (either None (eqb kind kinds.EXCLUDE) (exclude-must (d .n) s t (owedOf d s a) a ∙ z)
+    (either None (eqb kind kinds.REQUIRE) (require-must (d .n) s t a ∙ z)
+    (either None (eqb kind kinds.SETTLE) (settle-must (d .n) s t (settlingRounds v d s) (settledSets v d s) ∙ z)
+    (either None (eqb kind kinds.LEVEL) (level-must (d .n) s t ∙ z)
+    (either None (eqb kind kinds.BACK) (back-must (d .n) s t z) z))))))

@@ -30,11 +30,11 @@ use Rattle.board.specs.declared.State.{State}
 use Rattle.trail.specs.Trail.{roomOf}
 use Rattle.trail.specs.Steps.{Ran}
 use Rattle.trail.specs.Steps as trail
-use Rattle.trail.proofs.StepLaws.{placeable, excludable, requirable}
+use Rattle.trail.proofs.StepLaws.{placeable, excludable, requirable, obligeable}
 use Rattle.trail.proofs.Since.{accepted}
 use Rattle.along.proofs.SetLaws.{Narrow, places-sets}
 use Rattle.stands.proofs.Formed.{stands-formed}
-use Rattle.stands.proofs.Changed.{plan-ext, placed-stands, closed-stands, excluded-stands, required-stands}
+use Rattle.stands.proofs.Changed.{plan-ext, placed-stands, closed-stands, excluded-stands, required-stands, obliged-stands}
 use Rattle.rules.specs.declared.Van.{Van}
 use Rattle.van.specs.Act.{planIn, settledSets, settlingRounds}
 use Rattle.van.proofs.Called.{Called}
@@ -130,3 +130,12 @@ module _ (sheet : List ℕ) (s : State) (t : List ℕ) (typed : Held s) (c : Cal
         ap (λ (r : Ran). planIn (r .0 .state)) (sym (g .1)) ∙ plan-ext _ _ refl (places-sets (settle (v) (dayOf sheet) (planIn s .route) (planIn s .places)) (places-small v)) (λ y. refl),
         ap (λ (r : Ran). r .0 .rounds) (sym (g .1)),
       )
+
+-- step 8 leaves the van's plan
+pub obliged-plan : (n : ℕ) (s : State) (t : List ℕ) {s′ : State} {t′ : List ℕ} {k : ℕ} (x : ℕ) → trail.obligeStep n s t x ≡ trail.acted 0 k s′ t′ → (planIn s′ ≡ planIn s) × (isInner n x ≡ true)
+unfolding trail.obligeStep trail.recorded
+obliged-plan n s t x e =
+    let g = accepted _ s t _ _ _ e in (
+      ap (λ (r : Ran). planIn (r .0 .state)) (sym (g .1)) ∙ decided (has (s .must) x) (λ q. rw q refl) (λ q. rw q (obliged-stands (boardOf s) x)),
+      obligeable n (boardOf s) (s .records) (roomOf t) x (g .0) .0,
+    )

@@ -6,9 +6,10 @@ ghost use Rattle.day.specs.Tell.{dayOf};
 ghost use Rattle.rules.specs.Numbers.{kinds};
 ghost use Rattle.rules.specs.Verdict.{alive};
 ghost use Rattle.rules.specs.declared.Van.{Van};
-ghost use Rattle.board.specs.Board.{stateWith};
+ghost use Rattle.board.specs.Board.{board, stateWith};
+ghost use Rattle.board.specs.Held.{Sound};
 ghost use Rattle.trail.specs.Trail.{roomOf};
-ghost use Rattle.trail.specs.Steps.{ran, settleStep};
+ghost use Rattle.trail.specs.Steps.{ran, placeStep, settleStep};
 ghost use Rattle.along.specs.Ready.{Ready};
 ghost use Rattle.van.specs.Act.{planIn, settledSets, settlingRounds, actOf};
 ghost use Rattle.van.specs.Known.{Known};
@@ -20,6 +21,7 @@ use rules::Step;
 use rules::Van;
 use sheet::Layout;
 use trail::Outcome;
+use trail::refusals::place_refusal;
 use trail::steps::back;
 use trail::steps::close;
 use trail::steps::exclude;
@@ -27,6 +29,27 @@ use trail::steps::level;
 use trail::steps::place;
 use trail::steps::require;
 use trail::steps::same;
+
+// Placing x after p, if nothing refuses.
+fn placing(
+    route: &mut [usize; Node::MOST],
+    sets: &mut [u64; Node::MOST],
+    f: Figures,
+    n: usize,
+    p: usize,
+    x: usize,
+    trail: &mut [u64],
+) -> Outcome
+    requires { ⌜ Sound n (board (now route) (f .stops) (now sets) (f .marks) (f .must)) ⌝ }
+    ensures { λ r. ⌜ ((levels : List ℕ) → placeStep n (stateWith (now (route .entry)) (now (sets .entry)) levels f) (now (trail .entry)) p x
+        ≡ ran r (now (route .exit)) (now (sets .exit)) levels (now (trail .exit))) ⌝ }
+{
+    let code = place_refusal(route, sets, f, trail.len() / 2, n, p, x);
+    if code != 0 {
+        return same(code, f);
+    }
+    place(route, sets, f, n, p, x, trail)
+}
 
 // The steps other than settling: they ask for no van.
 fn change(
@@ -50,7 +73,7 @@ fn change(
     let first = step.first;
     let second = step.second;
     match kind {
-        Step::PLACE => place(route, sets, f, n, first, second, trail),
+        Step::PLACE => placing(route, sets, f, n, first, second, trail),
         Step::CLOSE => close(route, sets, f, n, first, second, trail),
         Step::EXCLUDE => {
             let owed = verdict::owed(sheet, at, route, f.stops, f.marks, first);

@@ -1,37 +1,37 @@
-//! The questions that are no steps: opening, open places, verdict.
+//! The questions that are no steps: opening, open places, verdict, all of the whole fleet.
 
+use crate::fleet::{in_form, Fleet};
 use crate::sheet::{self, Sheet};
-use crate::state::{in_form, State};
 use crate::verdict::alive;
 
-/// The refusal or 0, and the state beside it.
-pub fn open(bytes: &[u8]) -> (u64, State) {
+/// The refusal or 0, and the fleet beside it.
+pub fn open(bytes: &[u8]) -> (u64, Fleet) {
     match sheet::read(bytes) {
-        Err(number) => (number, State::zero()),
-        Ok(sheet) if sheet::triangle_broken(&sheet) => (5, State::zero()),
-        Ok(sheet) => (0, State::fresh(sheet.n())),
+        Err(number) => (number, Fleet::zero()),
+        Ok(sheet) if sheet::triangle_broken(&sheet) => (5, Fleet::zero()),
+        Ok(sheet) => (0, Fleet::fresh(sheet.n(), sheet.v())),
     }
 }
 
-fn asked(bytes: &[u8], state: &State) -> Result<Sheet, u64> {
+fn asked(bytes: &[u8], fleet: &Fleet) -> Result<Sheet, u64> {
     let sheet = sheet::read(bytes)?;
-    if !in_form(&sheet, state, None) {
+    if !in_form(&sheet, fleet, None) {
         return Err(19);
     }
     Ok(sheet)
 }
 
-pub fn open_places(bytes: &[u8], state: &State) -> (u64, u64) {
-    match asked(bytes, state) {
-        Ok(_) => (0, state.open_places()),
+pub fn open_places(bytes: &[u8], fleet: &Fleet) -> (u64, u64) {
+    match asked(bytes, fleet) {
+        Ok(_) => (0, fleet.open_places()),
         Err(number) => (number, 0),
     }
 }
 
 /// 1 alive, 0 dead.
-pub fn verdict(bytes: &[u8], state: &State) -> (u64, u64) {
-    match asked(bytes, state) {
-        Ok(sheet) => (0, u64::from(alive(&sheet, state))),
+pub fn verdict(bytes: &[u8], fleet: &Fleet) -> (u64, u64) {
+    match asked(bytes, fleet) {
+        Ok(sheet) => (0, u64::from(alive(&sheet, fleet))),
         Err(number) => (number, 0),
     }
 }

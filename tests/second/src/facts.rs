@@ -1,10 +1,13 @@
-//! What the tests of settling ask of the route: E, L, H and its metres, by position.
+//! What the tests of settling ask of one van and its route: its limits, and E, L, H and the
+//! metres, by position.
 
 use crate::sheet::Sheet;
 use crate::slips;
 use crate::state::State;
 
 pub struct Facts {
+    pub capacity: i64,
+    pub limit: i64,
     pub path: Vec<usize>,
     /// Start time at each stop.
     pub e: Vec<i64>,
@@ -16,9 +19,11 @@ pub struct Facts {
 }
 
 impl Facts {
-    pub fn of(sheet: &Sheet, state: &State) -> Facts {
+    pub fn of(sheet: &Sheet, van: usize, state: &State) -> Facts {
         let path = state.path();
         Facts {
+            capacity: sheet.van(van).capacity,
+            limit: sheet.van(van).limit,
             e: starts(sheet, &path),
             l: latest_starts(sheet, &path),
             h: (0..path.len() - 1).map(|leg| aboard(sheet, &path, leg)).collect(),

@@ -5,16 +5,16 @@ use crate::sheet::{Job, Sheet};
 use crate::state::State;
 
 /// Would place i (after stop i of the route) of x be struck?
-pub fn falls(sheet: &Sheet, state: &State, x: usize, i: usize) -> bool {
+pub fn falls(sheet: &Sheet, van: usize, state: &State, x: usize, i: usize) -> bool {
     let path = state.path();
     let mut with = path.clone();
     with.insert(i + 1, x);
     late(sheet, &with, i + 1)
-        || !crate::rounds::in_metres(sheet, &with)
+        || !crate::rounds::in_metres(sheet, van, &with)
         || sheet.jobs.iter().any(|job| match job.kind {
-            3 if job.a == x || job.b == x => transfer_falls(sheet, state, &path, job, x, i),
+            3 if job.a == x || job.b == x => transfer_falls(sheet, van, state, &path, job, x, i),
             3 => false,
-            _ => job.a == x && !fits(sheet, &path, job, &with),
+            _ => job.a == x && !fits(sheet, van, &path, job, &with),
         })
 }
 
@@ -37,9 +37,10 @@ fn late(sheet: &Sheet, with: &[usize], at: usize) -> bool {
 
 /// Loads of the route's own whole jobs and of this one job, along the list `with`, on the legs
 /// where this job is aboard.
-fn fits(sheet: &Sheet, path: &[usize], job: &Job, with: &[usize]) -> bool {
+fn fits(sheet: &Sheet, van: usize, path: &[usize], job: &Job, with: &[usize]) -> bool {
+    let capacity = sheet.van(van).capacity;
     (0..with.len() - 1)
-        .all(|leg| !rides(job, with, leg) || load_on(sheet, path, with, leg) + job.load <= sheet.capacity)
+        .all(|leg| !rides(job, with, leg) || load_on(sheet, path, with, leg) + job.load <= capacity)
 }
 
 fn load_on(sheet: &Sheet, path: &[usize], with: &[usize], leg: usize) -> i64 {
@@ -57,12 +58,20 @@ fn rides(job: &Job, list: &[usize], leg: usize) -> bool {
     }
 }
 
-fn transfer_falls(sheet: &Sheet, state: &State, path: &[usize], job: &Job, x: usize, i: usize) -> bool {
+fn transfer_falls(
+    sheet: &Sheet,
+    van: usize,
+    state: &State,
+    path: &[usize],
+    job: &Job,
+    x: usize,
+    i: usize,
+) -> bool {
     let partner = if job.a == x { job.b } else { job.a };
     if path.contains(&partner) {
         let mut with = path.to_vec();
         with.insert(i + 1, x);
-        return !right_way(job, &with) || !fits(sheet, path, job, &with);
+        return !right_way(job, &with) || !fits(sheet, van, path, job, &with);
     }
     let mut ways = vec![];
     for j in 0..path.len() - 1 {
@@ -70,7 +79,7 @@ fn transfer_falls(sheet: &Sheet, state: &State, path: &[usize], job: &Job, x: us
             ways.extend(both_put(path, x, i, partner, j));
         }
     }
-    !ways.iter().any(|with| right_way(job, with) && fits(sheet, path, job, with))
+    !ways.iter().any(|with| right_way(job, with) && fits(sheet, van, path, job, with))
 }
 
 fn right_way(job: &Job, list: &[usize]) -> bool {

@@ -1,9 +1,13 @@
-//! The second program: the planner of 01 once more, in the plainest way, from 01 alone.
+//! The second program: the planner of 01 once more, in the plainest way, from 01 and the
+//! request for a fleet (02, No. 1) alone.
 
 pub mod check;
+pub mod choices;
 pub mod compare;
+pub mod effect;
 pub mod face;
 pub mod facts;
+pub mod fleet;
 pub mod gen;
 pub mod insertion;
 pub mod listing;
@@ -20,5 +24,6 @@ pub mod step;
 pub mod strike;
 pub mod tally;
 pub mod text;
+pub mod trail;
 pub mod undo;
 pub mod verdict;

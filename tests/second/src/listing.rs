@@ -1,14 +1,13 @@
-//! What the program `round` prints for a sheet.
+//! What the program `round` prints for a sheet: sums and verdict of the fleet, a route a van.
 
 use std::fmt::Write;
 
 use crate::face;
+use crate::fleet::Fleet;
 use crate::sheet::{self, Sheet, PROGRAM_BYTES};
-use crate::state::State;
 use crate::step::step_on;
+use crate::trail::ample;
 use crate::verdict::alive;
-
-const ROOM_WORDS: usize = 2 * 3_968;
 
 pub fn listing(bytes: &[u8]) -> String {
     if bytes.len() > PROGRAM_BYTES {
@@ -21,27 +20,29 @@ pub fn listing(bytes: &[u8]) -> String {
     }
 }
 
-fn run(sheet: &Sheet, fresh: State) -> String {
-    let mut state = fresh;
-    let mut trail = vec![0; ROOM_WORDS];
+fn run(sheet: &Sheet, fresh: Fleet) -> String {
+    let mut fleet = fresh;
+    let mut trail = vec![0; ample(sheet.n(), sheet.v())];
     let mut text = String::new();
     for (i, &words) in sheet.steps.iter().enumerate() {
-        let out = step_on(sheet, &state, &trail, words);
-        state = out.state;
+        let out = step_on(sheet, &fleet, &trail, words);
+        fleet = out.fleet;
         trail = out.trail;
         writeln!(
             text,
             "step {} answer {} open {} records {} rounds {} alive {}",
             i + 1,
             out.answer,
-            state.open_places(),
-            state.records,
+            fleet.open_places(),
+            fleet.records(),
             out.rounds,
-            u64::from(alive(sheet, &state))
+            u64::from(alive(sheet, &fleet))
         )
         .expect("text grows");
     }
-    let stops: Vec<String> = state.path().iter().map(|v| v.to_string()).collect();
-    writeln!(text, "route {}", stops.join(" ")).expect("text grows");
+    for state in &fleet.vans[..sheet.v()] {
+        let stops: Vec<String> = state.path().iter().map(|v| v.to_string()).collect();
+        writeln!(text, "route {}", stops.join(" ")).expect("text grows");
+    }
     text
 }

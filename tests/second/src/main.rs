@@ -12,9 +12,9 @@ const USAGE: &str = "usage: second listing < sheet
        second probe < cases
        second self
        second check [--seed S] [--cases N] [--case K]
-       second sample [--nodes N] [--steps K] [--seed S] > text
+       second sample [--nodes N] [--vans V] [--steps K] [--seed S] > text
        second cases --kind probe|listing --out FOLDER [--seed S] [--cases N] [--batch M]
-       second compare --kind probe|listing [--seed S] [--cases N] [--batch M] [--keep FOLDER] -- program...";
+       second compare --kind probe|listing [--seed S] [--cases N] [--batch M] [--stop D] [--keep FOLDER] -- program...";
 
 fn input() -> Result<Vec<u8>, String> {
     let mut bytes = vec![];
@@ -78,8 +78,12 @@ fn run_sample(options: &Options) -> Result<bool, String> {
     if !(4..=64).contains(&nodes) {
         return Err("--nodes wants 4 to 64".to_string());
     }
+    let vans = options.number("vans", 1)?;
+    if !(1..=8).contains(&vans) {
+        return Err("--vans wants 1 to 8".to_string());
+    }
     let rng = &mut Rng::of(options.number("seed", 1)?, nodes);
-    let mut draft = full::day(rng, nodes as usize);
+    let mut draft = full::day(rng, nodes as usize, vans as usize);
     draft.steps = full::story(rng, &draft.sheet(), options.number("steps", 240)?.min(2_000) as usize);
     print!("{}", text::from_bytes(&draft.bytes(), true)?);
     Ok(true)
@@ -91,6 +95,7 @@ fn plan(options: &Options) -> Result<(String, Plan), String> {
         seed: options.number("seed", 1)?,
         cases: options.number("cases", if kind == "probe" { 20_000 } else { 1_280 })?,
         batch: options.number("batch", 250)?.max(1),
+        stop: options.number("stop", u64::MAX)?.max(1),
         keep: options.text("keep").map(Into::into),
         program: options.command.clone(),
     };

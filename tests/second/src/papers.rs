@@ -2,6 +2,7 @@
 
 use crate::face;
 use crate::facts::Facts;
+use crate::fleet::Fleet;
 use crate::listing::listing;
 use crate::rounds::{keeps_rules, rounds_of};
 use crate::settle::settle;
@@ -9,7 +10,7 @@ use crate::sheet::{read, Sheet};
 use crate::state::State;
 use crate::step::step;
 use crate::text::to_bytes;
-use crate::verdict::alive;
+use crate::verdict::van_alive;
 
 pub const SHEET: &str = "2 2 60 | 4, 0 0 0, 0 100 5, 0 25 5, 0 100 0 | 1, 3 1 2 2 \
     | 16, 0 10 20 30 10 0 10 20 20 10 0 10 30 20 10 0 | 16, 0 10 20 30 10 0 10 20 20 10 0 10 30 20 10 0 \
@@ -48,22 +49,22 @@ fn sheet_with(changes: &[(usize, u32)]) -> Sheet {
 /// Fresh, then 2 placed after 0: route 0 2 3.
 fn placed_two(sheet_bytes: &[u8]) -> State {
     let fresh = face::open(sheet_bytes).1;
-    step(sheet_bytes, &fresh, &[0; 32], [1, 0, 2]).state
+    step(sheet_bytes, &fresh, &[0; 32], [1, 0, 2]).fleet.vans[0].clone()
 }
 
 fn route_facts(changes: &[(usize, u32)]) -> Facts {
-    Facts::of(&sheet_with(changes), &placed_two(&bytes_with(changes)))
+    Facts::of(&sheet_with(changes), 0, &placed_two(&bytes_with(changes)))
 }
 
 /// Open sets of nodes 1 and 2, rounds and verdict once the fresh state is settled.
 fn fresh_settled(changes: &[(usize, u32)]) -> (u64, u64, u64, bool) {
     let sheet = sheet_with(changes);
-    let (state, rounds) = settle(&sheet, &State::fresh(4));
-    (state.sets[1], state.sets[2], rounds, alive(&sheet, &state))
+    let (state, rounds) = settle(&sheet, 0, &State::fresh(4));
+    (state.sets[1], state.sets[2], rounds, van_alive(&sheet, 0, &state))
 }
 
 fn one_left_after_two_placed(changes: &[(usize, u32)]) -> u64 {
-    settle(&sheet_with(changes), &placed_two(&bytes_with(changes))).0.sets[1]
+    settle(&sheet_with(changes), 0, &placed_two(&bytes_with(changes))).0.sets[1]
 }
 
 /// Name and whether it holds.
@@ -71,7 +72,7 @@ pub fn table() -> Vec<(&'static str, bool)> {
     let p11 = sheet_with(&[(LATEST_3, 10)]);
     let p12 = sheet_with(&[]);
     let rounds = rounds_of(4, &State::fresh(4));
-    let kept: Vec<_> = rounds.iter().filter(|r| keeps_rules(&p12, r)).cloned().collect();
+    let kept: Vec<_> = rounds.iter().filter(|r| keeps_rules(&p12, 0, r)).cloned().collect();
     vec![
         ("listing", listing(&bytes_with(&[])) == LISTING),
         ("P1", route_facts(&[]).e == [0, 20, 35]),
@@ -84,7 +85,7 @@ pub fn table() -> Vec<(&'static str, bool)> {
         ("P8", p8()),
         ("P9", fresh_settled(&[(CAPACITY, 1)]) == (0, 0, 1, true)),
         ("P10", fresh_settled(&[(LATEST_2, 19)]) == (0, 0, 2, true)),
-        ("P11", Facts::of(&p11, &State::fresh(4)).l[0] == -20 && !alive(&p11, &State::fresh(4))),
+        ("P11", Facts::of(&p11, 0, &State::fresh(4)).l[0] == -20 && !van_alive(&p11, 0, &State::fresh(4))),
         ("P12", rounds.len() == 5 && kept == [vec![0, 3], vec![0, 1, 2, 3]]),
     ]
 }
@@ -103,7 +104,7 @@ pub fn run_only() -> Vec<(&'static str, bool)> {
         step 2 answer 12 open 0 records 0 rounds 0 alive 1\n\
         step 3 answer 12 open 0 records 0 rounds 0 alive 1\nroute 0 1\n";
     let bytes = bytes_with(&[]);
-    let fresh = State::fresh(4);
+    let fresh = Fleet::fresh(4, 1);
     vec![
         ("empty input", face::open(&[]).0 == 1 && listing(&[]) == "refused 1\n"),
         ("65 nodes", face::open(&bytes_with(&[(3, 65)])).0 == 2),

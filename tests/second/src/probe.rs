@@ -3,12 +3,12 @@
 use std::fmt::Write;
 
 use crate::face;
+use crate::fleet::{Fleet, WORDS};
 use crate::sheet;
-use crate::state::{State, WORDS};
 use crate::step::step;
 
 pub const MOST_BYTES: u64 = 61_440;
-pub const MOST_TRAIL: u64 = 8_192;
+pub const MOST_TRAIL: u64 = 65_536;
 
 pub const OPEN: u64 = 0;
 pub const STEP: u64 = 1;
@@ -19,9 +19,9 @@ pub const SECTION: u64 = 4;
 #[derive(Clone)]
 pub struct Case {
     pub question: u64,
-    /// For a section question the kind is the section's number.
+    /// For a section question the first word is the section's number.
     pub words: [u64; 3],
-    pub state: State,
+    pub fleet: Fleet,
     pub bytes: Vec<u8>,
     pub trail: Vec<u64>,
 }
@@ -45,7 +45,7 @@ impl Case {
             self.words[1],
             self.words[2],
         ];
-        for word in head.iter().chain(&self.state.to_words()) {
+        for word in head.iter().chain(&self.fleet.to_words()) {
             out.extend(word.to_le_bytes());
         }
         out.extend(&self.bytes);
@@ -54,23 +54,23 @@ impl Case {
         }
     }
 
-    /// The answer, and the state and trail as they then are.
-    pub fn ask(&self) -> (Heads, State, Vec<u64>) {
+    /// The answer, and the fleet and trail as they then are.
+    pub fn ask(&self) -> (Heads, Fleet, Vec<u64>) {
         let mut heads = Heads::default();
-        let (mut state, mut trail) = (self.state.clone(), self.trail.clone());
+        let (mut fleet, mut trail) = (self.fleet.clone(), self.trail.clone());
         match self.question {
-            OPEN => (heads.answer, state) = face::open(&self.bytes),
+            OPEN => (heads.answer, fleet) = face::open(&self.bytes),
             STEP => {
-                let out = step(&self.bytes, &state, &trail, self.words);
+                let out = step(&self.bytes, &fleet, &trail, self.words);
                 heads.answer = out.answer;
                 heads.rounds = out.rounds;
-                state = out.state;
+                fleet = out.fleet;
                 trail = out.trail;
             }
-            PLACES => (heads.answer, heads.places) = face::open_places(&self.bytes, &state),
-            _ => (heads.answer, heads.alive) = face::verdict(&self.bytes, &state),
+            PLACES => (heads.answer, heads.places) = face::open_places(&self.bytes, &fleet),
+            _ => (heads.answer, heads.alive) = face::verdict(&self.bytes, &fleet),
         }
-        (heads, state, trail)
+        (heads, fleet, trail)
     }
 
     /// The answer line, without its end.
@@ -83,9 +83,9 @@ impl Case {
             }
             return text;
         }
-        let (heads, state, trail) = self.ask();
+        let (heads, fleet, trail) = self.ask();
         let mut text = format!("{} {} {} {}", heads.answer, heads.rounds, heads.places, heads.alive);
-        for word in state.to_words().iter().chain(&trail) {
+        for word in fleet.to_words().iter().chain(&trail) {
             write!(text, " {word}").expect("text grows");
         }
         text
@@ -98,10 +98,10 @@ pub fn decode(input: &mut &[u8]) -> Option<Case> {
     if head[0] > MOST_BYTES || head[1] > MOST_TRAIL || head[2] > SECTION {
         return None;
     }
-    let state = State::from_words(&take_words(input, WORDS)?);
+    let fleet = Fleet::from_words(&take_words(input, WORDS)?);
     let bytes = take(input, head[0] as usize)?.to_vec();
     let trail = take_words(input, head[1] as usize)?;
-    Some(Case { question: head[2], words: [head[3], head[4], head[5]], state, bytes, trail })
+    Some(Case { question: head[2], words: [head[3], head[4], head[5]], fleet, bytes, trail })
 }
 
 fn take<'a>(input: &mut &'a [u8], count: usize) -> Option<&'a [u8]> {

@@ -9,14 +9,27 @@ use second::gen::full;
 use second::rng::Rng;
 
 const SIZES: [usize; 4] = [8, 16, 32, 64];
-const NAMES: [&str; 8] =
-    ["open", "place", "settle fresh", "settle half", "settle full", "verdict", "listing", "open places"];
+/// Operations 1 to 9 of the protocol.
+const NAMES: [&str; 9] = [
+    "open",
+    "place",
+    "settle fresh",
+    "settle half",
+    "settle full",
+    "verdict",
+    "listing",
+    "open places",
+    "step back",
+];
+/// Vans, and the operations that are measured with so many.
+const FLEETS: [(usize, &[u64]); 3] =
+    [(1, &[1, 2, 3, 4, 5, 6, 7, 8, 9]), (3, &[2, 4, 9, 6, 7]), (8, &[2, 4, 9, 6, 7])];
 /// The least of so many runs counts, plain and other by turns, so that both meet the same weather.
 const TURNS: usize = 7;
 
-fn sheet(n: usize) -> Vec<u8> {
+fn sheet(n: usize, vans: usize) -> Vec<u8> {
     let rng = &mut Rng::of(1, n as u64);
-    let mut draft = full::day(rng, n);
+    let mut draft = full::day(rng, n, vans);
     draft.steps = full::story(rng, &draft.sheet(), 30 * n);
     draft.bytes()
 }
@@ -95,17 +108,33 @@ fn measure(pair: &[Vec<String>; 2], operation: u64, sheet: &[u8], wanted: f64) -
 }
 
 fn table(pair: &[Vec<String>; 2], wanted: f64) -> Result<(), String> {
-    println!("{:14}{:>4}{:>14}{:>14}{:>8}", "operation", "n", "plain ns", "other ns", "ratio");
-    for (i, name) in NAMES.iter().enumerate() {
-        let mut ends = vec![];
-        for n in SIZES {
-            let [plain, other] = measure(pair, i as u64 + 1, &sheet(n), wanted)?;
-            println!("{name:14}{n:>4}{plain:>14.0}{other:>14.0}{:>8.2}", other / plain);
-            ends.push([plain, other]);
+    println!("{:14}{:>5}{:>4}{:>14}{:>14}{:>8}", "operation", "vans", "n", "plain ns", "other ns", "ratio");
+    for (vans, operations) in FLEETS {
+        let sheets = SIZES.map(|n| sheet(n, vans));
+        for &operation in operations {
+            lines(pair, operation, vans, &sheets, wanted)?;
         }
-        let growth = |side: usize| ends[SIZES.len() - 1][side] / ends[0][side];
-        println!("{name:14} growth from 8 to 64: plain {:.1}, other {:.1}", growth(0), growth(1));
     }
+    Ok(())
+}
+
+/// One operation at every size, and how it grows.
+fn lines(
+    pair: &[Vec<String>; 2],
+    operation: u64,
+    vans: usize,
+    sheets: &[Vec<u8>; 4],
+    wanted: f64,
+) -> Result<(), String> {
+    let name = NAMES[operation as usize - 1];
+    let mut ends = vec![];
+    for (n, sheet) in SIZES.iter().zip(sheets) {
+        let [plain, other] = measure(pair, operation, sheet, wanted)?;
+        println!("{name:14}{vans:>5}{n:>4}{plain:>14.0}{other:>14.0}{:>8.2}", other / plain);
+        ends.push([plain, other]);
+    }
+    let growth = |side: usize| ends[SIZES.len() - 1][side] / ends[0][side];
+    println!("{name:14}{vans:>5} growth from 8 to 64: plain {:.1}, other {:.1}", growth(0), growth(1));
     Ok(())
 }
 

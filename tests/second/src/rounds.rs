@@ -61,8 +61,12 @@ pub fn uses_place(path: &[usize], round: &[usize], p: usize, x: usize) -> bool {
     round.contains(&x) && stop_before(path, round, x) == p
 }
 
-pub fn keeps_rules(sheet: &Sheet, round: &[usize]) -> bool {
-    in_time(sheet, round) && in_metres(sheet, round) && whole_transfers(sheet, round) && in_load(sheet, round)
+/// The rules, with the limits of one van.
+pub fn keeps_rules(sheet: &Sheet, van: usize, round: &[usize]) -> bool {
+    in_time(sheet, round)
+        && in_metres(sheet, van, round)
+        && whole_transfers(sheet, round)
+        && in_load(sheet, van, round)
 }
 
 pub fn in_time(sheet: &Sheet, round: &[usize]) -> bool {
@@ -82,12 +86,12 @@ pub fn in_time(sheet: &Sheet, round: &[usize]) -> bool {
     true
 }
 
-pub fn in_metres(sheet: &Sheet, round: &[usize]) -> bool {
+pub fn in_metres(sheet: &Sheet, van: usize, round: &[usize]) -> bool {
     let mut sum = 0;
     for i in 1..round.len() {
         sum += sheet.metres(round[i - 1], round[i]);
     }
-    sum <= sheet.limit
+    sum <= sheet.van(van).limit
 }
 
 pub fn whole_transfers(sheet: &Sheet, round: &[usize]) -> bool {
@@ -100,7 +104,7 @@ pub fn whole_transfers(sheet: &Sheet, round: &[usize]) -> bool {
 }
 
 /// Walks the round with a tally of what is aboard; half transfers are not taken along.
-pub fn in_load(sheet: &Sheet, round: &[usize]) -> bool {
+pub fn in_load(sheet: &Sheet, van: usize, round: &[usize]) -> bool {
     let is_in = |x: usize| round.contains(&x);
     let mut aboard = 0;
     for job in &sheet.jobs {
@@ -118,7 +122,7 @@ pub fn in_load(sheet: &Sheet, round: &[usize]) -> bool {
                 _ => {}
             }
         }
-        if i + 1 < round.len() && aboard > sheet.capacity {
+        if i + 1 < round.len() && aboard > sheet.van(van).capacity {
             return false;
         }
     }

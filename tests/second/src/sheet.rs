@@ -1,5 +1,7 @@
 //! The day sheet as numbers, and refusals 1 to 4.
 
+use crate::slips;
+
 pub struct Node {
     pub earliest: i64,
     pub latest: i64,
@@ -14,9 +16,13 @@ pub struct Job {
     pub load: i64,
 }
 
-pub struct Sheet {
+pub struct Van {
     pub capacity: i64,
     pub limit: i64,
+}
+
+pub struct Sheet {
+    vans: Vec<Van>,
     pub nodes: Vec<Node>,
     pub jobs: Vec<Job>,
     seconds: Vec<i64>,
@@ -29,6 +35,13 @@ pub struct Sheet {
 impl Sheet {
     pub fn n(&self) -> usize {
         self.nodes.len()
+    }
+    /// How many vans the day has, 1 to 8.
+    pub fn v(&self) -> usize {
+        self.vans.len()
+    }
+    pub fn van(&self, van: usize) -> &Van {
+        &self.vans[if slips::on(slips::LIMITS_OF_THE_FIRST_VAN) { 0 } else { van }]
     }
     pub fn seconds(&self, from: usize, to: usize) -> i64 {
         self.seconds[from * self.n() + to]
@@ -43,7 +56,7 @@ impl Sheet {
     }
 }
 
-pub const PROGRAM_BYTES: usize = 60_048;
+pub const PROGRAM_BYTES: usize = 60_104;
 const MILLION: i64 = 1_000_000;
 
 pub fn words(bytes: &[u8]) -> Vec<i64> {
@@ -70,6 +83,19 @@ fn within(value: i64, low: i64, high: i64) -> Result<i64, u64> {
         return Err(3);
     }
     Ok(value)
+}
+
+/// Capacity and metre limit, pair by pair. An odd count is as much out of range as 0 or 18.
+fn vans(w: &[i64], at: &mut usize) -> Result<((usize, usize), Vec<Van>), u64> {
+    if w.first().is_some_and(|count| count % 2 == 1) {
+        return Err(2);
+    }
+    let span = section(w, at, 2, 16, 1)?;
+    let pair = |c: &[i64]| -> Result<Van, u64> {
+        Ok(Van { capacity: within(c[0], 0, 1000)?, limit: within(c[1], 0, MILLION)? })
+    };
+    let vans = w[span.0..span.1].chunks(2).map(pair).collect::<Result<_, _>>()?;
+    Ok((span, vans))
 }
 
 fn node(w: &[i64]) -> Result<Node, u64> {
@@ -106,9 +132,7 @@ pub fn read(bytes: &[u8]) -> Result<Sheet, u64> {
     }
     let w = words(bytes);
     let mut at = 0;
-    let limits = section(&w, &mut at, 2, 2, 1)?;
-    let capacity = within(w[limits.0], 0, 1000)?;
-    let limit = within(w[limits.0 + 1], 0, MILLION)?;
+    let (limits, vans) = vans(&w, &mut at)?;
     let of_nodes = section(&w, &mut at, 2, 64, 3)?;
     let nodes: Vec<Node> = w[of_nodes.0..of_nodes.1].chunks(3).map(node).collect::<Result<_, _>>()?;
     let n = nodes.len() as i64;
@@ -128,7 +152,7 @@ pub fn read(bytes: &[u8]) -> Result<Sheet, u64> {
         return Err(4);
     }
     let spans = vec![limits, of_nodes, of_jobs, of_seconds, of_metres, of_steps];
-    Ok(Sheet { capacity, limit, nodes, jobs, seconds, metres, steps, spans })
+    Ok(Sheet { vans, nodes, jobs, seconds, metres, steps, spans })
 }
 
 /// Two jobs of one kind at a node, where both ends of a transfer count.

@@ -1,6 +1,7 @@
-//! Wrong variants on purpose. The slips that 01 names, and a few more, can be switched on in
-//! `listing`, `probe` and `check` by SECOND_BREAK, so that one can see the comparison and the
-//! checks fail. Nothing else reads the switch: the side that judges is never broken.
+//! Wrong variants on purpose. The slips that 01 names, those that a fleet invites, and a few
+//! more, can be switched on in `listing`, `probe` and `check` by SECOND_BREAK, so that one can
+//! see the comparison and the checks fail. Nothing else reads the switch: the side that judges
+//! is never broken.
 
 use std::sync::atomic::{AtomicU64, Ordering};
 
@@ -12,7 +13,26 @@ pub const MARK_DROPPED_WHEN_PLACED: u64 = 5;
 pub const SPLIT_LEG_NOT_COUNTED: u64 = 6;
 pub const HALVES_MERGED_WHEN_UNDONE: u64 = 7;
 pub const FIVE_ON_A_STEP: u64 = 8;
-pub const LAST: u64 = 8;
+pub const PLACING_FORGETS_ONE_VAN: u64 = 9;
+pub const A_DEAD_VAN_LEAVES_THE_FLEET_ALIVE: u64 = 10;
+pub const MUST_IGNORED_IN_THE_VERDICT: u64 = 11;
+pub const LEVEL_IN_THE_NAMED_VAN_ONLY: u64 = 12;
+pub const BACK_IN_THE_FIRST_VAN_ONLY: u64 = 13;
+pub const RULE_BETWEEN_VANS_AFTER_EACH_RECORD: u64 = 14;
+pub const LIMITS_OF_THE_FIRST_VAN: u64 = 15;
+pub const RULE_BETWEEN_VANS_NOT_ASKED: u64 = 16;
+pub const KIND_4_IN_ANY_TRAIL: u64 = 17;
+pub const TWENTY_TWO_AFTER_ROOM: u64 = 18;
+pub const TWENTY_ONE_AFTER_12: u64 = 19;
+pub const TWENTY_ONE_ON_ANY_STEP: u64 = 20;
+pub const OWED_ONLY_WHERE_OPEN: u64 = 21;
+pub const MUST_ON_THE_ROUTE_REFUSED: u64 = 22;
+pub const MUST_OWES: u64 = 23;
+pub const ROOM_OF_THE_NAMED_VAN_ONLY: u64 = 24;
+pub const PARTS_OF_WHOLE_RECORDS: u64 = 25;
+pub const A_RECORD_IN_EVERY_OTHER_VAN: u64 = 26;
+pub const STATES_THAT_ARE_NO_VAN_NOT_ASKED: u64 = 27;
+pub const LAST: u64 = 27;
 
 static SLIP: AtomicU64 = AtomicU64::new(0);
 

@@ -1,4 +1,4 @@
-//! The state, held as 196 plain numbers so that any broken one can be written down.
+//! The state of one van, held as 196 plain numbers so that any broken one can be written down.
 
 use crate::sheet::Sheet;
 
@@ -91,9 +91,9 @@ impl State {
     /// Open places in all.
     pub fn open_places(&self) -> u64 {
         let mut sum = 0;
-        for x in 0..64 {
+        for set in self.sets.iter().filter(|&&set| set != 0) {
             for leg in 0..64 {
-                if self.is_open(x, leg) {
+                if bit(*set, leg) {
                     sum += 1;
                 }
             }
@@ -137,7 +137,7 @@ fn route_in_form(n: usize, state: &State) -> bool {
 fn sets_in_form(n: usize, state: &State) -> bool {
     let path = state.path();
     let legs = &path[..path.len() - 1];
-    for x in 0..64 {
+    for x in (0..64).filter(|&x| state.sets[x] != 0) {
         let may_be_open = x >= 1 && x + 2 <= n && !path.contains(&x);
         for leg in 0..64 {
             if state.is_open(x, leg) && !(may_be_open && legs.contains(&leg)) {

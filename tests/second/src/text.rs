@@ -1,5 +1,6 @@
 //! The text form of 01: numbers, with commas, bars and spaces between them. A `#` starts a
-//! remark that runs to the end of its line, so that a sample can say what it is about.
+//! remark that runs to the end of its line, so that a sample can say what it is about. The
+//! limits of several vans stand pair by pair; one van's stand as 01 has them.
 
 use crate::sheet::words;
 
@@ -32,7 +33,7 @@ fn word(token: &str) -> Result<u32, String> {
     token.parse().map_err(|_| format!("'{token}' does not fit a 32-bit word (at most 4294967295)"))
 }
 
-/// How the entries of each section are grouped between commas; 0 is no commas within.
+/// Words that each section's count counts, grouped between commas; 0 is no commas within.
 const WIDTHS: [usize; 6] = [0, 3, 4, 0, 0, 3];
 
 /// Bytes to text, as 01 prints its sheet, in one line; or, `long`, a line for each section and
@@ -54,7 +55,15 @@ pub fn from_bytes(bytes: &[u8], long: bool) -> Result<String, String> {
         if i == 1 {
             n = count as usize;
         }
-        parts.push(section(&rest[..length], *width, if long { n } else { 0 }));
+        let pairs = i == 0 && count > 2;
+        let row = if long && pairs {
+            1
+        } else if long {
+            n
+        } else {
+            0
+        };
+        parts.push(section(&rest[..length], if pairs { 2 } else { *width }, row));
         rest = &rest[length..];
     }
     if !rest.is_empty() {
@@ -67,6 +76,7 @@ fn plain(words: &[i64]) -> String {
     words.iter().map(|w| w.to_string()).collect::<Vec<_>>().join(" ")
 }
 
+/// `width` words between commas; `row` is 0 where all stands in one line.
 fn section(words: &[i64], width: usize, row: usize) -> String {
     let entries = &words[1..];
     let gap = if row == 0 { " " } else { "\n  " };

@@ -1,6 +1,7 @@
 //! Readings of 01 that are easy to get wrong, one small example each.
 
 use second::face::{open, open_places, verdict};
+use second::fleet::Fleet;
 use second::gen::draft::to_bytes as words_to_bytes;
 use second::listing::listing;
 use second::papers::{bytes_with, SHEET};
@@ -23,9 +24,9 @@ fn with_jobs(jobs: &str) -> Vec<u8> {
 }
 
 fn run(bytes: &[u8], steps: &[[u64; 3]]) -> Outcome {
-    let mut out = Outcome { answer: 0, rounds: 0, state: open(bytes).1, trail: vec![0; 64] };
+    let mut out = Outcome { answer: 0, rounds: 0, fleet: open(bytes).1, trail: vec![0; 64] };
     for &words in steps {
-        out = step(bytes, &out.state, &out.trail, words);
+        out = step(bytes, &out.fleet, &out.trail, words);
     }
     out
 }
@@ -48,7 +49,7 @@ fn count_then_shortness_then_values() {
 fn the_library_has_no_length_limit_but_the_program_has() {
     for (head, number) in [(vec![3], 2), (vec![2, 1001], 3)] {
         let mut words = head;
-        words.resize(15_013, 0);
+        words.resize(15_027, 0);
         let bytes = words_to_bytes(&words);
         assert_eq!(open(&bytes).0, number);
         assert_eq!(listing(&bytes), "refused 1\n");
@@ -94,43 +95,45 @@ fn triangles_of_roads_nobody_drives_count_too() {
     assert_eq!(opened_text(&SHEET.replacen("10 30 20 10 0", "10 31 20 10 0", 1)), 5);
     assert_eq!(opened_text(&SHEET.replacen("16, 0 10", "16, 7 10", 1)), 0);
     let refused = open(&to_bytes(&SHEET.replacen("10 30 20 10 0", "10 31 20 10 0", 1)).unwrap());
-    assert_eq!(refused.1, State::zero());
+    assert_eq!(refused.1, Fleet::zero());
 }
 
 #[test]
 fn a_sheet_refused_by_five_still_has_sections_and_takes_steps() {
     let bytes = to_bytes(&SHEET.replacen("10 30 20 10 0", "10 31 20 10 0", 1)).unwrap();
     assert_eq!(stretch(&bytes, 1), &bytes[4..12]);
-    assert_eq!(step(&bytes, &State::fresh(4), &[0; 8], [1, 0, 2]).answer, 0);
-    assert_eq!(verdict(&bytes, &State::fresh(4)), (0, 1));
+    assert_eq!(step(&bytes, &Fleet::fresh(4, 1), &[0; 8], [1, 0, 2]).answer, 0);
+    assert_eq!(verdict(&bytes, &Fleet::fresh(4, 1)), (0, 1));
     assert_eq!(stretch(&bytes, 7), &[] as &[u8]);
     assert_eq!(stretch(&bytes, 1 << 32 | 1), &[] as &[u8]);
 }
 
 #[test]
 fn a_refused_sheet_beats_a_broken_state() {
-    assert_eq!(open_places(&[], &State::zero()), (1, 0));
-    assert_eq!(verdict(&bytes_with(&[(0, 3)]), &State::fresh(4)), (2, 0));
-    assert_eq!(step(&bytes_with(&[]), &State::zero(), &[], [9, 9, 9]).answer, 19);
+    assert_eq!(open_places(&[], &Fleet::zero()), (1, 0));
+    assert_eq!(verdict(&bytes_with(&[(0, 3)]), &Fleet::fresh(4, 1)), (2, 0));
+    assert_eq!(step(&bytes_with(&[]), &Fleet::zero(), &[], [9, 9, 9]).answer, 19);
 }
 
 #[test]
 fn records_above_the_room_are_a_broken_state() {
     let bytes = bytes_with(&[]);
-    let mut state = State::fresh(4);
-    state.records = 5;
-    assert_eq!(step(&bytes, &state, &[0; 9], [4, 1, 0]).answer, 19);
-    assert_eq!(step(&bytes, &state, &[0; 10], [4, 1, 0]).answer, 17);
-    assert_eq!(step(&bytes, &state, &[0; 12], [4, 1, 0]).answer, 0);
-    state.records = 1 << 63;
-    assert_eq!(open_places(&bytes, &state), (0, 2));
+    let mut fleet = Fleet::fresh(4, 1);
+    fleet.vans[0].records = 5;
+    assert_eq!(step(&bytes, &fleet, &[0; 9], [4, 1, 0]).answer, 19);
+    assert_eq!(step(&bytes, &fleet, &[0; 10], [4, 1, 0]).answer, 17);
+    assert_eq!(step(&bytes, &fleet, &[0; 12], [4, 1, 0]).answer, 0);
+    fleet.vans[0].records = 1 << 63;
+    assert_eq!(open_places(&bytes, &fleet), (0, 2));
 }
 
 #[test]
 fn order_of_a_steps_refusals() {
     let bytes = bytes_with(&[]);
     for (words, answer) in [
-        ([257, 0, 1], 11),
+        ([256, 0, 1], 11),
+        ([9, 0, 1], 11),
+        ([257, 0, 1], 21),
         ([1, 3, 1], 12),
         ([1, 0, 257], 12),
         ([1, 2, 1], 14),
@@ -141,7 +144,7 @@ fn order_of_a_steps_refusals() {
         ([3, 3, 0], 12),
         ([4, 0, 0], 12),
     ] {
-        assert_eq!(step(&bytes, &State::fresh(4), &[0; 32], words).answer, answer, "{words:?}");
+        assert_eq!(step(&bytes, &Fleet::fresh(4, 1), &[0; 32], words).answer, answer, "{words:?}");
     }
     assert_eq!(run(&bytes, &[[1, 0, 2], [1, 1, 2]]).answer, 13);
 }
@@ -151,7 +154,7 @@ fn owed_nodes_are_not_excluded_even_with_no_place_open() {
     let bytes = bytes_with(&[]);
     assert_eq!(run(&bytes, &[[4, 1, 0], [2, 0, 1], [3, 1, 0]]).answer, 16);
     assert_eq!(run(&bytes, &[[2, 0, 1], [3, 1, 0]]).answer, 0);
-    assert_eq!(run(&bytes, &[[2, 0, 1], [3, 1, 0]]).state.records, 1);
+    assert_eq!(run(&bytes, &[[2, 0, 1], [3, 1, 0]]).fleet.records(), 1);
 }
 
 #[test]
@@ -164,26 +167,26 @@ fn a_placed_node_keeps_its_mark() {
 #[test]
 fn stepping_back_without_records_reads_no_trail() {
     let bytes = bytes_with(&[]);
-    let level = step(&bytes, &State::fresh(4), &[], [6, 0, 0]);
-    let back = step(&bytes, &level.state, &[], [7, 0, 0]);
-    assert_eq!((back.answer, back.state), (0, State::fresh(4)));
+    let level = step(&bytes, &Fleet::fresh(4, 1), &[], [6, 0, 0]);
+    let back = step(&bytes, &level.fleet, &[], [7, 0, 0]);
+    assert_eq!((back.answer, back.fleet), (0, Fleet::fresh(4, 1)));
 }
 
 /// Route 0 2 3 with node 1 open in leg 2 only, and a record that placed 2.
-fn placed_by_hand() -> State {
+fn placed_by_hand() -> Fleet {
     let mut state = State::fresh(4);
     state.put_path(&[0, 2, 3]);
     state.sets = [0; 64];
     state.sets[1] = 0b100;
     state.records = 1;
     state.level_count = 1;
-    state
+    Fleet::lone(state)
 }
 
 #[test]
 fn undoing_a_placing_cuts_its_leg_and_adds_nothing() {
     let back = step(&bytes_with(&[]), &placed_by_hand(), &[514, 1], [7, 0, 0]);
-    assert_eq!((back.answer, back.state.sets[1], back.state.sets[2]), (0, 0, 1));
+    assert_eq!((back.answer, back.fleet.vans[0].sets[1], back.fleet.vans[0].sets[2]), (0, 0, 1));
     assert_eq!(back.trail, [514, 1]);
 }
 
@@ -200,9 +203,11 @@ fn records_that_do_not_fit() {
         [257, 0b1000],
         [769, 0],
         [1026, 1],
+        [1026, 0],
+        [1281, 0],
     ] {
         let out = step(&bytes, &placed_by_hand(), &record, [7, 0, 0]);
-        assert_eq!((out.answer, out.state), (20, placed_by_hand()), "{record:?}");
+        assert_eq!((out.answer, out.fleet), (20, placed_by_hand()), "{record:?}");
     }
 }
 
@@ -210,20 +215,20 @@ fn records_that_do_not_fit() {
 fn each_job_is_tested_alone() {
     let text = SHEET.replace("1, 3 1 2 2", "2, 1 1 0 2, 3 2 1 1").replace("0 25 5", "0 100 5");
     let out = run(&to_bytes(&text).unwrap(), &[[5, 0, 0]]);
-    assert_eq!((out.rounds, out.state.open_places()), (0, 2));
+    assert_eq!((out.rounds, out.fleet.open_places()), (0, 2));
 }
 
 #[test]
 fn the_verdict_does_not_settle() {
     let bytes = bytes_with(&[(1, 1)]);
     let placed = run(&bytes, &[[1, 0, 1]]);
-    assert_eq!(verdict(&bytes, &placed.state), (0, 1));
+    assert_eq!(verdict(&bytes, &placed.fleet), (0, 1));
     let settled = run(&bytes, &[[1, 0, 1], [5, 0, 0]]);
-    assert_eq!(verdict(&bytes, &settled.state), (0, 0));
+    assert_eq!(verdict(&bytes, &settled.fleet), (0, 0));
 }
 
 #[test]
 fn a_dead_state_is_settled_like_any_other() {
     let out = run(&bytes_with(&[(14, 10)]), &[[5, 0, 0]]);
-    assert_eq!((out.answer, out.rounds, out.state.open_places()), (0, 1, 0));
+    assert_eq!((out.answer, out.rounds, out.fleet.open_places()), (0, 1, 0));
 }

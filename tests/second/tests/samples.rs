@@ -5,7 +5,7 @@ use second::text::to_bytes;
 
 #[test]
 fn samples_give_their_listings() {
-    for name in ["paper", "ward", "full"] {
+    for name in ["paper", "ward", "full", "morning"] {
         let path = |end: &str| format!("{}/../../samples/{name}.{end}", env!("CARGO_MANIFEST_DIR"));
         let text = std::fs::read_to_string(path("txt")).unwrap();
         let stored = std::fs::read_to_string(path("listing")).unwrap();

@@ -18,7 +18,7 @@ returns : tie.Need-returns
 returns c = section-none _ _ _ (λ z. c .before .if1 .taken (found-answer _ _ (c .before .before .before .checked .ensures) ∙ z))
 
 span-of-requires : tie.Need-span-of-requires
-span-of-requires c κs = let l = call-laid _ (c .before .before .checked .ensures) (c .if1 .left) in let f = l .fine in (omega arith, omega arith, omega arith)
+span-of-requires c κs = let l = call-laid _ (c .before .before .checked .ensures) (c .if1 .left) in let f = l .fine in (omega arith, omega arith, omega arith, omega arith)
 
 mul-from : tie.Need-mul-from
 mul-from c = let l = call-laid _ (c .before .before .before .before .checked .ensures) (c .before .before .if1 .left) in let f = span-fits _ l (c .before .span-of .ensures) in omega arith

@@ -13,17 +13,20 @@ mul-t5 : tie.Need-mul-t5
 mul-t5 c = search needs
 
 mul-t6 : tie.Need-mul-t6
-mul-t6 c = let p = c .before .before .pre in omega (arith, mul-le-mul (p .0) (p .0))
+mul-t6 c = search needs
 
 mul-t7 : tie.Need-mul-t7
-mul-t7 c = let p = c .before .before .pre in omega (arith, mul-le-mul (p .0) (p .0))
+mul-t7 c = let p = c .before .before .pre in omega (arith, mul-le-mul (p .1) (p .1))
 
 mul-t8 : tie.Need-mul-t8
-mul-t8 c = search needs
+mul-t8 c = let p = c .before .before .pre in omega (arith, mul-le-mul (p .1) (p .1))
+
+mul-t9 : tie.Need-mul-t9
+mul-t9 c = search needs
 
 returns : tie.Need-returns
 unfolding spanOf
-returns c = λ s e. rw (c .match .keys1, e)
+returns c = λ s e. rw (c .before .match .keys1, e)
 
 returns-2 : tie.Need-returns-2
 unfolding spanOf
@@ -58,6 +61,7 @@ span-of-spec =
     mul-t6
     mul-t7
     mul-t8
+    mul-t9
     returns
     returns-2
     returns-3

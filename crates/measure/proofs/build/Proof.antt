@@ -1,34 +1,34 @@
-use borrow.Author.Needs.{needs}
-use native.Mathlib.Omega.{arith}
-use Prim.Native.Nat.{_-_, _≤_}
+use Prim.Native.Nat.{_-_}
 use mathlib.Core.Path.{_≡_}
 use lib.ListN.{length}
+use borrow.Author.Needs.{needs}
+use native.Mathlib.Omega.{arith}
 use Rattle.measure.proofs.build.Statement.{statement}
 use Rattle.measure.proofs.build.Tie as tie
 
 abbrev Inv-loop : tie.InvT-loop
-Inv-loop sheet trail₀ stops state₀ x₀ trail state x = (1 ≤ x) × (length trail ≡ length trail₀)
+Inv-loop sheet v trail₀ end fleet₀ x₀ trail fleet x = length trail ≡ length trail₀
 
 abbrev μ-loop : tie.MeasureT-loop
-μ-loop sheet trail₀ stops state₀ x₀ trail state x = stops - x
+μ-loop sheet v trail₀ end fleet₀ x₀ trail fleet x = end - x
 
 loop-holds : tie.Need-loop-holds Inv-loop μ-loop
-loop-holds c = (search needs, search needs)
+loop-holds c = search needs
 
-sub-step : tie.Need-sub-step Inv-loop μ-loop
-sub-step c = search needs
+ward-task-requires : tie.Need-ward-task-requires Inv-loop μ-loop
+ward-task-requires c κs = search needs
 
 step-requires : tie.Need-step-requires Inv-loop μ-loop
 step-requires c κs = search needs
 
 add-x : tie.Need-add-x Inv-loop μ-loop
-add-x c = search needs
+add-x c = omega arith
 
 loop-less : tie.Need-loop-less Inv-loop μ-loop
-loop-less c = search needs
+loop-less c = omega arith
 
 loop-again : tie.Need-loop-again Inv-loop μ-loop
-loop-again c = (omega arith, search needs)
+loop-again c = search needs
 
 same-length : tie.Need-same-length Inv-loop μ-loop
 same-length c = search needs
@@ -43,7 +43,7 @@ build-spec =
     Inv-loop
     μ-loop
     loop-holds
-    sub-step
+    ward-task-requires
     step-requires
     add-x
     loop-less

@@ -1,17 +1,16 @@
-use borrow.Author.Needs.{needs}
-use native.Mathlib.Omega.{arith}
-use Prim.Native.Nat.{_-_, _≤_}
 use mathlib.Core.Path.{_≡_}
 use lib.ListN.{length}
+use borrow.Author.Needs.{needs}
+use native.Mathlib.Omega.{arith}
+use Prim.Native.Nat.{_≤_, _-_}
 use Rattle.measure.proofs.repeat.Statement.{statement}
 use Rattle.measure.proofs.repeat.Tie as tie
 
 abbrev Inv-loop : tie.InvT-loop
-Inv-loop operation count sheet₀ state half trail₀ spot sum₀ i₀ sheet trail sum i =
-    (i ≤ count) × (length sheet ≡ length sheet₀) × (length trail ≡ length trail₀)
+Inv-loop operation count sheet₀ fleet v trail₀ task spot sum₀ i₀ sheet trail sum i = (i ≤ count) × (length sheet ≡ length sheet₀) × (length trail ≡ length trail₀)
 
 abbrev μ-loop : tie.MeasureT-loop
-μ-loop operation count sheet₀ state half trail₀ spot sum₀ i₀ sheet trail sum i = count - i
+μ-loop operation count sheet₀ fleet v trail₀ task spot sum₀ i₀ sheet trail sum i = count - i
 
 diagonal-requires : tie.Need-diagonal-requires Inv-loop μ-loop
 diagonal-requires c κs = search needs
@@ -29,10 +28,10 @@ wrapping-add-u64-requires : tie.Need-wrapping-add-u64-requires Inv-loop μ-loop
 wrapping-add-u64-requires c κs = search needs
 
 add-i : tie.Need-add-i Inv-loop μ-loop
-add-i c = search needs
+add-i c = omega arith
 
 loop-less : tie.Need-loop-less Inv-loop μ-loop
-loop-less c = search needs
+loop-less c = omega arith
 
 loop-again : tie.Need-loop-again Inv-loop μ-loop
 loop-again c = (omega arith, search needs, search needs)

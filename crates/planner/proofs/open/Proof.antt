@@ -4,6 +4,7 @@ use Rattle.sheet.proofs.PlaceLaws.{found-answer}
 use Rattle.day.specs.Refuse.{openRefusal}
 use Rattle.day.proofs.RefuseLaws.{open-laid}
 use Rattle.planner.specs.Face.{openOf}
+use Rattle.planner.proofs.AskLaws.{sized}
 use borrow.Author.Needs.{needs}
 use Rattle.planner.proofs.open.Statement.{statement}
 use Rattle.planner.proofs.open.Tie as tie
@@ -15,7 +16,7 @@ opening-requires : tie.Need-opening-requires
 opening-requires c κs = search needs
 
 fresh-requires : tie.Need-fresh-requires
-fresh-requires c κs = search needs
+fresh-requires c κs = let o = c .before .before .before in sized (open-laid _ (o .opening .ensures) (c .if1 .taken)) .most
 
 none-requires : tie.Need-none-requires
 none-requires c κs = search needs
@@ -25,7 +26,7 @@ unfolding openOf
 returns c =
     let t = c .before in
     let o = t .before .before .before in
-    rw (c .fresh .ensures, t .if1 .taken, sym (answer o) ∙ t .if1 .taken, open-laid _ (o .opening .ensures) (t .if1 .taken) .nodes)
+    rw (c .fresh .ensures, t .if1 .taken, sym (answer o) ∙ t .if1 .taken, open-laid _ (o .opening .ensures) (t .if1 .taken) .nodes, open-laid _ (o .opening .ensures) (t .if1 .taken) .vans)
 
 returns-2 : tie.Need-returns-2
 unfolding openOf

@@ -23,7 +23,7 @@ judged-requires c κs = search needs
 
 returns-2 : tie.Need-returns-2
 unfolding jobsRefusal
-returns-2 c = let q = c .before .before .before .before .before .before .pre in let h = part-head _ _ _ _ _ (c .before .before .before .before .head .ensures) (c .before .before .if1 .left) in part-judged _ _ _ _ (rw (q .0) at (c .before .before .before .before .head .ensures)) _ (c .before .before .if1 .left) (c .judged .ensures) (rw (h .0 .count, h .0 .from, q .0, q .1) at (c .before .jobs-ok .ensures))
+returns-2 c = let q = c .before .before .before .before .before .before .pre in let h = part-head _ _ _ _ _ (c .before .before .before .before .head .ensures) (c .before .before .if1 .left) in part-judged _ _ _ _ (rw (q .0) at (c .before .before .before .before .head .ensures)) _ (c .before .before .if1 .left) (c .judged .ensures) (rw (h .0 .count, h .0 .from, q .0, q .2) at (c .before .jobs-ok .ensures))
 
 pub jobs-spec : {M : Type 1} → statement M
 jobs-spec =

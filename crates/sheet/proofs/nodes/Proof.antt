@@ -10,7 +10,7 @@ head-requires c κs = search needs
 
 returns : tie.Need-returns
 unfolding nodesRefusal
-returns c = let q = c .before .before .before .before .pre in part-stops _ _ _ _ (rw q at (c .before .before .head .ensures)) _ (c .if1 .taken)
+returns c = let q = c .before .before .before .before .pre in part-stops _ _ _ _ (rw (q .0) at (c .before .before .head .ensures)) _ (c .if1 .taken)
 
 nodes-ok-requires : tie.Need-nodes-ok-requires
 nodes-ok-requires c κs = let h = part-head _ _ _ _ _ (c .before .before .head .ensures) (c .if1 .left) in omega arith
@@ -20,7 +20,7 @@ judged-requires c κs = search needs
 
 returns-2 : tie.Need-returns-2
 unfolding nodesRefusal
-returns-2 c = let q = c .before .before .before .before .before .before .pre in let h = part-head _ _ _ _ _ (c .before .before .before .before .head .ensures) (c .before .before .if1 .left) in part-judged _ _ _ _ (rw q at (c .before .before .before .before .head .ensures)) _ (c .before .before .if1 .left) (c .judged .ensures) (rw (h .0 .count, h .0 .from, q) at (c .before .nodes-ok .ensures))
+returns-2 c = let q = c .before .before .before .before .before .before .pre in let h = part-head _ _ _ _ _ (c .before .before .before .before .head .ensures) (c .before .before .if1 .left) in part-judged _ _ _ _ (rw (q .0) at (c .before .before .before .before .head .ensures)) _ (c .before .before .if1 .left) (c .judged .ensures) (rw (h .0 .count, h .0 .from, q .0) at (c .before .nodes-ok .ensures))
 
 pub nodes-spec : {M : Type 1} → statement M
 nodes-spec = tie.close (tie.spec head-requires returns nodes-ok-requires judged-requires returns-2)

@@ -37,7 +37,11 @@ returns-2 : tie.Need-returns-2
 returns-2 c = found-refused _ (c .refused2 .ensures) (first-stops _ (part-answer _ _ _ _ (c .before .before .before .limits .ensures)) (c .before .if2 .taken) ∙ sym (whole (c .before .before .before .before))) (c .before .if2 .taken)
 
 nodes-requires : tie.Need-nodes-requires
-nodes-requires c κs = let e = c .before .before .limits .ensures in let S = part-stands _ _ _ _ e (c .if2 .left) in let h = limits-zero _ (sym (part-answer _ _ _ _ e) ∙ c .if2 .left) in omega arith
+nodes-requires c κs =
+    let e = c .before .before .limits .ensures in
+    let v = part-stands _ _ _ _ e (c .if2 .left) in
+    let h = limits-zero _ (sym (part-answer _ _ _ _ e) ∙ c .if2 .left) in
+    omega arith
 
 refused-requires-3 : tie.Need-refused-requires-3
 refused-requires-3 c κs = search needs
@@ -49,8 +53,10 @@ from-jobs-requires : tie.Need-from-jobs-requires
 from-jobs-requires c κs =
     let n = c .before .before in
     let e = n .before in
+    let v = e .before .before .limits .ensures in
+    let y = sym (part-answer _ _ _ _ v) ∙ e .if2 .left in
     let z = sym (part-answer _ _ _ _ (n .nodes .ensures)) ∙ c .if3 .left in
-    ((part-stands _ _ _ _ (e .before .before .limits .ensures) (e .if2 .left) .from, z, part-stands _ _ _ _ (n .nodes .ensures) (c .if3 .left)), past-limits e ∙ or-else-next _ _ z)
+    ((y, z), ((part-stands _ _ _ _ v (e .if2 .left), part-stands _ _ _ _ (n .nodes .ensures) (c .if3 .left)), past-limits e ∙ or-else-next _ _ z))
 
 returns-4 : tie.Need-returns-4
 returns-4 c = search needs

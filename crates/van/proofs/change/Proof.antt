@@ -19,8 +19,8 @@ state d = stateWith (d .args .route .now) (d .args .sets .now) (d .args .levels 
 fine : (d : tie.Start) → Sound (d .args .at .nodes) (boardOf (state d))
 fine d = sound (state d) (d .pre .0 .laid) (d .pre .0 .held) (form-with _ _ _ (d .pre .0 .form) .0)
 
-place-requires : tie.Need-place-requires
-place-requires c κs = fine (c .before .before .before .before .before .before)
+placing-requires : tie.Need-placing-requires
+placing-requires c κs = fine (c .before .before .before .before .before .before)
 
 close-requires : tie.Need-close-requires
 close-requires c κs = fine (c .before .before .before .before .before .before)
@@ -58,7 +58,7 @@ returns c = λ v.
     let k = c .before .before in
     let m = k .before .before .before .before in
     let d = m .before .before .before in
-    rw (m .match .keys1) (rw (d .pre .0 .laid .nodes) at (k .place .ensures (d .args .levels .now)))
+    rw (m .match .keys1) (rw (d .pre .0 .laid .nodes) at (k .placing .ensures (d .args .levels .now)))
 
 same-length-2 : tie.Need-same-length-2
 same-length-2 c = search needs
@@ -122,7 +122,7 @@ pub change-spec : {M : Type 1} → statement M
 change-spec =
     tie.close
     (tie.spec
-    place-requires
+    placing-requires
     close-requires
     owed-requires
     exclude-requires

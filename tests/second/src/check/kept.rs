@@ -1,64 +1,95 @@
-//! Kept rounds: what each accepted step leaves of the rounds that belonged before it.
+//! Kept choices: what each accepted step leaves of the choices that the fleet stood for.
 
 use super::trouble::hold;
 use super::{Scene, Trouble};
+use crate::choices::{choices, holds, Choice};
+use crate::fleet::Fleet;
 use crate::gen::steps;
 use crate::rng::Rng;
-use crate::rounds::{all_rounds, rounds_of, uses_place};
-use crate::state::State;
-use crate::step::step_on;
+use crate::rounds::{all_rounds, uses_place};
+use crate::step::{step_on, Step};
 use crate::tally::Tally;
 
 pub const NAMES: &[&str] = &[
-    "kept rounds: step 1",
-    "kept rounds: step 2",
-    "kept rounds: step 3",
-    "kept rounds: step 4",
-    "kept rounds: some lost",
-    "kept rounds: a level loses none",
+    "kept: step 1",
+    "kept: step 2",
+    "kept: step 3",
+    "kept: step 4",
+    "kept: step 8",
+    "kept: some lost",
+    "kept: a level loses none",
+    "kept: with 1 vans",
+    "kept: with 2 vans",
+    "kept: with 3 vans",
     "fresh: every round belongs",
 ];
 
 pub fn check(rng: &mut Rng, scene: &Scene, tally: &mut Tally) -> Result<(), Trouble> {
-    let n = scene.sheet.n();
-    let fresh = State::fresh(n);
-    let all = rounds_of(n, &fresh) == all_rounds(n);
-    hold(all, NAMES[6], scene, &fresh, String::new)?;
-    tally.add(NAMES[6]);
-    for kind in [1, 2, 3, 4, 6] {
+    fresh(scene, tally)?;
+    let before = choices(&scene.sheet, &scene.fleet);
+    for kind in [1, 2, 3, 4, 8, 6] {
         for _ in 0..2 {
-            let words = steps::pick_of(rng, &scene.sheet, &scene.state, &[kind]);
-            one(scene, words, tally)?;
+            let words = steps::pick_of(rng, &scene.sheet, &scene.fleet, &[kind]);
+            one(scene, words, &before, tally)?;
         }
     }
     Ok(())
 }
 
-fn one(scene: &Scene, words: [u64; 3], tally: &mut Tally) -> Result<(), Trouble> {
-    let out = step_on(&scene.sheet, &scene.state, &scene.trail, words);
+/// A fresh fleet stands for every choice of lists that share no ward.
+fn fresh(scene: &Scene, tally: &mut Tally) -> Result<(), Trouble> {
+    let (n, v) = (scene.sheet.n(), scene.sheet.v());
+    let fresh = Fleet::fresh(n, v);
+    let mut every: Vec<Choice> = vec![vec![]];
+    for _ in 0..v {
+        every = every.iter().flat_map(|choice| longer(n, choice)).collect();
+    }
+    hold(choices(&scene.sheet, &fresh) == every, NAMES[10], scene, &fresh, String::new)?;
+    tally.add(NAMES[10]);
+    Ok(())
+}
+
+/// The choice with any one list more that shares no ward with it.
+fn longer(n: usize, choice: &Choice) -> Vec<Choice> {
+    let free = |x: &usize| *x == 0 || *x == n - 1 || !holds(choice, *x);
+    let lists = all_rounds(n).into_iter().filter(|round| round.iter().all(free));
+    lists.map(|round| choice.iter().cloned().chain([round]).collect()).collect()
+}
+
+fn one(scene: &Scene, words: [u64; 3], before: &[Choice], tally: &mut Tally) -> Result<(), Trouble> {
+    let out = step_on(&scene.sheet, &scene.fleet, &scene.trail, words);
     if out.answer != 0 {
         return Ok(());
     }
-    let n = scene.sheet.n();
-    let path = scene.state.path();
-    let (first, second) = (words[1] as usize, words[2] as usize);
-    let before = rounds_of(n, &scene.state);
-    let mut kept = before.clone();
-    kept.retain(|round| match words[0] {
-        1 => uses_place(&path, round, first, second),
-        2 => !uses_place(&path, round, first, second),
-        3 => !round.contains(&first),
-        4 => round.contains(&first),
-        _ => true,
-    });
-    let after = rounds_of(n, &out.state);
-    let name = if words[0] == 6 { NAMES[5].to_string() } else { format!("kept rounds: step {}", words[0]) };
-    hold(after == kept, &name, scene, &scene.state, || {
+    let step = Step::of(words);
+    let mut kept = before.to_vec();
+    kept.retain(|choice| stays(scene, &step, choice));
+    let after = choices(&scene.sheet, &out.fleet);
+    let name = if step.kind == 6 { NAMES[6].to_string() } else { format!("kept: step {}", step.kind) };
+    hold(after == kept, &name, scene, &scene.fleet, || {
         format!("step {words:?}\nkept {kept:?}\nbelong after {after:?}\n")
     })?;
     if kept.len() < before.len() {
-        tally.add(NAMES[4]);
+        tally.add(NAMES[5]);
     }
     tally.add(name);
+    tally.add(format!("kept: with {} vans", scene.sheet.v()));
     Ok(())
+}
+
+/// Steps 1 to 4 speak of the named van's round, step 8 of all.
+fn stays(scene: &Scene, step: &Step, choice: &Choice) -> bool {
+    let (first, second) = (step.first as usize, step.second as usize);
+    match step.kind {
+        8 => return holds(choice, first),
+        1..=4 => {}
+        _ => return true,
+    }
+    let (path, round) = (scene.fleet.vans[step.van as usize].path(), &choice[step.van as usize]);
+    match step.kind {
+        1 => uses_place(&path, round, first, second),
+        2 => !uses_place(&path, round, first, second),
+        3 => !round.contains(&first),
+        _ => round.contains(&first),
+    }
 }

@@ -1,4 +1,4 @@
-//! Demands 2 and 3 on small states, where every round can be listed.
+//! Demands 2 and 3 on small fleets, where every choice of one round a van can be listed.
 
 mod alike;
 mod back;
@@ -6,54 +6,74 @@ mod kept;
 mod refusals;
 mod settling;
 mod trouble;
+mod verdicts;
 
-use crate::gen::{damage, edges, sheets, states};
+use crate::fleet::Fleet;
+use crate::gen::{damage, edges, fleets, parts, sheets};
 use crate::rng::Rng;
 use crate::sheet::{triangle_broken, Sheet};
-use crate::state::State;
 use crate::tally::Tally;
 pub use trouble::Trouble;
 
-/// A sheet, a state in form for it, and a trail with room.
+/// A sheet, a fleet in form for it, and a trail with room.
 pub struct Scene {
     pub bytes: Vec<u8>,
     pub sheet: Sheet,
     /// Opening accepts the sheet, so the promises that lean on the triangle hold.
     pub opened: bool,
-    pub state: State,
+    pub fleet: Fleet,
     pub trail: Vec<u64>,
 }
 
 pub fn expected() -> Tally {
     let mut names: Vec<String> = vec![];
-    for group in [kept::NAMES, settling::NAMES, back::NAMES, alike::NAMES, refusals::NAMES] {
+    let groups = [kept::NAMES, settling::NAMES, verdicts::NAMES, back::NAMES, alike::NAMES, refusals::NAMES];
+    for group in groups {
         names.extend(group.iter().map(|name| name.to_string()));
     }
-    for number in (1..=5).chain(11..=20) {
+    for number in (1..=5).chain(11..=22) {
         names.push(format!("refusal {number}"));
     }
     Tally::expecting(names)
 }
 
+/// Vans and nodes, small enough to list every choice.
+fn size(rng: &mut Rng) -> (usize, usize) {
+    match rng.below(8) {
+        0..=2 => (1, *rng.pick(&[2, 3, 4, 4, 5, 5, 5, 6, 6])),
+        3..=5 => (2, *rng.pick(&[2, 3, 4, 4, 5, 5, 6])),
+        _ => (3, *rng.pick(&[3, 4, 4, 5])),
+    }
+}
+
 fn scene(rng: &mut Rng) -> Scene {
-    let n = *rng.pick(&[2, 3, 4, 4, 5, 5, 5, 6, 6]);
-    let mut draft = sheets::plain(rng, n);
+    let (v, n) = size(rng);
+    let mut draft = sheets::plain(rng, n, v);
     if rng.one_in(2) {
         edges::loosen(rng, &mut draft);
     }
     let sheet = draft.sheet();
     let count = *rng.pick(&[0, 0, 2, 5, 14]);
-    let (state, mut trail) = states::reached(rng, &sheet, count);
-    let state = if rng.one_in(3) { states::made_up(rng, &sheet) } else { state };
+    let (mut fleet, mut trail) = fleets::reached(rng, &sheet, count);
+    if rng.one_in(3) {
+        fleet = fleets::made_up(rng, &sheet);
+    }
+    let van = rng.below(v);
+    if rng.one_in(4) {
+        fleets::quiet_but(rng, &sheet, &mut fleet, van);
+        fleets::put_levels(rng, &sheet, &mut fleet, &[0; 8]);
+        trail.fill(0);
+    }
     for _ in 0..rng.below(3) {
-        edges::sharpen(rng, &mut draft, &state);
+        edges::sharpen(rng, &mut draft, van, &fleet.vans[van]);
     }
     if rng.one_in(8) && n > 2 {
         damage::triangle(rng, &mut draft);
     }
-    trail.resize(2 * state.records as usize + 60, 0);
+    let each = 2 * fleets::most_records(&fleet) as usize + 60;
+    trail = parts::join(rng, &parts::cut(&trail, v), each);
     let sheet = draft.sheet();
-    Scene { bytes: draft.bytes(), opened: !triangle_broken(&sheet), sheet, state, trail }
+    Scene { bytes: draft.bytes(), opened: !triangle_broken(&sheet), sheet, fleet, trail }
 }
 
 /// All properties on case `number`.

@@ -1,13 +1,13 @@
 //! Refused: nothing changes. Seen on the same broken cases that the comparison uses.
 
 use super::Trouble;
+use crate::fleet::Fleet;
 use crate::gen::probes::case;
 use crate::probe::{OPEN, SECTION, STEP};
-use crate::state::State;
 use crate::tally::Tally;
 
 pub const NAMES: &[&str] = &[
-    "refused: state and trail as before, rounds 0",
+    "refused: fleet and trail as before, rounds 0",
     "refused opening: every number 0",
     "questions change nothing",
 ];
@@ -25,10 +25,10 @@ fn one(seed: u64, number: u64, tally: &mut Tally) -> Result<(), Trouble> {
     if case.question == SECTION {
         return Ok(());
     }
-    let (heads, state, trail) = case.ask();
-    let untouched = state == case.state && trail == case.trail;
+    let (heads, fleet, trail) = case.ask();
+    let untouched = fleet == case.fleet && trail == case.trail;
     let (name, well) = match case.question {
-        OPEN if heads.answer != 0 => (NAMES[1], state == State::zero() && trail == case.trail),
+        OPEN if heads.answer != 0 => (NAMES[1], fleet == Fleet::zero() && trail == case.trail),
         STEP if heads.answer != 0 => (NAMES[0], untouched && heads.rounds == 0),
         OPEN | STEP => return Ok(()),
         _ => (NAMES[2], untouched && (heads.answer == 0 || heads.places == 0 && heads.alive == 0)),
@@ -38,7 +38,7 @@ fn one(seed: u64, number: u64, tally: &mut Tally) -> Result<(), Trouble> {
         return Err(Trouble {
             property: name.to_string(),
             sheet: case.bytes,
-            state: Box::new(case.state),
+            fleet: Box::new(case.fleet),
             note,
         });
     }

@@ -3,22 +3,23 @@
 use std::fmt;
 
 use super::Scene;
+use crate::fleet::Fleet;
 use crate::state::State;
 use crate::text::from_bytes;
 
 pub struct Trouble {
     pub property: String,
     pub sheet: Vec<u8>,
-    pub state: Box<State>,
+    pub fleet: Box<Fleet>,
     pub note: String,
 }
 
 impl Trouble {
-    pub fn of(property: &str, scene: &Scene, state: &State, note: String) -> Trouble {
+    pub fn of(property: &str, scene: &Scene, fleet: &Fleet, note: String) -> Trouble {
         Trouble {
             property: property.to_string(),
             sheet: scene.bytes.clone(),
-            state: Box::new(state.clone()),
+            fleet: Box::new(fleet.clone()),
             note,
         }
     }
@@ -29,13 +30,13 @@ pub fn hold(
     holds: bool,
     property: &str,
     scene: &Scene,
-    state: &State,
+    fleet: &Fleet,
     note: impl FnOnce() -> String,
 ) -> Result<(), Trouble> {
     if holds {
         return Ok(());
     }
-    Err(Trouble::of(property, scene, state, note()))
+    Err(Trouble::of(property, scene, fleet, note()))
 }
 
 impl fmt::Display for Trouble {
@@ -45,12 +46,23 @@ impl fmt::Display for Trouble {
             Ok(text) => write!(f, "sheet: {text}")?,
             Err(why) => writeln!(f, "sheet: {why}: {:?}", self.sheet)?,
         }
-        writeln!(f, "state: {}", describe(&self.state))?;
+        write!(f, "{}", describe_fleet(&self.fleet))?;
         write!(f, "{}", self.note)
     }
 }
 
-pub fn describe(state: &State) -> String {
+/// A line for each state with anything in it.
+pub fn describe_fleet(fleet: &Fleet) -> String {
+    let mut text = format!("must {:b}\n", fleet.must);
+    for (van, state) in fleet.vans.iter().enumerate() {
+        if *state != State::zero() {
+            text += &format!("van {van}: {}\n", describe(state));
+        }
+    }
+    text
+}
+
+fn describe(state: &State) -> String {
     let stops = (state.stops as usize).min(64);
     let used = (state.level_count as usize).min(64);
     let sets: Vec<String> =

@@ -1,18 +1,21 @@
 //! What a comparison must have met, by name.
 
+use super::{back_coverage, fleet_coverage};
 use crate::probe::{Case, OPEN, PLACES, SECTION, STEP};
-use crate::sheet::{read, triangle_broken};
+use crate::sheet::{read, triangle_broken, Sheet};
+use crate::step::Step;
 use crate::tally::Tally;
 
 /// Which refusals each kind of step can meet, besides those of the sheet, 11 and 19.
-const OF_KIND: [(u64, &[u64]); 7] = [
-    (1, &[12, 13, 14, 15, 17]),
-    (2, &[12, 13, 14, 15, 17]),
-    (3, &[12, 13, 16, 17]),
-    (4, &[12, 13, 17]),
-    (5, &[17]),
+const OF_KIND: [(u64, &[u64]); 8] = [
+    (1, &[21, 12, 13, 14, 15, 22, 17]),
+    (2, &[21, 12, 13, 14, 15, 17]),
+    (3, &[21, 12, 13, 16, 17]),
+    (4, &[21, 12, 13, 17]),
+    (5, &[21, 17]),
     (6, &[18]),
     (7, &[18, 20]),
+    (8, &[12, 17]),
 ];
 
 /// Besides the answers: things that must be among the cases.
@@ -29,12 +32,13 @@ const MORE: &[&str] = &[
     "bad case: cut short",
     "bad case: sheet over its bound",
     "bad case: trail over its bound",
-    "sheet: above 60,048 bytes",
+    "sheet: above 60,104 bytes",
     "sheet: 64 nodes",
     "sheet: 2 nodes",
     "trail: odd length",
+    "trail: words left over",
     "trail: empty",
-    "trail: 8,192 words",
+    "trail: 65,536 words",
 ];
 
 pub fn of_probes() -> Tally {
@@ -42,7 +46,7 @@ pub fn of_probes() -> Tally {
     for number in 0..=5 {
         names.push(format!("open: answer {number}"));
     }
-    for number in [0, 1, 2, 3, 4].into_iter().chain(11..=20) {
+    for number in [0, 1, 2, 3, 4].into_iter().chain(11..=22) {
         names.push(format!("step: answer {number}"));
     }
     for (kind, numbers) in OF_KIND {
@@ -60,27 +64,21 @@ pub fn of_probes() -> Tally {
     for number in 1..=4 {
         names.push(format!("section: empty by refusal {number}"));
     }
-    names.extend(MORE.iter().map(|name| name.to_string()));
+    for vans in 1..=8 {
+        names.push(format!("step: accepted with {vans} vans"));
+    }
+    let groups = [MORE, fleet_coverage::NAMES, back_coverage::NAMES];
+    names.extend(groups.concat().iter().map(|name| name.to_string()));
     Tally::expecting(names)
 }
 
 pub fn note_probe(tally: &mut Tally, case: &Case) {
     let sheet = read(&case.bytes);
-    let broken = sheet.as_ref().is_ok_and(triangle_broken);
-    note_shape(tally, case, sheet.as_ref().map_or(0, |s| s.n()));
+    note_shape(tally, case, sheet.as_ref().map_or((0, 1), |s| (s.n(), s.v())));
     if case.question == SECTION {
-        let number = case.words[0];
-        match &sheet {
-            _ if !(1..=6).contains(&number) => tally.add("section: number not in 1 to 6"),
-            Err(refusal) => tally.add(format!("section: empty by refusal {refusal}")),
-            Ok(_) => tally.add(format!("section {number}: bytes")),
-        }
-        if broken && (1..=6).contains(&number) {
-            tally.add("section: bytes of a sheet refused by 5");
-        }
-        return;
+        return note_section(tally, case.words[0], &sheet);
     }
-    let (heads, _, _) = case.ask();
+    let (heads, after, _) = case.ask();
     let name = match case.question {
         OPEN => "open",
         STEP => "step",
@@ -92,13 +90,46 @@ pub fn note_probe(tally: &mut Tally, case: &Case) {
         tally.add(if heads.alive == 1 { "verdict: alive" } else { "verdict: dead" });
     }
     if case.question == STEP {
-        note_step(tally, case, heads.answer, heads.rounds, broken);
+        note_step(tally, case, heads.answer, heads.rounds);
+    }
+    let Ok(sheet) = sheet else { return };
+    match (case.question, heads.answer) {
+        (OPEN, _) => {}
+        (_, 19) => fleet_coverage::note_form(tally, &sheet, case),
+        (STEP, answer) => {
+            note_accepted(tally, &sheet, answer);
+            fleet_coverage::note_step(tally, &sheet, case, answer);
+            back_coverage::note(tally, &sheet, case, answer, &after);
+        }
+        _ => fleet_coverage::note_verdict(tally, &sheet, case),
     }
 }
 
-fn note_step(tally: &mut Tally, case: &Case, answer: u64, rounds: u64, broken: bool) {
-    let kind = case.words[0];
-    if (1..=7).contains(&kind) && (answer == 0 || answer > 11) {
+fn note_section(tally: &mut Tally, number: u64, sheet: &Result<Sheet, u64>) {
+    match sheet {
+        _ if !(1..=6).contains(&number) => tally.add("section: number not in 1 to 6"),
+        Err(refusal) => tally.add(format!("section: empty by refusal {refusal}")),
+        Ok(sheet) => {
+            tally.add(format!("section {number}: bytes"));
+            if triangle_broken(sheet) {
+                tally.add("section: bytes of a sheet refused by 5");
+            }
+        }
+    }
+}
+
+fn note_accepted(tally: &mut Tally, sheet: &Sheet, answer: u64) {
+    if answer == 0 {
+        tally.add(format!("step: accepted with {} vans", sheet.v()));
+        if triangle_broken(sheet) {
+            tally.add("step: accepted on a sheet refused by 5");
+        }
+    }
+}
+
+fn note_step(tally: &mut Tally, case: &Case, answer: u64, rounds: u64) {
+    let kind = Step::of(case.words).kind;
+    if (1..=8).contains(&kind) && (answer == 0 || answer > 11) {
         tally.add(format!("step kind {kind}: answer {answer}"));
     }
     if kind == 1 && answer == 17 && case.trail.len() < 2 {
@@ -107,21 +138,21 @@ fn note_step(tally: &mut Tally, case: &Case, answer: u64, rounds: u64, broken: b
     if kind == 5 && answer == 0 {
         tally.add(format!("settling: rounds {rounds}"));
     }
-    if broken && answer == 0 {
-        tally.add("step: accepted on a sheet refused by 5");
-    }
 }
 
-fn note_shape(tally: &mut Tally, case: &Case, n: usize) {
+fn note_shape(tally: &mut Tally, case: &Case, (n, v): (usize, usize)) {
     if case.bytes.len() > crate::sheet::PROGRAM_BYTES {
-        tally.add("sheet: above 60,048 bytes");
+        tally.add("sheet: above 60,104 bytes");
     }
     if n == 64 || n == 2 {
         tally.add(format!("sheet: {n} nodes"));
     }
+    if case.trail.len() % v != 0 {
+        tally.add("trail: words left over");
+    }
     match case.trail.len() {
         0 => tally.add("trail: empty"),
-        8_192 => tally.add("trail: 8,192 words"),
+        65_536 => tally.add("trail: 65,536 words"),
         length if length % 2 == 1 => tally.add("trail: odd length"),
         _ => {}
     }
@@ -132,18 +163,21 @@ pub fn of_listings() -> Tally {
     for number in 1..=5 {
         names.push(format!("refused {number}"));
     }
-    for number in [0, 11, 12, 13, 14, 15, 16, 18] {
+    for number in [0, 11, 12, 13, 14, 15, 16, 18, 21, 22] {
         names.push(format!("step answer {number}"));
     }
     for number in 0..=2 {
         names.push(format!("rounds {number}"));
     }
+    for vans in 1..=8 {
+        names.push(format!("{vans} vans"));
+    }
     for more in [
         "alive 0",
         "alive 1",
         "no steps",
-        "above 60,048 bytes",
-        "exactly 60,048 bytes",
+        "above 60,104 bytes",
+        "exactly 60,104 bytes",
         "64 nodes",
         "2 nodes",
         "empty input",
@@ -157,14 +191,15 @@ pub fn of_listings() -> Tally {
 /// Reads the counts off the expected listing itself.
 pub fn note_listing(tally: &mut Tally, bytes: &[u8], expected: &str) {
     if bytes.len() > crate::sheet::PROGRAM_BYTES {
-        tally.add("above 60,048 bytes");
+        tally.add("above 60,104 bytes");
     } else if expected.starts_with("refused") {
         tally.add(expected.trim_end());
     }
     if bytes.len() == crate::sheet::PROGRAM_BYTES && expected.starts_with("step") {
-        tally.add("exactly 60,048 bytes");
+        tally.add("exactly 60,104 bytes");
     }
     if let Ok(sheet) = read(bytes) {
+        tally.add(format!("{} vans", sheet.v()));
         if sheet.n() == 64 || sheet.n() == 2 {
             tally.add(format!("{} nodes", sheet.n()));
         }

@@ -5,7 +5,7 @@ use std::path::Path;
 use super::coverage::{note_listing, of_listings};
 use super::runner::{self, End};
 use super::{Plan, SHOWN};
-use crate::gen::{damage, edges, full, sheets, states, steps};
+use crate::gen::{damage, edges, fleets, full, sheets, steps};
 use crate::listing::listing;
 use crate::papers::bytes_with;
 use crate::rng::Rng;
@@ -39,8 +39,8 @@ pub fn sheet(seed: u64, number: u64) -> Vec<u8> {
 
 /// The longest sheet there is, or with some bytes too many.
 fn fullest(rng: &mut Rng, more: usize) -> Vec<u8> {
-    let mut draft = full::day(rng, 64);
-    draft.steps = (0..2000).map(|_| [*rng.pick(&[6, 7, 8]), 0, 0]).collect();
+    let mut draft = full::day(rng, 64, 8);
+    draft.steps = (0..2000).map(|_| [*rng.pick(&[6, 7, 9]), 0, 0]).collect();
     let mut bytes = draft.bytes();
     bytes.resize(bytes.len() + more, 0);
     bytes
@@ -60,24 +60,28 @@ fn examples(rng: &mut Rng, number: u64) -> Vec<u8> {
 
 fn without_steps(rng: &mut Rng) -> Vec<u8> {
     let size = sheets::any_size(rng);
-    sheets::plain(rng, size).bytes()
+    let vans = sheets::any_vans(rng);
+    sheets::plain(rng, size, vans).bytes()
 }
 
 fn whole_day(rng: &mut Rng) -> Vec<u8> {
-    let mut draft = full::day(rng, 64);
+    let vans = sheets::any_vans(rng);
+    let mut draft = full::day(rng, 64, vans);
     draft.steps = full::story(rng, &draft.sheet(), 60);
     draft.bytes()
 }
 
-/// Bent to the edge of a test for a state that some steps lead to.
+/// Bent to the edge of a test for one van of a fleet that some steps lead to.
 fn at_the_edge(rng: &mut Rng) -> Vec<u8> {
     let size = sheets::any_size(rng).min(20);
-    let mut draft = sheets::plain(rng, size);
+    let vans = sheets::any_vans(rng);
+    let mut draft = sheets::plain(rng, size, vans);
     edges::loosen(rng, &mut draft);
     let count = rng.below(8);
-    let (state, _) = states::reached(rng, &draft.sheet(), count);
+    let (fleet, _) = fleets::reached(rng, &draft.sheet(), count);
     for _ in 0..1 + rng.below(3) {
-        edges::sharpen(rng, &mut draft, &state);
+        let van = rng.below(vans);
+        edges::sharpen(rng, &mut draft, van, &fleet.vans[van]);
     }
     draft.steps = steps::list(rng, &draft.sheet(), 30);
     draft.bytes()
@@ -85,14 +89,17 @@ fn at_the_edge(rng: &mut Rng) -> Vec<u8> {
 
 /// Levels to the 65th and back below the first.
 fn levels_only(rng: &mut Rng) -> Vec<u8> {
-    let mut draft = sheets::plain(rng, 5);
-    draft.steps = (0..70).map(|i| if i % 9 == 3 { [1, 0, 1 + i % 3] } else { [6, 0, 0] }).collect();
+    let vans = sheets::any_vans(rng);
+    let mut draft = sheets::plain(rng, 5, vans);
+    let place = |i: u32| [256 * (i % vans as u32) + 1, 0, 1 + i % 3];
+    draft.steps = (0..70).map(|i| if i % 9 == 3 { place(i) } else { [6 + 256 * i, 0, 0] }).collect();
     draft.steps.extend([[7, 0, 0]; 70]);
     draft.bytes()
 }
 
 fn two_nodes(rng: &mut Rng) -> Vec<u8> {
-    let mut draft = sheets::plain(rng, 2);
+    let vans = sheets::any_vans(rng);
+    let mut draft = sheets::plain(rng, 2, vans);
     draft.steps = steps::list(rng, &draft.sheet(), 12);
     draft.bytes()
 }
@@ -109,6 +116,9 @@ pub fn compare(plan: &Plan) -> Result<(u64, Tally), String> {
     let mut tally = of_listings();
     let mut differences = 0;
     for number in 0..plan.cases {
+        if differences >= plan.stop {
+            break;
+        }
         let bytes = sheet(plan.seed, number);
         let ours = listing(&bytes);
         note_listing(&mut tally, &bytes, &ours);

@@ -1,6 +1,8 @@
 //! Comparison with another program, byte for byte, on generated cases.
 
+mod back_coverage;
 pub mod coverage;
+mod fleet_coverage;
 pub mod listings;
 pub mod probes;
 pub mod runner;
@@ -13,6 +15,8 @@ pub struct Plan {
     pub cases: u64,
     /// Cases through one process, for `probe`.
     pub batch: u64,
+    /// The comparison ends once so many differences are met.
+    pub stop: u64,
     /// Where inputs that differ are kept.
     pub keep: Option<PathBuf>,
     pub program: Vec<String>,

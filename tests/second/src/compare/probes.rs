@@ -5,9 +5,11 @@ use std::path::Path;
 use super::coverage::{note_probe, of_probes};
 use super::runner::{self, End};
 use super::{Plan, SHOWN};
+use crate::fleet;
 use crate::gen::probes::case;
 use crate::probe::{answer_all, Case, MOST_BYTES, MOST_TRAIL};
 use crate::rng::Rng;
+use crate::state;
 use crate::tally::Tally;
 
 /// Input of one batch and where each case of it begins.
@@ -35,7 +37,7 @@ fn spoil_end(rng: &mut Rng, one: Case, input: &mut Vec<u8>, tally: &mut Tally) {
     let mut bad = vec![];
     one.encode(&mut bad);
     // In half of the cases so much follows that only the bound, and no shortness, is the reason.
-    let behind = if rng.one_in(2) { 70_000 } else { 0 };
+    let behind = if rng.one_in(2) { 8 * MOST_TRAIL as usize + 70_000 } else { 0 };
     let mut put = |at: usize, value: u64| bad[at..at + 8].copy_from_slice(&value.to_le_bytes());
     match rng.below(4) {
         0 => {
@@ -85,7 +87,7 @@ pub fn compare(plan: &Plan) -> Result<(u64, Tally), String> {
     let mut tally = of_probes();
     let mut differences = 0;
     let mut from = 0;
-    while from < plan.cases {
+    while from < plan.cases && differences < plan.stop {
         let to = (from + plan.batch).min(plan.cases);
         let made = batch(plan.seed, from, to, &mut tally);
         let ours = expected(&made);
@@ -134,26 +136,47 @@ fn tell(
     Ok(count.max(1))
 }
 
-/// Names of the numbers in a line, to say where two lines part.
+/// Where two lines part, by name.
 fn first_difference(ours: &[u8], theirs: &[u8]) -> String {
     let text = |b: &[u8]| String::from_utf8_lossy(b).to_string();
     let (a, b) = (text(ours), text(theirs));
     let (a, b): (Vec<&str>, Vec<&str>) = (a.split(' ').collect(), b.split(' ').collect());
     let at = (0..a.len().max(b.len())).find(|&i| a.get(i) != b.get(i)).unwrap_or(0);
-    let name = match at {
-        0 => "answer".to_string(),
-        1 => "rounds".to_string(),
-        2 => "places".to_string(),
-        3 => "alive".to_string(),
-        4..=67 => format!("route entry {}", at - 4),
-        68 => "stops".to_string(),
-        69..=132 => format!("set of node {}", at - 69),
-        133 => "marks".to_string(),
-        134..=197 => format!("level {}", at - 134),
-        198 => "levels".to_string(),
-        199 => "records".to_string(),
-        _ => format!("trail word {}", at - 200),
-    };
     let of = |list: &[&str]| list.get(at).map_or("nothing".to_string(), |v| v.to_string());
-    format!("  {name}: expected {}, came {} ({} and {} numbers)", of(&a), of(&b), a.len(), b.len())
+    let both = (a.first().unwrap_or(&""), b.first().unwrap_or(&""));
+    format!(
+        "  {}: expected {}, came {} (answers {} and {}, {} and {} numbers)",
+        name_of(at),
+        of(&a),
+        of(&b),
+        both.0,
+        both.1,
+        a.len(),
+        b.len()
+    )
+}
+
+/// What number `at` of an answer line is.
+fn name_of(at: usize) -> String {
+    const HEADS: [&str; 4] = ["answer", "rounds", "places", "alive"];
+    if at < HEADS.len() {
+        return HEADS[at].to_string();
+    }
+    let at = at - HEADS.len();
+    if at >= fleet::WORDS {
+        return format!("trail word {}", at - fleet::WORDS);
+    }
+    if at == fleet::WORDS - 1 {
+        return "marks of the fleet".to_string();
+    }
+    let van = at / state::WORDS;
+    match at % state::WORDS {
+        i @ 0..=63 => format!("van {van}, route entry {i}"),
+        64 => format!("van {van}, stops"),
+        i @ 65..=128 => format!("van {van}, set of node {}", i - 65),
+        129 => format!("van {van}, marks"),
+        i @ 130..=193 => format!("van {van}, level {}", i - 130),
+        194 => format!("van {van}, levels"),
+        _ => format!("van {van}, records"),
+    }
 }

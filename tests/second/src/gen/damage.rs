@@ -7,13 +7,19 @@ use crate::rng::Rng;
 /// Numbers for a count: `good` is in range, `most` the greatest in range.
 fn wrong_count(rng: &mut Rng, good: usize, most: usize) -> u32 {
     let (good, most) = (good as u32, most as u32);
-    *rng.pick(&[0, 1, good.wrapping_sub(1), good + 1, most + 1, 65, 2001, u32::MAX, 0x8000_0002, 0x4000_0002])
+    let near = [good.wrapping_sub(2), good.wrapping_sub(1), good + 1, good + 2, most + 1, most + 2];
+    let far = [0, 1, 65, 2001, u32::MAX, 0x8000_0002, 0x4000_0002];
+    if rng.one_in(2) {
+        *rng.pick(&near)
+    } else {
+        *rng.pick(&far)
+    }
 }
 
 pub fn count(rng: &mut Rng, draft: &mut Draft) {
     let square = draft.seconds.len();
-    let good = [2, draft.n(), draft.jobs.len(), square, square, draft.steps.len()];
-    let most = [2, 64, 155, square, square, 2000];
+    let good = [2 * draft.v(), draft.n(), draft.jobs.len(), square, square, draft.steps.len()];
+    let most = [16, 64, 155, square, square, 2000];
     let which = rng.below(6);
     let value = wrong_count(rng, good[which], most[which]);
     draft.false_counts.push((which, value));
@@ -32,7 +38,7 @@ fn job(rng: &mut Rng, draft: &mut Draft) {
         1 => j[1] = *rng.pick(&[0, end, end + 1, odd]),
         2 => j[2] = *rng.pick(&[0, end, end + 1, odd]),
         3 => j[2] = j[1],
-        4 => j[3] = *rng.pick(&[0, 1001, 1001, 1000, 65_537, u32::MAX]),
+        4 => j[3] = *rng.pick(&[0, 0, 0, 1001, 1001, 1000, 65_537, u32::MAX]),
         5 => *j = [1, 1, 1, 1],
         6 => *j = [2, 1, end, 1],
         7 => *j = [3, 1, 1, 1],
@@ -46,10 +52,10 @@ fn above(rng: &mut Rng) -> u32 {
 
 /// A word of sections 1 to 5 against its rule (or just within it).
 pub fn value(rng: &mut Rng, draft: &mut Draft) {
-    let n = draft.n();
+    let (n, v) = (draft.n(), draft.v());
     match rng.below(10) {
-        0 => draft.limits[0] = *rng.pick(&[1001, 1000, u32::MAX]),
-        1 => draft.limits[1] = above(rng),
+        0 => draft.limits[rng.below(v)][0] = *rng.pick(&[1001, 1000, u32::MAX]),
+        1 => draft.limits[rng.below(v)][1] = above(rng),
         2 => draft.nodes[rng.below(n)][rng.below(3)] = above(rng),
         3 => {
             let node = &mut draft.nodes[rng.below(n)];
@@ -113,7 +119,7 @@ pub fn length(rng: &mut Rng, bytes: &mut Vec<u8>) {
 pub fn short_and_wrong(rng: &mut Rng, mut draft: Draft) -> Vec<u8> {
     let n = draft.n();
     value(rng, &mut draft);
-    let lengths = [2, 3 * n, 4 * draft.jobs.len(), n * n, n * n, 3 * draft.steps.len()];
+    let lengths = [2 * draft.v(), 3 * n, 4 * draft.jobs.len(), n * n, n * n, 3 * draft.steps.len()];
     let last = rng.below(6);
     let end: usize = lengths[..=last].iter().map(|length| 1 + length).sum();
     let cut = if rng.one_in(2) { 1 } else { 1 + rng.below(lengths[last] + 1) };

@@ -4,7 +4,8 @@ use crate::sheet::{read, Sheet};
 
 #[derive(Clone)]
 pub struct Draft {
-    pub limits: [u32; 2],
+    /// Capacity and metre limit of each van.
+    pub limits: Vec<[u32; 2]>,
     pub nodes: Vec<[u32; 3]>,
     pub jobs: Vec<[u32; 4]>,
     pub seconds: Vec<u32>,
@@ -19,9 +20,13 @@ impl Draft {
         self.nodes.len()
     }
 
+    pub fn v(&self) -> usize {
+        self.limits.len()
+    }
+
     fn sections(&self) -> Vec<(usize, Vec<u32>)> {
         vec![
-            (2, self.limits.to_vec()),
+            (2 * self.limits.len(), self.limits.concat()),
             (self.nodes.len(), self.nodes.concat()),
             (self.jobs.len(), self.jobs.concat()),
             (self.seconds.len(), self.seconds.clone()),

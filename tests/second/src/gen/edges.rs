@@ -9,7 +9,7 @@ use crate::state::State;
 
 /// Everything else as wide as can be, so that one test alone decides.
 pub fn loosen(rng: &mut Rng, draft: &mut Draft) {
-    draft.limits = [1000, 1_000_000];
+    draft.limits.fill([1000, 1_000_000]);
     for node in draft.nodes.iter_mut() {
         node[1] = 1_000_000;
         if rng.one_in(2) {
@@ -26,17 +26,17 @@ fn latest(draft: &mut Draft, node: usize, value: i64) {
     draft.nodes[node][1] = value.clamp(low, 1_000_000) as u32;
 }
 
-/// Bends one number for one open place (or one stop) of the state.
-pub fn sharpen(rng: &mut Rng, draft: &mut Draft, state: &State) {
+/// Bends one number for one open place (or one stop) of a van's state.
+pub fn sharpen(rng: &mut Rng, draft: &mut Draft, van: usize, state: &State) {
+    let facts = Facts::of(&draft.sheet(), van, state);
     match open_place(rng, state) {
-        Some((x, leg)) if !rng.one_in(4) => sharpen_place(rng, draft, state, x, leg),
-        _ => sharpen_route(rng, draft, state),
+        Some((x, leg)) if !rng.one_in(4) => sharpen_place(rng, draft, van, &facts, x, leg),
+        _ => sharpen_route(rng, draft, van, &facts),
     }
 }
 
-fn sharpen_place(rng: &mut Rng, draft: &mut Draft, state: &State, x: usize, leg: usize) {
+fn sharpen_place(rng: &mut Rng, draft: &mut Draft, van: usize, facts: &Facts, x: usize, leg: usize) {
     let sheet = draft.sheet();
-    let facts = Facts::of(&sheet, state);
     let off = rng.between(0, 1);
     let i = facts.position(leg).expect("legs are on the route");
     let (p, k) = (facts.path[i], facts.path[i + 1]);
@@ -60,27 +60,26 @@ fn sharpen_place(rng: &mut Rng, draft: &mut Draft, state: &State, x: usize, leg:
         }
         3 => {
             let total = facts.metres + sheet.metres(p, x) + sheet.metres(x, k) - sheet.metres(p, k);
-            draft.limits[1] = (total - off).clamp(0, 1_000_000) as u32;
+            draft.limits[van][1] = (total - off).clamp(0, 1_000_000) as u32;
         }
         _ => {
             let own: Vec<_> = sheet.jobs.iter().filter(|j| j.a == x || j.b == x).collect();
             let load = if own.is_empty() { 0 } else { rng.pick(&own).load };
             let aboard = *rng.pick(&facts.h);
-            draft.limits[0] = (aboard + load - off).clamp(0, 1000) as u32;
+            draft.limits[van][0] = (aboard + load - off).clamp(0, 1000) as u32;
         }
     }
 }
 
 /// The verdict's own edges: a start, the metres, a load.
-fn sharpen_route(rng: &mut Rng, draft: &mut Draft, state: &State) {
-    let facts = Facts::of(&draft.sheet(), state);
+fn sharpen_route(rng: &mut Rng, draft: &mut Draft, van: usize, facts: &Facts) {
     let off = rng.between(0, 1);
     match rng.below(3) {
         0 => {
             let i = rng.below(facts.path.len());
             latest(draft, facts.path[i], facts.e[i] - off);
         }
-        1 => draft.limits[1] = (facts.metres - off).clamp(0, 1_000_000) as u32,
-        _ => draft.limits[0] = (rng.pick(&facts.h) - off).clamp(0, 1000) as u32,
+        1 => draft.limits[van][1] = (facts.metres - off).clamp(0, 1_000_000) as u32,
+        _ => draft.limits[van][0] = (rng.pick(&facts.h) - off).clamp(0, 1000) as u32,
     }
 }

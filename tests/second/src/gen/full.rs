@@ -3,10 +3,11 @@
 
 use super::draft::Draft;
 use super::steps;
+use crate::fleet::Fleet;
 use crate::rng::Rng;
 use crate::sheet::Sheet;
-use crate::state::State;
 use crate::step::step_on;
+use crate::trail::ample;
 use crate::verdict::alive;
 
 const METRES_A_SECOND: i64 = 5;
@@ -46,8 +47,9 @@ fn all_jobs(rng: &mut Rng, n: usize) -> Vec<[u32; 4]> {
     jobs
 }
 
-/// n nodes, no steps yet. With 64 nodes it has 155 jobs.
-pub fn day(rng: &mut Rng, n: usize) -> Draft {
+/// n nodes, v vans, no steps yet. With 64 nodes it has 155 jobs. Each van could drive the whole
+/// sweep, the later ones with a little less aboard and a little farther.
+pub fn day(rng: &mut Rng, n: usize, v: usize) -> Draft {
     let metres = table(&corners(rng, n));
     // Rounded up, the parts of a way never come to less than the whole: still metric.
     let seconds: Vec<i64> = metres.iter().map(|m| (m + METRES_A_SECOND - 1) / METRES_A_SECOND).collect();
@@ -67,8 +69,10 @@ pub fn day(rng: &mut Rng, n: usize) -> Draft {
         time += service;
     }
     let total: u32 = jobs.iter().filter(|j| j[0] == 1).map(|j| j[3]).sum();
+    let capacity = (total + total / 4).min(1000);
+    let limit = (length + length / 3) as u32;
     Draft {
-        limits: [(total + total / 4).min(1000), (length + length / 3) as u32],
+        limits: (0..v as u32).map(|van| [capacity - van * capacity / 40, limit + 50 * van]).collect(),
         nodes,
         jobs,
         seconds: seconds.iter().map(|&v| v as u32).collect(),
@@ -78,41 +82,47 @@ pub fn day(rng: &mut Rng, n: usize) -> Draft {
     }
 }
 
-/// Steps of someone who tries: place, settle, step back when the state is dead.
+/// Steps of someone who tries: place, settle, step back when the fleet is dead.
 pub fn story(rng: &mut Rng, sheet: &Sheet, count: usize) -> Vec<[u32; 3]> {
-    let mut state = State::fresh(sheet.n());
-    let mut trail = vec![0; 2 * 3_968];
+    let mut fleet = Fleet::fresh(sheet.n(), sheet.v());
+    let mut trail = vec![0; ample(sheet.n(), sheet.v())];
     let mut out: Vec<[u32; 3]> = vec![];
     while out.len() < count {
-        for words in turn(rng, sheet, &state) {
-            let done = step_on(sheet, &state, &trail, words);
-            state = done.state;
+        for words in turn(rng, sheet, &fleet) {
+            let done = step_on(sheet, &fleet, &trail, words);
+            fleet = done.fleet;
             trail = done.trail;
             out.push(words.map(|w| w as u32));
         }
-        if !alive(sheet, &state) {
-            state = back(sheet, &state, &mut trail, &mut out);
+        if !alive(sheet, &fleet) {
+            fleet = back(sheet, &fleet, &mut trail, &mut out);
         }
     }
     out.truncate(count);
     out
 }
 
-fn back(sheet: &Sheet, state: &State, trail: &mut Vec<u64>, out: &mut Vec<[u32; 3]>) -> State {
-    let done = step_on(sheet, state, trail, [7, 0, 0]);
+fn back(sheet: &Sheet, fleet: &Fleet, trail: &mut Vec<u64>, out: &mut Vec<[u32; 3]>) -> Fleet {
+    let done = step_on(sheet, fleet, trail, [7, 0, 0]);
     *trail = done.trail;
     out.push([7, 0, 0]);
-    done.state
+    done.fleet
 }
 
-fn turn(rng: &mut Rng, sheet: &Sheet, state: &State) -> Vec<[u64; 3]> {
-    let place = steps::pick_of(rng, sheet, state, &[1]);
-    match rng.below(12) {
-        0 => vec![steps::pick_of(rng, sheet, state, &[2])],
-        1 => vec![[4, 1 + rng.below(sheet.n() - 2) as u64, 0]],
-        2 => vec![[3, 1 + rng.below(sheet.n() - 2) as u64, 0]],
+/// With one van no van is drawn and no ward "must go somewhere": the days of 01 stay as they are.
+fn turn(rng: &mut Rng, sheet: &Sheet, fleet: &Fleet) -> Vec<[u64; 3]> {
+    let alone = sheet.v() == 1;
+    let van = if alone { 0 } else { rng.below(sheet.v()) };
+    let word = |kind: u64| 256 * van as u64 + kind;
+    let place = steps::pick_in(rng, sheet, fleet, van, &[1]);
+    let ward = |rng: &mut Rng| 1 + rng.below(sheet.n() - 2) as u64;
+    match rng.below(if alone { 12 } else { 13 }) {
+        0 => vec![steps::pick_in(rng, sheet, fleet, van, &[2])],
+        1 => vec![[word(4), ward(rng), 0]],
+        2 => vec![[word(3), ward(rng), 0]],
         3 => vec![[7, 0, 0]],
         4..=6 => vec![place],
-        _ => vec![[6, 0, 0], place, [5, 0, 0]],
+        12 => vec![[8, ward(rng), 0]],
+        _ => vec![[6, 0, 0], place, [word(5), 0, 0]],
     }
 }

@@ -1,12 +1,16 @@
-//! Random sheets, states, trails and steps. The makers use the second program's own model only
+//! Random sheets, fleets, trails and steps. The makers use the second program's own model only
 //! to steer towards interesting cases, never to decide what is right.
 
+pub mod back;
 pub mod damage;
 pub mod draft;
 pub mod edges;
+pub mod fleets;
 pub mod full;
+pub mod parts;
 pub mod probes;
 pub mod sheets;
+pub mod spoil;
 pub mod states;
 pub mod steps;
 pub mod tables;

@@ -2,11 +2,11 @@
 //! question and every refusal.
 
 use super::draft::{self, Draft};
-use super::{damage, edges, sheets, states, steps, trails};
-use crate::probe::{Case, MOST_BYTES, OPEN, PLACES, SECTION, STEP, VERDICT};
+use super::{back, damage, edges, fleets, sheets, spoil, steps};
+use crate::fleet::Fleet;
+use crate::probe::{Case, MOST_BYTES, MOST_TRAIL, OPEN, PLACES, SECTION, STEP, VERDICT};
 use crate::rng::Rng;
 use crate::sheet::Sheet;
-use crate::state::State;
 use crate::step::step_on;
 
 /// Case `number` of the run with this seed.
@@ -17,11 +17,18 @@ pub fn case(seed: u64, number: u64) -> Case {
         0..=2 => opening(rng),
         3 | 10 => stepping(rng, true),
         4 => section(rng),
-        5 | 6 => asking(rng),
+        5 => asking(rng),
+        6 => {
+            if rng.one_in(3) {
+                must_alone(rng)
+            } else {
+                asking(rng)
+            }
+        }
         7..=9 => stepping(rng, false),
         11 => tight_room(rng),
-        12 => stepping_back(rng),
-        13 | 14 => made_up_back(rng),
+        12 => back::along_steps(rng),
+        13 | 14 => back::made_up(rng),
         15..=18 => at_the_edge(rng),
         _ => anything(rng),
     }
@@ -36,14 +43,14 @@ fn sized(rng: &mut Rng, rare: usize) -> usize {
 }
 
 /// A sheet that steps run on; one in eight breaks the triangle, which steps do not ask.
-fn runnable(rng: &mut Rng) -> (Vec<u8>, Sheet) {
+pub fn runnable(rng: &mut Rng) -> (Vec<u8>, Sheet) {
     let made = draft_for_steps(rng);
     (made.bytes(), made.sheet())
 }
 
 fn draft_for_steps(rng: &mut Rng) -> Draft {
-    let size = sized(rng, 60);
-    let mut made = sheets::plain(rng, size);
+    let (size, vans) = (sized(rng, 60), sheets::any_vans(rng));
+    let mut made = sheets::plain(rng, size, vans);
     if rng.one_in(8) && size > 2 {
         damage::triangle(rng, &mut made);
     }
@@ -67,8 +74,15 @@ fn damaged(rng: &mut Rng) -> Vec<u8> {
 
 /// More than the program reads; here judged in the normal order.
 fn overlong(rng: &mut Rng) -> Vec<u8> {
-    let heads: [&[u32]; 5] =
-        [&[3], &[2, 1001], &[2, 1, 1, 65], &[2, 1, 1, 2, 5, 4, 0], &[2, 1, 1, 2, 0, 0, 0, 0, 0, 0, 0]];
+    let heads: [&[u32]; 7] = [
+        &[3],
+        &[18],
+        &[2, 1001],
+        &[6, 1, 1, 1, 1, 1, 1_000_001],
+        &[2, 1, 1, 65],
+        &[2, 1, 1, 2, 5, 4, 0],
+        &[2, 1, 1, 2, 0, 0, 0, 0, 0, 0, 0],
+    ];
     let mut words = rng.pick(&heads).to_vec();
     words.resize(MOST_BYTES as usize / 4 - rng.below(300), 0);
     draft::to_bytes(&words)
@@ -77,9 +91,9 @@ fn overlong(rng: &mut Rng) -> Vec<u8> {
 fn opening(rng: &mut Rng) -> Case {
     let size = sized(rng, 40);
     let bytes = if rng.one_in(4) { sheets::with_steps(rng, size, 4).bytes() } else { damaged(rng) };
-    let state = states::garbage(rng);
+    let fleet = if rng.one_in(4) { fleets::garbage(rng) } else { Fleet::fresh(5, 3) };
     let trail = (0..rng.below(5)).map(|_| rng.any()).collect();
-    Case { question: OPEN, words: [rng.any(), 1, 2], state, bytes, trail }
+    Case { question: OPEN, words: [rng.any(), 1, 2], fleet, bytes, trail }
 }
 
 /// The number stands in all three words, so that it does not matter which one is read.
@@ -91,45 +105,66 @@ fn section(rng: &mut Rng) -> Case {
         damage::triangle(rng, &mut made);
     }
     let bytes = if rng.one_in(3) { damaged(rng) } else { made.bytes() };
-    Case { question: SECTION, words: [number; 3], state: State::zero(), bytes, trail: vec![] }
+    Case { question: SECTION, words: [number; 3], fleet: Fleet::zero(), bytes, trail: vec![] }
 }
 
-/// Open places and verdict, of reached, made-up and broken states.
+/// Open places and verdict, of reached, made-up and broken fleets.
 fn asking(rng: &mut Rng) -> Case {
     let (mut bytes, sheet) = runnable(rng);
     let question = *rng.pick(&[PLACES, VERDICT]);
-    let mut state = if rng.one_in(2) { states::made_up(rng, &sheet) } else { reached(rng, &sheet).0 };
+    let mut fleet = if rng.one_in(2) { fleets::made_up(rng, &sheet) } else { reached(rng, &sheet).0 };
     if rng.one_in(3) {
-        let records = *rng.pick(&[0, 3, 1 << 40, u64::MAX - 1]);
-        states::put_levels(rng, &mut state, records);
+        let records: Vec<u64> = (0..sheet.v()).map(|_| *rng.pick(&[0, 3, 1 << 40, u64::MAX - 1])).collect();
+        fleets::put_levels(rng, &sheet, &mut fleet, &records);
     }
     if rng.one_in(3) {
-        states::break_one(rng, sheet.n(), &mut state);
+        spoil::break_one(rng, &sheet, &mut fleet);
     }
     if rng.one_in(3) {
         bytes = damaged(rng);
     }
-    Case { question, words: [rng.any(); 3], state, bytes, trail: vec![7; rng.below(3)] }
+    Case { question, words: [rng.any(); 3], fleet, bytes, trail: vec![7; rng.below(3)] }
 }
 
-fn reached(rng: &mut Rng, sheet: &Sheet) -> (State, Vec<u64>) {
+/// A fleet at ease but for one ward: open or placed in one van at most, with its mark or not.
+fn must_alone(rng: &mut Rng) -> Case {
+    let (size, vans) = (3 + rng.below(5), sheets::any_vans(rng));
+    let mut made = sheets::plain(rng, size, vans);
+    edges::loosen(rng, &mut made);
+    let sheet = made.sheet();
+    let mut fleet = Fleet::fresh(size, vans);
+    let (x, kept) = (1 + rng.below(size - 2), rng.below(vans));
+    for van in 0..vans {
+        fleet.vans[van].sets[x] = u64::from(van == kept && rng.one_in(2));
+    }
+    if fleet.vans[kept].sets[x] == 1 && rng.one_in(3) {
+        let word = 256 * kept as u64 + 1;
+        fleet = step_on(&sheet, &fleet, &vec![0; 8 * vans], [word, 0, x as u64]).fleet;
+    }
+    fleet.must = 1 << x;
+    Case { question: VERDICT, words: [0; 3], fleet, bytes: made.bytes(), trail: vec![] }
+}
+
+pub fn reached(rng: &mut Rng, sheet: &Sheet) -> (Fleet, Vec<u64>) {
     let most = if sheet.n() > 20 { 12 } else { 30 };
     let count = rng.below(most);
-    let (state, mut trail) = states::reached(rng, sheet, count);
-    trail.truncate(2 * state.records as usize + rng.below(40));
-    (state, trail)
+    let (fleet, trail) = fleets::reached(rng, sheet, count);
+    let more = *rng.pick(&[2, 8, 40]);
+    let trail = fleets::trimmed(rng, sheet, &fleet, &trail, more);
+    (fleet, trail)
 }
 
-/// Any step from a reached or made-up state; `broken`: with damage to state or sheet.
+/// Any step from a reached or made-up fleet; `broken`: with damage to fleet or sheet.
 fn stepping(rng: &mut Rng, broken: bool) -> Case {
     let (mut bytes, sheet) = runnable(rng);
-    let (mut state, mut trail) = reached(rng, &sheet);
+    let (mut fleet, mut trail) = reached(rng, &sheet);
     if rng.one_in(3) {
-        state = states::made_up(rng, &sheet);
-        let records = rng.below(trail.len() / 2 + 1) as u64;
-        states::put_levels(rng, &mut state, records);
+        fleet = fleets::made_up(rng, &sheet);
+        let room = crate::trail::room(trail.len(), sheet.v());
+        let records = fleets::few_records(rng, &sheet, room);
+        fleets::put_levels(rng, &sheet, &mut fleet, &records);
     }
-    let mut words = steps::pick(rng, &sheet, &state);
+    let mut words = steps::pick(rng, &sheet, &fleet);
     if rng.one_in(5) {
         let at = rng.below(3);
         words[at] = match rng.below(3) {
@@ -142,56 +177,33 @@ fn stepping(rng: &mut Rng, broken: bool) -> Case {
     if broken {
         match rng.below(7) {
             0 | 1 => bytes = damaged(rng),
-            2 => state = states::garbage(rng),
-            _ => states::break_one(rng, sheet.n(), &mut state),
+            2 => fleet = fleets::garbage(rng),
+            _ => spoil::break_one(rng, &sheet, &mut fleet),
         }
         if rng.one_in(4) {
             trail.truncate(rng.below(trail.len() + 1));
         }
     }
-    Case { question: STEP, words, state, bytes, trail }
+    Case { question: STEP, words, fleet, bytes, trail }
 }
 
-/// The trail is cut to just too little, just enough, or a little more than the step needs.
+/// The trail is cut to just too little, just enough, or a little more than the step needs, often
+/// for one van only.
 fn tight_room(rng: &mut Rng) -> Case {
     let (bytes, sheet) = runnable(rng);
-    let (state, mut trail) =
-        if rng.one_in(4) { (State::fresh(sheet.n()), vec![]) } else { reached(rng, &sheet) };
-    let words = steps::pick_of(rng, &sheet, &state, &[1, 1, 2, 3, 4, 5, 5]);
-    trail.resize(2 * state.records as usize + 200, 5);
-    let needed = step_on(&sheet, &state, &trail, words).state.records - state.records;
-    let room = state.records + needed + rng.below(3) as u64;
-    trail.truncate((2 * room as usize + rng.below(2)).saturating_sub(2));
-    Case { question: STEP, words, state, bytes, trail }
-}
-
-/// Stepping back along a trail that steps left, spoiled in one case of three.
-fn stepping_back(rng: &mut Rng) -> Case {
-    let (bytes, sheet) = runnable(rng);
-    let (mut state, mut trail) = reached(rng, &sheet);
-    if rng.one_in(2) {
-        let records = state.records;
-        states::put_levels(rng, &mut state, records);
+    let v = sheet.v();
+    let (mut fleet, trail) =
+        if rng.one_in(4) { (Fleet::fresh(sheet.n(), v), vec![]) } else { reached(rng, &sheet) };
+    if v > 1 && rng.one_in(2) {
+        fleet.vans[rng.below(v)].records += 1 + rng.below(4) as u64;
     }
-    if rng.one_in(2) {
-        trails::spoil(rng, sheet.n(), &mut trail);
-    }
-    Case { question: STEP, words: [7, rng.any(), rng.any()], state, bytes, trail }
-}
-
-/// The same with a made-up state and records that fit it, though nobody wrote them.
-fn made_up_back(rng: &mut Rng) -> Case {
-    let (bytes, sheet) = runnable(rng);
-    let mut state = states::made_up(rng, &sheet);
-    let count = 1 + rng.below(10);
-    let mut trail = trails::fitting(rng, &sheet, &state, count);
-    let records = trail.len() as u64 / 2;
-    states::put_levels(rng, &mut state, records);
-    if rng.one_in(2) {
-        trails::spoil(rng, sheet.n(), &mut trail);
-    }
-    trail.extend(vec![9; rng.below(4)]);
-    Case { question: STEP, words: [7, 0, 0], state, bytes, trail }
+    let words = steps::pick_of(rng, &sheet, &fleet, &[1, 1, 1, 2, 3, 4, 5, 5, 8]);
+    let ample = 2 * v * (fleets::most_records(&fleet) as usize + 100);
+    let after = step_on(&sheet, &fleet, &vec![5; ample], words).fleet;
+    let room = fleets::most_records(&after) as usize + rng.below(3);
+    let each = (2 * room + rng.below(2)).saturating_sub(2);
+    let trail = super::parts::join(rng, &super::parts::cut(&trail, v), each);
+    Case { question: STEP, words, fleet, bytes, trail }
 }
 
 /// Settling, open places and verdict where the sheet is bent to the edge of a test.
@@ -201,25 +213,29 @@ fn at_the_edge(rng: &mut Rng) -> Case {
         edges::loosen(rng, &mut made);
     }
     let sheet = made.sheet();
-    let mut state = if rng.one_in(2) { states::made_up(rng, &sheet) } else { reached(rng, &sheet).0 };
-    for _ in 0..1 + rng.below(2) {
-        edges::sharpen(rng, &mut made, &state);
+    let mut fleet = if rng.one_in(2) { fleets::made_up(rng, &sheet) } else { reached(rng, &sheet).0 };
+    let van = rng.below(sheet.v());
+    if rng.below(3) > 0 {
+        fleets::quiet_but(rng, &sheet, &mut fleet, van);
     }
-    state.records = 0;
-    state.level_count = 0;
-    state.levels = [0; 64];
-    let records = rng.below(4) as u64;
-    states::put_levels(rng, &mut state, records);
+    for _ in 0..1 + rng.below(2) {
+        edges::sharpen(rng, &mut made, van, &fleet.vans[van]);
+    }
+    let records = fleets::few_records(rng, &sheet, 3);
+    fleets::put_levels(rng, &sheet, &mut fleet, &records);
     let question = *rng.pick(&[STEP, STEP, STEP, VERDICT]);
-    Case { question, words: [5, steps::odd(rng), 1], state, bytes: made.bytes(), trail: vec![3; 140] }
+    let words = [256 * van as u64 + 5, steps::odd(rng), 1];
+    let each = 2 * (3 + sheet.n());
+    Case { question, words, fleet, bytes: made.bytes(), trail: vec![3; each * sheet.v()] }
 }
 
 /// A long trail, a full sheet, or nothing that makes sense.
 fn anything(rng: &mut Rng) -> Case {
     let mut case = stepping(rng, false);
     match rng.below(6) {
-        0 => case.trail.resize(8_192, 1),
-        1 => case.state = states::garbage(rng),
+        0 if rng.one_in(3) => case.trail.resize(MOST_TRAIL as usize, 1),
+        0 => case.trail.resize(2_000 + rng.below(9), 1),
+        1 => case.fleet = fleets::garbage(rng),
         2 => case.question = rng.below(4) as u64,
         3 => case.words = [rng.any(), rng.any(), rng.any()],
         4 => case.bytes.truncate(rng.below(case.bytes.len() + 1)),

@@ -69,18 +69,20 @@ fn jobs(rng: &mut Rng, n: usize, most_load: i64) -> Vec<[u32; 4]> {
     list
 }
 
-/// A sheet without steps.
-pub fn plain(rng: &mut Rng, n: usize) -> Draft {
+/// A sheet of v vans without steps. Each van has limits of its own around the same tour.
+pub fn plain(rng: &mut Rng, n: usize, v: usize) -> Draft {
     let seconds = tables::any(rng, n);
     let metres = if rng.one_in(3) { seconds.clone() } else { tables::any(rng, n) };
     let path = tour(rng, n);
     let length: i64 = path.windows(2).map(|w| metres[w[0] * n + w[1]]).sum();
     let most_load = *rng.pick(&[1, 2, 5, 5, 1000]);
-    let capacity = rng.between(0, (most_load * (n as i64 / 2 + 2)).min(1000));
     let most_more = *rng.pick(&[3, 20, 60, 2_000_000]);
-    let limit = length + rng.between(-3, most_more);
+    let mut pair = || {
+        let capacity = rng.between(0, (most_load * (n as i64 / 2 + 2)).min(1000));
+        [capacity as u32, clip(length + rng.between(-3, most_more))]
+    };
     Draft {
-        limits: [capacity as u32, clip(limit)],
+        limits: (0..v).map(|_| pair()).collect(),
         nodes: windows(rng, n, &path, &seconds),
         jobs: jobs(rng, n, most_load),
         seconds: seconds.iter().map(|&v| clip(v)).collect(),
@@ -101,9 +103,21 @@ pub fn any_size(rng: &mut Rng) -> usize {
     }
 }
 
+/// One van as often as not, and fleets of every size.
+pub fn any_vans(rng: &mut Rng) -> usize {
+    match rng.below(20) {
+        0..=7 => 1,
+        8..=11 => 2,
+        12..=15 => 3,
+        16 | 17 => 4 + rng.below(4),
+        _ => 8,
+    }
+}
+
 /// With a list of steps that mostly run.
 pub fn with_steps(rng: &mut Rng, n: usize, count: usize) -> Draft {
-    let mut draft = plain(rng, n);
+    let vans = any_vans(rng);
+    let mut draft = plain(rng, n, vans);
     draft.steps = steps::list(rng, &draft.sheet(), count);
     draft
 }

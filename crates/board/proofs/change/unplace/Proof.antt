@@ -10,7 +10,7 @@ remove-requires : tie.Need-remove-requires
 remove-requires c κs = search needs
 
 strike-leg-requires : tie.Need-strike-leg-requires
-strike-leg-requires c κs = let s = c .before .before .before .pre .2 .2 in (s .wide .sets, s .small, sets-end _ _ s)
+strike-leg-requires c κs = let s = c .before .before .before .pre .2 .3 in (s .wide .sets, s .small, sets-end _ _ s)
 
 mul-sets : tie.Need-mul-sets
 mul-sets c = search needs
@@ -20,7 +20,7 @@ element-write-sets c = search needs
 
 returns : tie.Need-returns
 unfolding unplaced routeOf
-returns c = λ stops marks e. rw (c .strike-leg .ensures, c .before .before .remove .ensures, e) refl
+returns c = λ stops marks must e. rw (c .strike-leg .ensures, c .before .before .remove .ensures, e) refl
 
 pub unplace-spec : {M : Type 1} → statement M
 unplace-spec =

@@ -5,7 +5,7 @@ use borrow.Author.Tests.{not-true, not-false, le-leb, lt-leb, eq-eqb, ne-eqb}
 use Rattle.laws.specs.Basic.{allBelow}
 use Rattle.board.specs.Route.{wordOf}
 use Rattle.board.specs.Board.{Board, board}
-use Rattle.board.specs.Form.{stopOk, boardOk, setOk, markOk}
+use Rattle.board.specs.Form.{stopOk, boardOk, setOk, markOk, mustOk}
 use Rattle.board.specs.Tests.{zeroFrom}
 use Rattle.board.proofs.TestLaws.{board-test, seen-none, seen-some, nodes-test}
 use borrow.Author.Needs.{needs}
@@ -52,11 +52,11 @@ start c = c .before .before .before .before .before .before
 
 -- the board that the numbers make
 abbrev here : tie.Start → Board
-here c = board (c .args .route .now) (c .args .stops) (c .args .sets .now) (c .args .marks)
+here c = board (c .args .route .now) (c .args .stops) (c .args .sets .now) (c .args .marks) (c .args .must)
 
 -- what is left to ask past the tests of the route's ends
 asked : (c : tie.Else4) → let b = here (start c) in let n = start c .args .n in
-    boardOk n b ≡ ((allBelow (b .stops) (stopOk n (b .stops) (b .route)) && allBelow 64 (zeroFrom (b .stops) (b .route))) && allBelow 64 (λ y. setOk n b y && markOk n b y))
+    boardOk n b ≡ ((allBelow (b .stops) (stopOk n (b .stops) (b .route)) && allBelow 64 (zeroFrom (b .stops) (b .route))) && allBelow 64 (λ y. setOk n b y && (markOk n b y && mustOk n b y)))
 asked c =
     let s = start c in
     let d = c .before .before .before .before in
@@ -92,17 +92,21 @@ sets-ok-requires c κs = search needs
 marks-ok-requires : tie.Need-marks-ok-requires
 marks-ok-requires c κs = search needs
 
+marks-ok-requires-2 : tie.Need-marks-ok-requires-2
+marks-ok-requires-2 c κs = search needs
+
 returns-7 : tie.Need-returns-7
 returns-7 c =
-    let e = c .before .before in
+    let e = c .before .before .before in
     let d = e .before .before in
     let s = start (d .before .before) in
     rw (
       asked (d .before .before),
       seen d .0,
       sym (e .before .none-from .ensures) ∙ not-false _ (e .if6 .left),
-      c .before .sets-ok .ensures,
-      c .marks-ok .ensures,
+      c .before .before .sets-ok .ensures,
+      c .before .marks-ok .ensures,
+      c .marks-ok2 .ensures,
       seen d .1,
     ) (nodes-test (s .args .n) (here s) (s .pre .0) (omega arith) (omega arith) (d .before .before .if4 .left) (seen d .0))
 
@@ -125,4 +129,5 @@ board-ok-spec =
     returns-6
     sets-ok-requires
     marks-ok-requires
+    marks-ok-requires-2
     returns-7)

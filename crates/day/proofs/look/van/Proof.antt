@@ -1,8 +1,14 @@
 use native.Mathlib.Omega.{arith}
-use Rattle.day.proofs.Range.{ranges}
+use Rattle.day.proofs.Range.{van-limits}
 use borrow.Author.Needs.{needs}
 use Rattle.day.proofs.look.van.Statement.{statement}
 use Rattle.day.proofs.look.van.Tie as tie
+
+mul-from : tie.Need-mul-from
+mul-from c = search needs
+
+add-from : tie.Need-add-from
+add-from c = search needs
 
 word-requires : tie.Need-word-requires
 word-requires c κs = search needs
@@ -16,11 +22,20 @@ add-word c = search needs
 word-requires-2 : tie.Need-word-requires-2
 word-requires-2 c κs = search needs
 
-cast-t8 : tie.Need-cast-t8
-cast-t8 c = search needs
+cast-t9 : tie.Need-cast-t9
+cast-t9 c = search needs
 
 returns : tie.Need-returns
-returns c = let p = c .before .before .before .pre in let v = ranges _ (p .fine) in let a = rw (p .van) at (c .before .word .ensures .is) in let b = rw (p .van) at (c .word2 .ensures .is) in (rw (a, b), omega (arith, v .capacity), omega (arith, v .limit))
+returns c =
+    let d = c .before .before .before .before in
+    let p = d .pre in
+    let l = p .0 in
+    let v = van-limits _ (l .fine) (d .args .i) (omega (arith, l .vans, p .1)) in
+    let a = rw (l .van) at (c .before .word .ensures .is) in
+    let b = rw (l .van) at (c .word2 .ensures .is) in
+    (rw (a, b), omega (arith, v .capacity), omega (arith, v .limit))
 
 pub van-spec : {M : Type 1} → statement M
-van-spec = tie.close (tie.spec word-requires cast-t5 add-word word-requires-2 cast-t8 returns)
+van-spec =
+    tie.close
+    (tie.spec mul-from add-from word-requires cast-t5 add-word word-requires-2 cast-t9 returns)

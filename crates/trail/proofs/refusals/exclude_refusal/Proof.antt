@@ -20,11 +20,11 @@ node c = sym (c .before .inner .ensures) ∙ not-false _ (c .if1 .left)
 low : (c : tie.Else1) → c .before .before .args .x < 64
 low c = omega (arith, is-inner _ _ (node c) .1, c .before .before .pre)
 
-on-x : (c : tie.After-has) → let a = c .before .before .before .before .args in onRoute (board (a .route .now) (a .f .stops) (a .sets .now) (a .f .marks)) (a .x) ≡ c .has .result
+on-x : (c : tie.After-has) → let a = c .before .before .before .before .args in onRoute (board (a .route .now) (a .f .stops) (a .sets .now) (a .f .marks) (a .f .must)) (a .x) ≡ c .has .result
 on-x c =
     let d = c .before .before .before .before in
     let a = d .args in
-    sym (on-word (board (a .route .now) (a .f .stops) (a .sets .now) (a .f .marks)) (a .x) (low (c .before .before)) (omega (arith, d .pre)))
+    sym (on-word (board (a .route .now) (a .f .stops) (a .sets .now) (a .f .marks) (a .f .must)) (a .x) (low (c .before .before)) (omega (arith, d .pre)))
     ∙ ap (λ (w : ℕ). has w (a .x)) (sym (c .before .word .ensures)) ∙ sym (c .has .ensures)
 
 inner-requires : tie.Need-inner-requires

@@ -18,11 +18,11 @@ use Rattle.trail.proofs.refusals.require_refusal.Tie as tie
 node : (c : tie.Else1) → isInner (c .before .before .args .n) (c .before .before .args .x) ≡ true
 node c = sym (c .before .inner .ensures) ∙ not-false _ (c .if1 .left)
 
-on-x : (c : tie.After-has) (l : List ℕ) → let a = c .before .before .before .before .args in onRoute (board (a .route .now) (a .f .stops) l (a .f .marks)) (a .x) ≡ c .has .result
+on-x : (c : tie.After-has) (l : List ℕ) → let a = c .before .before .before .before .args in onRoute (board (a .route .now) (a .f .stops) l (a .f .marks) (a .f .must)) (a .x) ≡ c .has .result
 on-x c l =
     let d = c .before .before .before .before in
     let a = d .args in
-    sym (on-word (board (a .route .now) (a .f .stops) l (a .f .marks)) (a .x) (omega (arith, is-inner _ _ (node (c .before .before)) .1, d .pre)) (omega (arith, d .pre)))
+    sym (on-word (board (a .route .now) (a .f .stops) l (a .f .marks) (a .f .must)) (a .x) (omega (arith, is-inner _ _ (node (c .before .before)) .1, d .pre)) (omega (arith, d .pre)))
     ∙ ap (λ (w : ℕ). has w (a .x)) (sym (c .before .word .ensures)) ∙ sym (c .has .ensures)
 
 inner-requires : tie.Need-inner-requires

@@ -1,9 +1,11 @@
+use mathlib.Core.Path.{sym, ap, _∙_}
 use native.Mathlib.Omega.{arith}
 use borrow.Author.Tests.{not-true, not-false}
 use Rattle.board.specs.Board.{stateWith}
 use Rattle.board.proofs.FormLaws.{in-form, form-with}
 use Rattle.board.specs.Held.{InForm}
-use Rattle.trail.specs.Steps.{baseOf, undoLevel, dropped}
+use Rattle.board.specs.declared.State.{State}
+use Rattle.trail.specs.Steps.{answered, baseOf, undoLevel}
 use Rattle.trail.proofs.StepLaws.{base-low, back-none, back-misfit, back-fits}
 use borrow.Author.Needs.{needs}
 use Rattle.trail.proofs.steps.back.Statement.{statement}
@@ -41,18 +43,19 @@ returns-2 c =
     let e = u .before .before .before .before .before .before in
     rw (c .same2 .ensures) (back-misfit _ _ _ _ _ (e .if1 .left) (u .undo-many .ensures) (not-true _ (c .before .if2 .taken)))
 
-mul-levels : tie.Need-mul-levels
-mul-levels c = omega (arith, form (c .before .before .before .before .before .before .before .before) .levels .most)
-
-element-write-levels : tie.Need-element-write-levels
-element-write-levels c = omega (arith, form (c .before .before .before .before .before .before .before .before) .levels .most)
+drop-level-requires : tie.Need-drop-level-requires
+drop-level-requires c κs =
+    let e = c .before .before .before .before .before .before .before .before .before in
+    (e .if1 .left, form e .levels .most, e .before .before .pre .0 .1)
 
 returns-3 : tie.Need-returns-3
-unfolding undoLevel baseOf dropped
+unfolding undoLevel baseOf
 returns-3 c =
-    let u = c .before .before in
+    let l = c .before .before in
+    let u = l .before .before in
     let e = u .before .before .before .before .before .before in
-    back-fits _ _ _ _ _ (e .if1 .left) (u .undo-many .ensures) (not-false _ (c .if2 .left))
+    back-fits _ _ _ _ _ (e .if1 .left) (u .undo-many .ensures) (not-false _ (l .if2 .left))
+    ∙ ap (λ (q : State). answered 0 q (e .before .before .args .trail .now)) (sym (c .drop-level .ensures _ _ _ _))
 
 pub back-spec : {M : Type 1} → statement M
 back-spec =
@@ -65,6 +68,5 @@ back-spec =
     undo-many-requires
     same-requires-2
     returns-2
-    mul-levels
-    element-write-levels
+    drop-level-requires
     returns-3)

@@ -13,12 +13,12 @@ use Rattle.trail.proofs.steps.close.Statement.{statement}
 use Rattle.trail.proofs.steps.close.Tie as tie
 
 code : (c : tie.Else1) → let a = c .before .before .before .before .args in
-    placeRefusal (a .n) (board (a .route .now) (a .f .stops) (a .sets .now) (a .f .marks)) (a .f .records) (roomOf (a .trail .now)) (a .p) (a .x) ≡ 0
+    placeRefusal (a .n) (board (a .route .now) (a .f .stops) (a .sets .now) (a .f .marks) (a .f .must)) (a .f .records) (roomOf (a .trail .now)) (a .p) (a .x) ≡ 0
 unfolding roomOf
 code c = sym (c .before .place-refusal .ensures) ∙ c .if1 .left
 
 ok : (c : tie.Else1) → let a = c .before .before .before .before .args in
-    Placeable (a .n) (board (a .route .now) (a .f .stops) (a .sets .now) (a .f .marks)) (a .f .records) (roomOf (a .trail .now)) (a .p) (a .x)
+    Placeable (a .n) (board (a .route .now) (a .f .stops) (a .sets .now) (a .f .marks) (a .f .must)) (a .f .records) (roomOf (a .trail .now)) (a .p) (a .x)
 ok c = placeable _ _ _ _ _ _ (code c)
 
 low : (c : tie.Else1) → c .before .before .before .before .args .x < 64

@@ -14,7 +14,7 @@ use Rattle.trail.proofs.steps.require.Statement.{statement}
 use Rattle.trail.proofs.steps.require.Tie as tie
 
 code : (c : tie.Else1) (l : List ℕ) → let a = c .before .before .before .args in
-    requireRefusal (a .n) (board (a .route .now) (a .f .stops) l (a .f .marks)) (a .f .records) (roomOf (a .trail .now)) (a .x) ≡ 0
+    requireRefusal (a .n) (board (a .route .now) (a .f .stops) l (a .f .marks) (a .f .must)) (a .f .records) (roomOf (a .trail .now)) (a .x) ≡ 0
 unfolding roomOf
 code c l = sym (c .before .require-refusal .ensures l) ∙ c .if1 .left
 

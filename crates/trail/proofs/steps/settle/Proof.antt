@@ -63,7 +63,7 @@ returns-3 c =
     (omega (arith, e .before .needed .ensures .0, e .if2 .left)) in
     λ route levels. rw h
     (step-yes 0 _ _ _ refl
-    ∙ ap₂ (λ (i : ℕ) (t : List ℕ). acted 0 (a .rounds) (stateOf route (a .f .stops) (a .new .now) (a .f .marks) levels (a .f .depth) i) t)
+    ∙ ap₂ (λ (i : ℕ) (t : List ℕ). acted 0 (a .rounds) (stateOf route (a .f .stops) (a .new .now) (a .f .marks) (a .f .must) levels (a .f .depth) i) t)
     (sym (note-all (a .sets .now) (a .new .now) 64 (a .f .records) (a .trail .now) .0) ∙ ap (λ (b : Noted). b .0) n) (ap (λ (b : Noted). b .1) n))
 
 pub settle-spec : {M : Type 1} → statement M

@@ -13,13 +13,13 @@ use Rattle.trail.proofs.undo.undo_many.Statement.{statement}
 use Rattle.trail.proofs.undo.undo_many.Tie as tie
 
 abbrev Inv-loop : tie.InvT-loop
-Inv-loop route₀ sets₀ n base trail s₀ m₀ legs₀ left₀ route sets s m legs left =
-    Sound n (board route s sets m) × (base ≤ left) × (left ≤ left₀)
-    × (undoMany (left - base) n (board route s sets m) left trail ≡ undoMany (left₀ - base) n (board route₀ s₀ sets₀ m₀) left₀ trail)
+Inv-loop route₀ sets₀ n base trail s₀ m₀ g₀ legs₀ left₀ route sets s m g legs left =
+    Sound n (board route s sets m g) × (base ≤ left) × (left ≤ left₀)
+    × (undoMany (left - base) n (board route s sets m g) left trail ≡ undoMany (left₀ - base) n (board route₀ s₀ sets₀ m₀ g₀) left₀ trail)
     × (legs ≡ wordOf (s - 1) route)
 
 abbrev μ-loop : tie.MeasureT-loop
-μ-loop route₀ sets₀ n base trail s₀ m₀ legs₀ left₀ route sets s m legs left = left
+μ-loop route₀ sets₀ n base trail s₀ m₀ g₀ legs₀ left₀ route sets s m g legs left = left
 
 sub-word : tie.Need-sub-word Inv-loop μ-loop
 sub-word c = omega (arith, c .before .before .pre .0 .form .route .two)

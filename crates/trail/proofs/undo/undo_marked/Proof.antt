@@ -11,7 +11,7 @@ use Rattle.trail.proofs.undo.undo_marked.Statement.{statement}
 use Rattle.trail.proofs.undo.undo_marked.Tie as tie
 
 fits-is : (c : tie.After-has) → let a = c .before .before .args in
-    fitsMarked (board (a .route .now) (a .stops) (a .sets .now) (a .marks)) (a .x) (a .w) ≡ leb (a .stops) (c .before .position .result) && (c .has .result && eqb (a .w) 0)
+    fitsMarked (board (a .route .now) (a .stops) (a .sets .now) (a .marks) (a .must)) (a .x) (a .w) ≡ leb (a .stops) (c .before .position .result) && (c .has .result && eqb (a .w) 0)
 unfolding routeOf
 fits-is c = marked-test _ _ _ _ (c .before .before .pre) ∙ rw (c .has .ensures, c .before .position .ensures) refl
 

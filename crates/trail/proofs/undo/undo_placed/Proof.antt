@@ -19,12 +19,12 @@ node c = sym (c .before .inner .ensures) ∙ not-false _ (c .if1 .left)
 low : (c : tie.Else1) → c .before .before .args .x < 64
 low c = omega (arith, is-inner _ _ (node c) .1, c .before .before .pre .0 .small)
 
-on : (c : tie.Else2) → let a = c .before .before .before .before .before .args in onRoute (board (a .route .now) (a .stops) (a .sets .now) (a .marks)) (a .x) ≡ true
+on : (c : tie.Else2) → let a = c .before .before .before .before .before .args in onRoute (board (a .route .now) (a .stops) (a .sets .now) (a .marks) (a .must)) (a .x) ≡ true
 unfolding routeOf
 on c = placed-on _ _ _ (c .before .before .before .before .before .pre .0) (omega (arith, c .before .position .ensures, c .if2 .left))
 
 fits-is : (c : tie.After-left-legs) → let a = c .before .before .before .before .before .before .before .args in
-    fitsPlaced (a .n) (board (a .route .now) (a .stops) (a .sets .now) (a .marks)) (a .x) (a .old) ≡ c .left-legs .result
+    fitsPlaced (a .n) (board (a .route .now) (a .stops) (a .sets .now) (a .marks) (a .must)) (a .x) (a .old) ≡ c .left-legs .result
 unfolding legsOf stopBefore routeOf
 fits-is c =
     let e = c .before .before in
@@ -82,17 +82,17 @@ unplace-requires : tie.Need-unplace-requires
 unplace-requires c κs =
     let e = c .before .before .before .before .before in
     let d = e .before .before .before .before .before in
-    (omega (arith, readable _ _ (d .pre .0) .1, e .if2 .left), low (e .before .before .before), (_, _, d .pre .0))
+    (omega (arith, readable _ _ (d .pre .0) .1, e .if2 .left), low (e .before .before .before), (_, _, _, d .pre .0))
 
-sub-t18 : tie.Need-sub-t18
-sub-t18 c = search needs
+sub-t19 : tie.Need-sub-t19
+sub-t19 c = search needs
 
 returns-4 : tie.Need-returns-4
 returns-4 c =
     let l = c .before .before .before .before in
     let e = l .before .before in
     let d = e .before .before .before .before .before in
-    (undone-yes _ _ (fits-is l ∙ not-false _ (c .before .before .before .if3 .left)) ∙ ap (λ (b : Board). (true, b)) (c .unplace .ensures _ _ (e .before .position .ensures)), λ same. absurd (omega (arith, d .pre .0 .form .route .two, same)))
+    (undone-yes _ _ (fits-is l ∙ not-false _ (c .before .before .before .if3 .left)) ∙ ap (λ (b : Board). (true, b)) (c .unplace .ensures _ _ _ (e .before .position .ensures)), λ same. absurd (omega (arith, d .pre .0 .form .route .two, same)))
 
 pub undo-placed-spec : {M : Type 1} → statement M
 undo-placed-spec =
@@ -111,5 +111,5 @@ undo-placed-spec =
     misfit-requires-3
     returns-3
     unplace-requires
-    sub-t18
+    sub-t19
     returns-4)

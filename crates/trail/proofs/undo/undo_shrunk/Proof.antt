@@ -20,7 +20,7 @@ low : (c : tie.Else1) → c .before .before .args .x < 64
 low c = omega (arith, is-inner _ _ (node c) .1, c .before .before .pre .0 .small)
 
 fits-is : (c : tie.After-grows) → let a = c .before .before .before .before .before .args in
-    fitsShrunk (a .n) (board (a .route .now) (a .stops) (a .sets .now) (a .marks)) (a .x) (a .w) ≡ not (c .before .has .result) && c .grows .result
+    fitsShrunk (a .n) (board (a .route .now) (a .stops) (a .sets .now) (a .marks) (a .must)) (a .x) (a .w) ≡ not (c .before .has .result) && c .grows .result
 unfolding legsOf setOf
 fits-is c =
     let e = c .before .before .before in

@@ -1,0 +1,79 @@
+// The open places of a fleet in all, and its verdict.
+ghost use mathlib.Core.Path.{_≡_};
+ghost use mathlib.Core.List.{List, []};
+ghost use Prim.Native.Nat.{ℕ, _*_, _<_, _≤_};
+ghost use lib.ListN.{getD};
+ghost use Rattle.rules.specs.Numbers.{mostVans};
+ghost use Rattle.rules.specs.Fleet.{aliveAll};
+ghost use Rattle.sheet.specs.Section.{vansOf};
+ghost use Rattle.day.specs.Tell.{vanOf, dayOf};
+ghost use Rattle.board.specs.Held.{Ends, Sound};
+ghost use Rattle.board.specs.declared.Figures.{Figures};
+ghost use Rattle.fleet.specs.Sums.{plansIn, placesAll, allServed};
+ghost use Rattle.fleet.specs.Rows.{rowBoard, fleetWith, ReadyAll};
+use crate::Fleet;
+use crate::wards::gather;
+use board::Figures;
+use board::places::count;
+use rules::Node;
+use sheet::Layout;
+
+// The open places in all: for each van those of its nodes, past which no set has any.
+pub fn places(sets: &[[u64; Node::MOST]; Fleet::VANS], n: usize, v: usize) -> usize
+    requires { ⌜ (v ≤ mostVans) × (n ≤ 64) × ((j : ℕ) → j < v → Ends n (getD (now sets) j [])) ⌝ }
+    ensures { λ r. ⌜ r ≤ 4096 * v ⌝ }
+    ensures { λ r. ⌜ ((routes levels : List (List ℕ)) (figures : List Figures) → r ≡ placesAll v (fleetWith routes (now (sets .entry)) levels figures)) ⌝ }
+{
+    let mut k = 0;
+    let mut j = 0;
+    while j < v {
+        let one = count(&sets[j], n);
+        k += one;
+        j += 1;
+    }
+    k
+}
+
+// Whether every ward that must go somewhere is placed or open in some van.
+pub fn served<'a>(
+    routes: &'a [[usize; Node::MOST]; Fleet::VANS],
+    sets: &'a [[u64; Node::MOST]; Fleet::VANS],
+    figures: [Figures; Fleet::VANS],
+    n: usize,
+    v: usize,
+) -> bool
+    requires { ⌜ (1 ≤ v) × (v ≤ mostVans) × (2 ≤ n) × ((j : ℕ) → j < v → Sound n (rowBoard (now routes) (now sets) figures j)) ⌝ }
+    ensures { λ r. ⌜ ((levels : List (List ℕ)) → r ≡ allServed v (fleetWith (now (routes .entry)) (now (sets .entry)) levels figures)) ⌝ }
+{
+    let one = figures[0];
+    if one.must == 0 {
+        return true;
+    }
+    let w = gather(routes, sets, figures, n, v);
+    bits::within(one.must, w.reached)
+}
+
+// The verdict: dead if a van is, or if a ward that must go somewhere is placed or open in none.
+pub fn alive<'a>(
+    sheet: &[u8],
+    at: Layout,
+    routes: &'a [[usize; Node::MOST]; Fleet::VANS],
+    sets: &'a [[u64; Node::MOST]; Fleet::VANS],
+    figures: [Figures; Fleet::VANS],
+) -> bool
+    requires { ⌜ ReadyAll (now sheet) at (now routes) (now sets) figures ⌝ }
+    ensures { λ r. ⌜ ((levels : List (List ℕ)) → r ≡ aliveAll (vanOf (now (sheet .entry))) (dayOf (now (sheet .entry)))
+        (plansIn (vansOf (now (sheet .entry))) (fleetWith (now (routes .entry)) (now (sets .entry)) levels figures))) ⌝ }
+{
+    let v = at.vans;
+    let mut j = 0;
+    while j < v {
+        let f = figures[j];
+        let van = day::look::van(sheet, at, j);
+        if !van::alive(sheet, at, van, &routes[j], &sets[j], f) {
+            return false;
+        }
+        j += 1;
+    }
+    served(routes, sets, figures, at.nodes, v)
+}

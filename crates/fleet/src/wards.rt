@@ -1,0 +1,92 @@
+// What the vans have of the wards, each a word: those on a route, and those on a route or open.
+ghost use mathlib.Core.Path.{_≡_};
+ghost use mathlib.Core.Bool.{not, _&&_};
+ghost use mathlib.Core.List.{List, []};
+ghost use Prim.Native.Nat.{ℕ, _<_, _≤_};
+ghost use lib.ListN.{getD};
+ghost use lib.Dec.{eqb, ltb};
+ghost use Rattle.rules.specs.Numbers.{mostVans};
+ghost use Rattle.bits.specs.Places.{has, minus, within};
+ghost use Rattle.board.specs.Fresh.{noFigures};
+ghost use Rattle.board.specs.Board.{board};
+ghost use Rattle.fleet.specs.Rows.{fleetWith};
+ghost use Rattle.fleet.specs.Wards.{Nodes, HasWards, AddsVan};
+use crate::Fleet;
+use board::Figures;
+use board::route::word;
+use rules::Node;
+
+// The wards on a route of some van, those that some van has on its route or open, and whether no ward on a route is on or open in another van.
+pub struct Wards {
+    pub placed: u64,
+    pub reached: u64,
+    pub apart: bool,
+}
+
+// The nodes that have a place open.
+fn open_wards(sets: &[u64; Node::MOST], n: usize) -> u64
+    requires { ⌜ n ≤ 64 ⌝ }
+    ensures { λ r. ⌜ ((y : ℕ) → has r y ≡ ltb y n && not (eqb (getD (now (sets .entry)) y 0) 0)) ⌝ }
+{
+    let mut w: u64 = 0;
+    let mut y = 0;
+    while y < n {
+        if sets[y] != 0 {
+            w = bits::put(w, y);
+        }
+        y += 1;
+    }
+    w
+}
+
+// Whether two sets have no member in common.
+fn apart(a: u64, b: u64) -> bool
+    ensures { λ r. ⌜ r ≡ within a (minus a b) ⌝ }
+{
+    bits::within(a, bits::minus(a, b))
+}
+
+// One van more. The ends, which every route has, are left out.
+fn with_van<'a>(
+    wards: Wards,
+    route: &'a [usize; Node::MOST],
+    sets: &'a [u64; Node::MOST],
+    stops: usize,
+    n: usize,
+) -> Wards
+    requires { ⌜ (2 ≤ n) × Nodes n stops (now route) ⌝ }
+    ensures { λ r. ⌜ AddsVan n wards (board (now (route .entry)) stops (now (sets .entry)) 0 0) r ⌝ }
+{
+    let on = bits::take(bits::take(word(route, stops), 0), n - 1);
+    let open = bits::take(bits::take(open_wards(sets, n), 0), n - 1);
+    Wards {
+        placed: bits::join(wards.placed, on),
+        reached: bits::join(wards.reached, bits::join(on, open)),
+        apart: wards.apart & apart(on, wards.reached) & apart(open, wards.placed),
+    }
+}
+
+// The wards of v vans: one pass.
+pub fn gather<'a>(
+    routes: &'a [[usize; Node::MOST]; Fleet::VANS],
+    sets: &'a [[u64; Node::MOST]; Fleet::VANS],
+    figures: [Figures; Fleet::VANS],
+    n: usize,
+    v: usize,
+) -> Wards
+    requires { ⌜ (v ≤ mostVans) × (2 ≤ n) × ((j : ℕ) → j < v → Nodes n (getD figures j noFigures .stops) (getD (now routes) j [])) ⌝ }
+    ensures { λ r. ⌜ ((levels : List (List ℕ)) → HasWards n v (fleetWith (now (routes .entry)) (now (sets .entry)) levels figures) r) ⌝ }
+{
+    let mut all = Wards {
+        placed: 0,
+        reached: 0,
+        apart: true,
+    };
+    let mut j = 0;
+    while j < v {
+        let f = figures[j];
+        all = with_van(all, &routes[j], &sets[j], f.stops, n);
+        j += 1;
+    }
+    all
+}

@@ -1,0 +1,29 @@
+use borrow.Author.Needs.{needs}
+use Rattle.sheet.proofs.limits_at_ok.Statement.{statement}
+use Rattle.sheet.proofs.limits_at_ok.Tie as tie
+
+mul-p : tie.Need-mul-p
+mul-p c = search needs
+
+add-p : tie.Need-add-p
+add-p c = search needs
+
+word-requires : tie.Need-word-requires
+word-requires c κs = search needs
+
+add-word : tie.Need-add-word
+add-word c = search needs
+
+word-requires-2 : tie.Need-word-requires-2
+word-requires-2 c κs = search needs
+
+limits-ok-requires : tie.Need-limits-ok-requires
+limits-ok-requires c κs = search needs
+
+returns : tie.Need-returns
+returns c = rw (c .limits-ok .ensures, c .before .word2 .ensures .is, c .before .before .word .ensures .is)
+
+pub limits-at-ok-spec : {M : Type 1} → statement M
+limits-at-ok-spec =
+    tie.close
+    (tie.spec mul-p add-p word-requires add-word word-requires-2 limits-ok-requires returns)

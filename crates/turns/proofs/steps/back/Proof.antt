@@ -1,0 +1,149 @@
+use mathlib.Core.Path.{_≡_, refl, sym, ap₂, _∙_}
+use mathlib.Core.Bool.{Bool, true, false, _&&_}
+use Prim.Native.Nat.{ℕ}
+use native.Mathlib.Omega.{arith}
+use borrow.Author.Tests.{not-true, not-false}
+use Rattle.sheet.specs.Section.{nOf, vansOf}
+use Rattle.day.specs.Tell.{vanOf, dayOf}
+use Rattle.board.specs.Fresh.{noFigures}
+use Rattle.fleet.specs.Form.{sharesNone}
+use Rattle.fleet.specs.Rows.{fleetWith}
+use Rattle.fleet.specs.declared.Fleet.{Fleet}
+use Rattle.turns.specs.Together.{RanAll}
+use Rattle.turns.specs.Act.{backBar, turnsOf}
+use Rattle.turns.proofs.KnownLaws.{known-turning, known-eight}
+use Rattle.turns.proofs.ActLaws.{act-back, back-none}
+use Rattle.turns.proofs.DoneLaws.{did-of, did-misfit, share-as, depth-row, barred-by, backed, nodes-row}
+use borrow.Author.Needs.{needs}
+use Rattle.turns.proofs.steps.back.Statement.{statement}
+use Rattle.turns.proofs.steps.back.Tie as tie
+
+-- the fleet at entry
+abbrev fleet : tie.Start → Fleet
+fleet d = fleetWith (d .args .routes .now) (d .args .sets .now) (d .args .levels .now) (d .args .t6)
+
+-- every van's turn
+abbrev turns : tie.Start → RanAll
+turns d = turnsOf (nOf (d .args .sheet .now)) (vansOf (d .args .sheet .now)) (fleet d) (d .args .trail .now) (d .args .step)
+
+-- neither of two
+unfit : (a b : Bool) → a ≡ false → a && b ≡ false
+unfit a b e = rw e refl
+
+shared : (a b : Bool) → a ≡ true → b ≡ false → a && b ≡ false
+shared a b e q = rw (e, q) refl
+
+div-share : tie.Need-div-share
+div-share c = search needs
+
+array-copy-out-one : tie.Need-array-copy-out-one
+array-copy-out-one c = search needs
+
+unmoved-requires : tie.Need-unmoved-requires
+unmoved-requires c κs = search needs
+
+returns : tie.Need-returns
+unfolding noFigures
+returns c =
+    let d = c .before .before .before .before .before .before in
+    let a = d .args in
+    did-of (a .routes .now) (a .sets .now) (a .levels .now) (a .trail .now) (c .unmoved .ensures) (known-eight (d .pre .0))
+    (barred-by (backBar (nOf (a .sheet .now)) (vansOf (a .sheet .now)) (fleet d) (a .trail .now) (turns d .0 .fleet)) (fleet d) (a .trail .now) (turns d) (act-back (vanOf (a .sheet .now)) (dayOf (a .sheet .now)) (vansOf (a .sheet .now)) (fleet d) (a .trail .now) (a .step) (d .pre .1))
+    (back-none (nOf (a .sheet .now)) (vansOf (a .sheet .now)) (fleet d) (a .trail .now) (turns d .0 .fleet)
+    (omega (arith, c .before .if1 .taken, depth-row (a .routes .now) (a .sets .now) (a .levels .now) (a .t6))))
+    (λ z. omega (arith, z)))
+
+each-requires : tie.Need-each-requires
+each-requires c κs =
+    let d = c .before .before .before .before .before .before .before .before .before in
+    let a = d .args in
+    let l = d .pre .0 .laid in (
+      (omega (arith, l .vans, l .fine .vans-low), omega (arith, l .vans, l .fine .vans-high), share-as (a .trail .now) refl, known-eight (d .pre .0), d .pre .0 .eight),
+      known-turning (d .pre .0) (a .step) (λ j h z. absurd (omega (arith, z, d .pre .1))),
+    )
+
+unmoved-requires-2 : tie.Need-unmoved-requires-2
+unmoved-requires-2 c κs = search needs
+
+same-length : tie.Need-same-length
+same-length c = search needs
+
+returns-2 : tie.Need-returns-2
+unfolding noFigures
+returns-2 c =
+    let m = c .before .before .before .before .before in
+    let o = m .before .before .before .before .before in
+    let d = o .before .before .before .before .before in
+    let b = backed (d .args .step) _ _ (m .each .result .fits) (d .pre .0) (d .pre .1) (omega (arith, o .if1 .left)) (m .each .ensures .0, m .each .ensures .1) in
+    did-misfit _ _ _ (c .unmoved2 .ensures) (m .each .ensures .2) (b .same) (b .no (unfit (m .each .result .fits) _ (not-true _ (c .before .if2 .taken))))
+
+gather-requires : tie.Need-gather-requires
+unfolding noFigures
+gather-requires c κs =
+    let m = c .before .before .before .before .before .before .before in
+    let o = m .before .before .before .before .before in
+    let d = o .before .before .before .before .before in
+    let l = d .pre .0 .laid in
+    let b = backed (d .args .step) _ _ (m .each .result .fits) (d .pre .0) (d .pre .1) (omega (arith, o .if1 .left)) (m .each .ensures .0, m .each .ensures .1) in (
+      omega (arith, l .vans, l .fine .vans-high),
+      omega (arith, l .nodes, l .fine .n-low),
+      λ j h. nodes-row (m .each .last .1 .1 .1 .0) (m .each .last .1 .1 .1 .1 .0) (m .each .last .1 .1 .1 .1 .1 .0) (m .each .result .after) j (omega (arith, h, l .vans, l .fine .vans-high)) (l .nodes) (b .boards j (omega (arith, h, l .vans))),
+    )
+
+unmoved-requires-3 : tie.Need-unmoved-requires-3
+unmoved-requires-3 c κs = search needs
+
+unmoved-requires-4 : tie.Need-unmoved-requires-4
+unmoved-requires-4 c κs = search needs
+
+same-length-2 : tie.Need-same-length-2
+same-length-2 c = search needs
+
+returns-3 : tie.Need-returns-3
+unfolding noFigures
+returns-3 c =
+    let g = c .before .before in
+    let w = g .before .before .before .before in
+    let m = w .before .before .before .before in
+    let o = m .before .before .before .before .before in
+    let d = o .before .before .before .before .before in
+    let l = d .pre .0 .laid in
+    let b = backed (d .args .step) _ _ (m .each .result .fits) (d .pre .0) (d .pre .1) (omega (arith, o .if1 .left)) (m .each .ensures .0, m .each .ensures .1) in
+    did-of _ _ _ _ (c .unmoved3 .ensures) (m .each .ensures .2)
+    (b .yes (not-false _ (w .if2 .left)) (ap₂ (λ (n v : ℕ). sharesNone n v (fleetWith (m .each .last .1 .1 .1 .0) (m .each .last .1 .1 .1 .1 .0) (m .each .last .1 .1 .1 .1 .1 .0) (m .each .result .after))) (sym (l .nodes)) (sym (l .vans)) ∙ sym (g .gather .ensures (m .each .last .1 .1 .1 .1 .1 .0) .apart) ∙ c .before .if3 .taken))
+
+same-length-3 : tie.Need-same-length-3
+same-length-3 c = search needs
+
+returns-4 : tie.Need-returns-4
+unfolding noFigures
+returns-4 c =
+    let g = c .before .before in
+    let w = g .before .before .before .before in
+    let m = w .before .before .before .before in
+    let o = m .before .before .before .before .before in
+    let d = o .before .before .before .before .before in
+    let l = d .pre .0 .laid in
+    let b = backed (d .args .step) _ _ (m .each .result .fits) (d .pre .0) (d .pre .1) (omega (arith, o .if1 .left)) (m .each .ensures .0, m .each .ensures .1) in
+    did-misfit _ _ _ (c .unmoved4 .ensures) (m .each .ensures .2) (b .same)
+    (b .no (shared (m .each .result .fits) _ (not-false _ (w .if2 .left)) (ap₂ (λ (n v : ℕ). sharesNone n v (fleetWith (m .each .last .1 .1 .1 .0) (m .each .last .1 .1 .1 .1 .0) (m .each .last .1 .1 .1 .1 .1 .0) (m .each .result .after))) (sym (l .nodes)) (sym (l .vans)) ∙ sym (g .gather .ensures (m .each .last .1 .1 .1 .1 .1 .0) .apart) ∙ c .before .if3 .left)))
+
+pub back-spec : {M : Type 1} → statement M
+back-spec =
+    tie.close
+    (tie.spec
+    div-share
+    array-copy-out-one
+    unmoved-requires
+    returns
+    each-requires
+    unmoved-requires-2
+    same-length
+    returns-2
+    gather-requires
+    unmoved-requires-3
+    unmoved-requires-4
+    same-length-2
+    returns-3
+    same-length-3
+    returns-4)
