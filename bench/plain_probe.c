@@ -80,10 +80,26 @@ static void answer_rest(const u64 *head, Fleet *fleet)
     Answer a = {0, 0};
     u64 places = 0;
     int alive = 0;
-    if (head[2] == 0) a.answer = open_sheet(sheet, head[0], fleet);
-    if (head[2] == 1) a = step(sheet, head[0], fleet, trail, head[1], head[3], head[4], head[5]);
-    if (head[2] == 2) a.answer = open_places(sheet, head[0], fleet, &places);
-    if (head[2] == 3) a.answer = verdict(sheet, head[0], fleet, &alive);
+    if (head[2] == 0) {
+        Opened o = open_sheet(sheet, head[0]);
+        a.answer = o.answer;
+        *fleet = o.fleet;
+    }
+    if (head[2] == 1) {
+        Turned t = step(sheet, head[0], *fleet, trail, head[1], head[3], head[4], head[5]);
+        a = t.answer;
+        *fleet = t.fleet;
+    }
+    if (head[2] == 2) {
+        Counted c = open_places(sheet, head[0], *fleet);
+        a.answer = c.answer;
+        places = c.places;
+    }
+    if (head[2] == 3) {
+        Judged j = verdict(sheet, head[0], *fleet);
+        a.answer = j.answer;
+        alive = j.alive;
+    }
     put_number(a.answer, ' ');
     put_number(a.rounds, ' ');
     put_number(places, ' ');

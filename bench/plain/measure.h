@@ -39,40 +39,45 @@ typedef struct {
     u8 *sheet;
     u64 length, n, vans;
     Fleet from; /* what each time starts from */
-    Fleet now;  /* and works on */
 } Task;
 
-static Answer take_step(const Task *t, Fleet *fleet, u64 code, u64 first, u64 second)
+static Turned take_step(const Task *t, u64 code, u64 first, u64 second)
 {
-    return step(t->sheet, t->length, fleet, trail, 2 * ROOM * t->vans, code, first, second);
+    return step(t->sheet, t->length, t->from, trail, 2 * ROOM * t->vans, code, first, second);
 }
 
 /* The vans get the wards by turns, each after the last one its van has: the stop before the end.
    That may be an older one, since a ward that another van owes is refused. */
-static Answer next_ward(const Task *t, Fleet *fleet, u64 x)
+static Turned next_ward(const Task *t, u64 x)
 {
-    if (!x) return take_step(t, fleet, 1, x - 1, x);
-    const State *van = &fleet->vans[(x - 1) % t->vans];
-    return take_step(t, fleet, 256 * ((x - 1) % t->vans) + 1, van->route[van->stops - 2], x);
+    if (!x) return take_step(t, 1, x - 1, x);
+    const State *van = &t->from.vans[(x - 1) % t->vans];
+    return take_step(t, 256 * ((x - 1) % t->vans) + 1, van->route[van->stops - 2], x);
 }
 
 /* Wards 1, 2, ... in order, `stops` in all with start and end. */
 static void build(Task *t, u64 stops)
 {
-    for (u64 x = 1; x + 1 < stops; x++) next_ward(t, &t->from, x);
+    for (u64 x = 1; x + 1 < stops; x++) t->from = next_ward(t, x).fleet;
 }
 
-/* No step writes to a state that is no van, so only the vans are copied each time. */
-static __attribute__((noinline)) u64 one_step(Task *t)
+static u64 sum_of(const Task *t, const Turned *to)
 {
-    Answer a;
-    u64 sum = 0;
-    __builtin_memcpy(t->now.vans, t->from.vans, t->vans * sizeof(State));
-    t->now.must = t->from.must;
-    if (t->operation == 2) a = next_ward(t, &t->now, t->n / 2 - 1);
-    else a = take_step(t, &t->now, t->operation == 9 ? 7 : 5, 0, 0);
-    for (u64 v = 0; v < t->vans; v++) sum += t->now.vans[v].records + count_places(&t->now.vans[v], MOST_NODES);
-    return a.answer + a.rounds + sum;
+    u64 sum = to->answer.answer + to->answer.rounds;
+    for (u64 v = 0; v < t->vans; v++) sum += to->fleet.vans[v].records + count_places(&to->fleet.vans[v], MOST_NODES);
+    return sum;
+}
+
+static __attribute__((noinline)) u64 one_placing(const Task *t)
+{
+    Turned to = next_ward(t, t->n / 2 - 1);
+    return sum_of(t, &to);
+}
+
+static __attribute__((noinline)) u64 one_step(const Task *t)
+{
+    Turned to = take_step(t, t->operation == 9 ? 7 : 5, 0, 0);
+    return sum_of(t, &to);
 }
 
 static __attribute__((noinline)) u64 one_listing(const Task *t)
@@ -83,27 +88,30 @@ static __attribute__((noinline)) u64 one_listing(const Task *t)
     return length + sum;
 }
 
-static __attribute__((noinline)) u64 one_question(Task *t)
+static __attribute__((noinline)) u64 one_opening(const Task *t)
 {
-    u64 places, answer, stops = 0;
-    int alive;
-    if (t->operation == 1) {
-        answer = open_sheet(t->sheet, t->length, &t->now);
-        for (u32 v = 0; v < MOST_VANS; v++) stops += t->now.vans[v].stops;
-        return answer + stops;
-    }
-    if (t->operation == 6) {
-        answer = verdict(t->sheet, t->length, &t->from, &alive);
-        return answer + (u64)alive;
-    }
-    answer = open_places(t->sheet, t->length, &t->from, &places);
-    return answer + places;
+    Opened o = open_sheet(t->sheet, t->length);
+    u64 stops = 0;
+    for (u32 v = 0; v < MOST_VANS; v++) stops += o.fleet.vans[v].stops;
+    return o.answer + stops;
 }
 
-static u64 one_time(Task *t)
+static u64 one_time(const Task *t)
 {
-    if (t->operation == 1 || t->operation == 6 || t->operation == 8) return one_question(t);
-    return t->operation == 7 ? one_listing(t) : one_step(t);
+    switch (t->operation) {
+    case 1: return one_opening(t);
+    case 2: return one_placing(t);
+    case 6: {
+        Judged j = verdict(t->sheet, t->length, t->from);
+        return j.answer + (u64)j.alive;
+    }
+    case 7: return one_listing(t);
+    case 8: {
+        Counted c = open_places(t->sheet, t->length, t->from);
+        return c.answer + c.places;
+    }
+    default: return one_step(t);
+    }
 }
 
 /* Where seconds(0, 0) stands, or 0 if the sheet is not read; also its nodes and vans. */
@@ -123,12 +131,13 @@ static u64 repeat(u64 operation, u64 count, u8 *sheet, u64 length)
     t.operation = operation;
     t.sheet = sheet;
     t.length = length;
-    u64 spot = diagonal(&t), opened = open_sheet(sheet, length, &t.from), sum = 0;
-    if (opened && operation != 1 && operation != 7) return 0;
-    if (operation == 9) take_step(&t, &t.from, 6, 0, 0);
+    u64 spot = diagonal(&t), sum = 0;
+    Opened o = open_sheet(sheet, length);
+    t.from = o.fleet;
+    if (o.answer && operation != 1 && operation != 7) return 0;
+    if (operation == 9) t.from = take_step(&t, 6, 0, 0).fleet;
     if (operation == 5) build(&t, t.n);
-    else if (operation != 3 && !opened) build(&t, t.n / 2);
-    t.now = t.from;
+    else if (operation != 3 && !o.answer) build(&t, t.n / 2);
     u64 begin = now();
     for (u64 i = 0; i < count; i++) {
         u32 mark = (u32)(i % 1000);

@@ -39,12 +39,13 @@ static int triangles_broken(const Sheet *s)
     return triangle_broken(s->seconds, s->n) || triangle_broken(s->metres, s->n);
 }
 
-static u64 open_sheet(const u8 *bytes, u64 length, Fleet *fleet)
+static __attribute__((noinline)) Opened open_sheet(const u8 *bytes, u64 length)
 {
     Sheet s;
-    u64 no = read_sheet(bytes, length, &s);
-    if (!no && triangles_broken(&s)) no = 5;
-    if (no) *fleet = (Fleet){0};
-    else fresh(&s, fleet);
-    return no;
+    Opened o;
+    o.answer = read_sheet(bytes, length, &s);
+    if (!o.answer && triangles_broken(&s)) o.answer = 5;
+    if (o.answer) o.fleet = (Fleet){0};
+    else fresh(&s, &o.fleet);
+    return o;
 }

@@ -41,6 +41,28 @@ typedef struct {
     u64 rounds;
 } Answer;
 
+/* What the calls give. The fleet goes in and out by value, as in the planner: whoever hands it in
+   keeps his own. */
+typedef struct {
+    Answer answer;
+    Fleet fleet;
+} Turned;
+
+typedef struct {
+    u64 answer;
+    Fleet fleet;
+} Opened;
+
+typedef struct {
+    u64 answer;
+    u64 places;
+} Counted;
+
+typedef struct {
+    u64 answer;
+    int alive;
+} Judged;
+
 static inline u64 bit(u64 at) { return 1ULL << at; }
 static inline u32 lowest(u64 set) { return (u32)__builtin_ctzll(set); }
 

@@ -6,6 +6,7 @@ pub mod SpotLaws
 pub mod RouteLaws
 pub mod WalkLaws
 pub mod LoadLaws
+pub mod NodeLaws
 pub mod Told
 pub mod SetLaws
 pub mod ReadyLaws

@@ -36,7 +36,7 @@ unfolding sumBelow
 sum-front zero f = omega arith
 sum-front (suc n) f = ap (λ (a : ℕ). a + f (suc n)) (sum-front n f) ∙ omega arith
 
-sum-tab : (f : Job → ℕ) (n : ℕ) (g : ℕ → Job) → sum f (tab n g) ≡ sumBelow n (λ k. f (g k))
+pub sum-tab : (f : Job → ℕ) (n : ℕ) (g : ℕ → Job) → sum f (tab n g) ≡ sumBelow n (λ k. f (g k))
 unfolding tab sumBelow
 sum-tab f zero g = refl
 sum-tab f (suc n) g = ap (λ (a : ℕ). f (g 0) + a) (sum-tab f n (λ k. g (suc k))) ∙ sym (sum-front n (λ k. f (g k)))
@@ -186,18 +186,6 @@ pub peak-low : (f : ℕ → ℕ) (n b : ℕ) → 0 < b → ((i : ℕ) → i < n 
 unfolding peak
 peak-low f zero b z p = z
 peak-low f (suc n) b z p = omega (arith, peak-low f n b z (λ i a. p i (omega arith)), p n (omega arith))
-
--- it is within a bound exactly if each of them is
-pub peak-within : (f : ℕ → ℕ) (n b : ℕ) → leb (peak f n) b ≡ allBelow n (λ i. leb (f i) b)
-unfolding peak allBelow
-peak-within f zero b = le-leb 0 b (omega arith)
-peak-within f (suc n) b = more (f n) (peak f n) ∙ ap (λ (t : Bool). t && leb (f n) b) (peak-within f n b)
-  where
-    more : (x y : ℕ) → leb (max y x) b ≡ (leb y b && leb x b)
-    more x y =
-        decided (leb y b) (λ e. rw e (decided (leb x b) (λ d. rw d (le-leb (max y x) b (omega (arith, leb-true y b e, leb-true x b d))))
-        (λ d. rw d (lt-leb (max y x) b (omega (arith, leb-false x b d))))))
-        (λ e. rw e (lt-leb (max y x) b (omega (arith, leb-false y b e))))
 
 pub peak-same : (f g : ℕ → ℕ) (n : ℕ) → ((i : ℕ) → i < n → f i ≡ g i) → peak f n ≡ peak g n
 unfolding peak

@@ -1,6 +1,6 @@
 -- How the stops of nodes are found, and how they tell which jobs are aboard on a leg.
 use mathlib.Core.Path.{_≡_, refl, sym, ap, _∙_, subst}
-use mathlib.Core.Bool.{Bool, true, false, cond, _&&_}
+use mathlib.Core.Bool.{Bool, true, false, cond, _&&_, _||_}
 use mathlib.Core.List.{List, [], _∷_}
 use mathlib.Core.Logic.{⊎-elim, _⊎_, inl, inr}
 use Prim.Native.Nat.{ℕ, zero, suc, _+_, _-_, _<_, _≤_}
@@ -12,6 +12,8 @@ use lib.Seq.{getD-set-same, getD-set-other, getD-take}
 use borrow.Author.Tests.{eqb-true, eqb-false, eq-eqb, ltb-true, ltb-false}
 use Rattle.laws.proofs.Logic.{decided, T-ext, and-i, and-l, and-r, or-l, or-r, or-e, true→T}
 use Rattle.laws.specs.Basic.{mem}
+use Rattle.bits.specs.Places.{has, with}
+use Rattle.bits.proofs.Members.{with-same, with-other}
 use Rattle.rules.specs.Rounds.{Distinct, none, more}
 use Rattle.rules.specs.Along.{behind}
 use Rattle.rules.specs.Load.{aboard}
@@ -28,9 +30,6 @@ spot-in (y ∷ a) (suc x) h = spot-in a x (omega arith)
 
 pub spot-node : (a : List ℕ) (x : ℕ) → length a ≡ 64 → x < 64 → getD a x 0 ≡ getD a x 64
 spot-node a x n h = spot-in a x (omega arith)
-
-pub spot-past : (a : List ℕ) (x : ℕ) → length a ≡ 64 → 64 ≤ x → 64 ≡ getD a x 64
-spot-past a x n h = sym (List·getD-eq-default a 64 {n = x} (omega arith))
 
 -- every entry of an array of one number, and what stands for those past it
 pub same-entries : (a k x : ℕ) → getD (replicate k a) x a ≡ a
@@ -127,6 +126,24 @@ pub found-drop : (x : ℕ) (l : List ℕ) (k : ℕ) → Found l k (length l) x �
 found-drop x l zero f = subst (λ (v : ℕ). T (mem v l)) (f .is) (mem-at l (f .i) (f .high))
 found-drop x [] (suc k) f = absurd (omega (arith, f .high))
 found-drop x (y ∷ l) (suc k) f = found-drop x l k (found-tail y l k x f)
+
+-- who is behind the n-th stop is on the route of n stops
+pub behind-on : (l : List ℕ) (n : ℕ) → n ≤ length l → (x : ℕ) → mem x (behind l n) ≡ mem x (take n l)
+behind-on l n h x =
+    T-ext (mem x (behind l n)) (mem x (take n l))
+    (λ t. let f = behind-found x l n t in
+    subst (λ (v : ℕ). T (mem v (take n l))) (getD-take n l (f .i) 0 (f .high) ∙ f .is) (mem-at (take n l) (f .i) (omega (arith, f .high, size))))
+    (λ t. let f = mem-found x (take n l) t in let b : f .i < n = omega (arith, f .high, size) in
+    found-behind x l n (record { i = f .i; low = f .low; high = b; is = sym (getD-take n l (f .i) 0 b) ∙ f .is }))
+  where
+    size : length (take n l) ≡ n
+    size = simp length-take (omega arith)
+
+-- ---- a set with one node more
+
+pub put-has : (w p x : ℕ) → p < 64 → has (with w p) x ≡ (eqb p x || has w x)
+put-has w p x h =
+    decided (eqb p x) (λ e. rw (e, ← eqb-true p x e) (with-same w p h)) (λ e. rw e (with-other w p x (λ z. eqb-false p x e (sym z))))
 
 -- the i-th leg leads on to the stop k of a route
 abbrev leadsTo : ℕ → ℕ → Bool

@@ -8,3 +8,4 @@ pub mod Spots
 pub mod Route
 pub mod Walks
 pub mod Loads
+pub mod Nodes

@@ -1,7 +1,9 @@
 // Where each node stands on the route.
 ghost use Prim.Native.Nat.{ℕ, _<_, _≤_};
 ghost use mathlib.Core.Path.{_≡_};
-ghost use lib.ListN.{getD, length, replicate};
+ghost use lib.ListN.{getD, length, replicate, take};
+ghost use Rattle.laws.specs.Basic.{mem};
+ghost use Rattle.bits.specs.Places.{has};
 ghost use Rattle.along.specs.Spots.{Spots};
 use rules::Node;
 
@@ -19,10 +21,17 @@ pub fn spots(route: &[usize; Node::MOST], stops: usize, at: &mut [usize; Node::M
     }
 }
 
-// The stop of x; `Node::MOST` for a number that is no node of the route.
-pub fn spot(at: &[usize; Node::MOST], x: usize) -> usize
-    requires { ⌜ length (now at) ≡ 64 ⌝ }
-    ensures { λ r. ⌜ r ≡ getD (now (at .entry)) x 64 ⌝ }
+// The nodes of the route as a set.
+pub fn word(route: &[usize; Node::MOST], stops: usize) -> u64
+    requires { ⌜ (length (now route) ≡ 64) × (stops ≤ 64) × ((i : ℕ) → i < stops → getD (now route) i 0 < 64) ⌝ }
+    ensures { λ r. ⌜ ((x : ℕ) → has r x ≡ mem x (take stops (now (route .entry)))) ⌝ }
 {
-    if x < Node::MOST { at[x] } else { Node::MOST }
+    let mut w: u64 = 0;
+    let mut i = 0;
+    while i < stops {
+        let x = route[i];
+        w = bits::put(w, x);
+        i += 1;
+    }
+    w
 }

@@ -1,4 +1,4 @@
-// The board: a round in the making, by value. form: when a state is in form. change: a node placed, and taken off again, with no trail.
+// The board: a round in the making, by value. form: when a state is in form. change: a node placed, with no trail.
 // route and places: what these do to the one array and to the other.
 pub mod change;
 pub mod form;
@@ -79,6 +79,9 @@ impl State {
 }
 
 impl Figures {
+    // How many they are.
+    pub const COUNT: usize = 5;
+
     // Every number 0: those of the state that stands beside a refusal.
     pub fn none() -> Figures
         ensures { λ r. ⌜ r ≡ noFigures ⌝ }

@@ -4,7 +4,7 @@ ghost use mathlib.Core.List.{map};
 ghost use Prim.Native.Nat.{_≤_};
 ghost use lib.ListN.{length};
 ghost use Rattle.board.specs.Board.{placesOf};
-ghost use Rattle.board.specs.Change.{heir, strike};
+ghost use Rattle.board.specs.Change.{heir};
 ghost use Rattle.board.specs.Held.{Ends};
 use rules::Node;
 
@@ -23,19 +23,6 @@ pub fn inherit(sets: &mut [u64; Node::MOST], n: usize, p: usize, x: usize)
     while i < n {
         let w = sets[i];
         sets[i] = heir_of(w, p, x);
-        i += 1;
-    }
-}
-
-// Leg x is taken out of every set.
-pub fn strike_leg(sets: &mut [u64; Node::MOST], n: usize, x: usize)
-    requires { ⌜ (length (now sets) ≡ 64) × (n ≤ 64) × Ends n (now sets) ⌝ }
-    ensures { λ r. ⌜ now (sets .exit) ≡ map (strike x) (now (sets .entry)) ⌝ }
-{
-    let mut i = 0;
-    while i < n {
-        let w = sets[i];
-        sets[i] = bits::without(w, x);
         i += 1;
     }
 }

@@ -2,7 +2,7 @@
 ghost use mathlib.Core.Path.{_≡_};
 ghost use Prim.Native.Nat.{ℕ, _≤_, _<_};
 ghost use lib.ListN.{getD, length, take};
-ghost use Rattle.board.specs.Route.{indexOf, insertIn, removeIn, wordOf};
+ghost use Rattle.board.specs.Route.{indexOf, insertIn, wordOf};
 use rules::Node;
 
 // The last entry of the array.
@@ -50,18 +50,4 @@ pub fn insert(route: &mut [usize; Node::MOST], at: usize, x: usize)
         j -= 1;
     }
     route[at] = x;
-}
-
-// The entry at a place taken out; those after it move down by one.
-pub fn remove(route: &mut [usize; Node::MOST], at: usize)
-    requires { ⌜ (at < 64) × (length (now route) ≡ 64) ⌝ }
-    ensures { λ r. ⌜ now (route .exit) ≡ removeIn at (now (route .entry)) ⌝ }
-{
-    let mut j = at;
-    while j < LAST {
-        let v = route[j + 1];
-        route[j] = v;
-        j += 1;
-    }
-    route[LAST] = 0;
 }

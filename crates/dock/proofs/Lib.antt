@@ -1,6 +1,7 @@
 -- VanLaws: what a line tells of the vans, van by van. RouteLines: the route lines, van by van. Reach: what holds of a fleet that steps have led to.
--- LineLaws: the lines of a listing, step by step.
+-- FreshRows: the fresh fleet put into rows. LineLaws: the lines of a listing, step by step.
 pub mod VanLaws
 pub mod RouteLines
 pub mod Reach
+pub mod FreshRows
 pub mod LineLaws

@@ -1,38 +1,19 @@
 -- The lines of a listing, step by step, and the whole of it.
 use Prim.Native.Nat.{ℕ, zero, suc, _+_}
-use mathlib.Core.Bool.{cond}
 use mathlib.Core.List.{List}
-use mathlib.Core.Path.{_≡_, refl, sym, ap, ap₂, subst, _∙_}
+use mathlib.Core.Path.{_≡_, refl, sym, ap, subst, _∙_}
 use native.Mathlib.Numerals.{add-one}
-use lib.Dec.{ltb}
 use borrow.Author.Tests.{ne-eqb}
-use Rattle.rules.specs.Numbers.{mostVans}
-use Rattle.sheet.specs.Section.{nOf, kOf, vansOf}
+use Rattle.sheet.specs.Section.{kOf, vansOf}
 use Rattle.day.specs.Refuse.{callRefusal, openRefusal}
-use Rattle.board.specs.Fresh.{noState, freshState}
-use Rattle.laws.proofs.Logic.{decided}
 use Rattle.listing.specs.Put.{Put}
 use Rattle.listing.proofs.PutLaws.{put-then}
 use Rattle.listing.specs.Text.{refusedLine}
-use Rattle.fleet.specs.Fleet.{fleetOf, stateIn, freshFleet}
 use Rattle.fleet.specs.declared.Fleet.{Fleet}
-use Rattle.fleet.proofs.FleetLaws.{fleetMade, state-of}
-use Rattle.fleet.proofs.RowLaws.{tab-same}
 use Rattle.turns.specs.Together.{RanAll, actedAll}
 use Rattle.planner.specs.Face.{freshOf}
 use Rattle.dock.specs.Listing.{stepAt, comeTo, linesOf, routesOf, wholeOf, listingOf, lineOf, Reached}
 use Rattle.dock.proofs.Reach.{begun, goes-on}
-
--- a fresh fleet in rows
-fresh-rows : (n v : ℕ) → fleetOf (λ j. cond (ltb j v) (stateIn (freshFleet n v) j) noState) ≡ freshFleet n v
-unfolding freshFleet
-fresh-rows n v =
-    ap fleetMade (tab-same mostVans _ _ (λ j l. ap (λ s. cond (ltb j v) s noState) (state-of (λ j. cond (ltb j v) (freshState n) noState) j l)
-    ∙ decided (ltb j v) (λ e. rw e refl) (λ e. rw e refl)))
-
--- the rows that a fresh fleet was put into have it
-pub fresh-put : (sheet : List ℕ) {n v : ℕ} {f g : Fleet} → n ≡ nOf sheet → v ≡ vansOf sheet → f ≡ freshFleet n v → g ≡ fleetOf (λ j. cond (ltb j v) (stateIn f j) noState) → g ≡ freshOf sheet
-fresh-put sheet {n} {v} a b e r = r ∙ ap (λ (f : Fleet). fleetOf (λ j. cond (ltb j v) (stateIn f j) noState)) e ∙ fresh-rows n v ∙ ap₂ freshFleet a b
 
 -- before the first step: the fresh fleet, no line
 pub come-none : (sheet t : List ℕ) {f : Fleet} → f ≡ freshOf sheet → comeTo sheet t 0 ≡ (f, t)

@@ -1,12 +1,12 @@
 -- What holds of a fleet that steps have led to from the fresh one, where a step leads on, and what a line tells of it.
 use Prim.Native.Nat.{ℕ, _+_, _-_, _<_, _≤_}
-use mathlib.Core.Bool.{Bool, true, cond, _&&_}
-use mathlib.Core.List.{List}
-use mathlib.Core.Path.{_≡_, refl, sym, ap, subst, _∙_}
+use mathlib.Core.Bool.{Bool, true, false, cond, not, _&&_}
+use mathlib.Core.List.{List, [], _∷_}
+use mathlib.Core.Path.{_≡_, refl, sym, ap, ap₂, subst, _∙_}
 use mathlib.Core.Logic.{⊎-elim}
 use native.Mathlib.Omega.{arith}
 use native.Mathlib.Nat.{mul-le-mul}
-use lib.ListN.{length, getD}
+use lib.ListN.{getD}
 use lib.Count.{ones, ones-le}
 use lib.Dec.{eqb}
 use borrow.Author.Tests.{eqb-true, eqb-false}
@@ -24,16 +24,14 @@ use Rattle.day.proofs.RefuseLaws.{call-fine}
 use Rattle.day.specs.Tell.{dayOf, vanOf}
 use Rattle.board.specs.Board.{Board, boardOf, placesOf, setOf}
 use Rattle.board.specs.Held.{Held, Words, Sound}
-use Rattle.board.specs.Fresh.{noFigures}
 use Rattle.board.specs.declared.State.{State}
-use Rattle.board.specs.declared.Figures.{Figures}
 use Rattle.trail.proofs.Bound.{records-bound}
 use Rattle.trail.proofs.Still.{move-still}
 use Rattle.stands.specs.Stands.{planOf}
 use Rattle.listing.specs.Text.{stepLine}
 use Rattle.fleet.specs.Fleet.{stateIn, boardIn, trailIn, HeldAll}
 use Rattle.fleet.specs.Form.{inFormAll, formWithAll}
-use Rattle.fleet.specs.Rows.{rowState, rowBoard, fleetWith, Rows, ReadyAll}
+use Rattle.fleet.specs.Rows.{figuresIn, rowState, rowBoard, fleetWith, Rows, Figured, ReadyAll}
 use Rattle.fleet.specs.Sums.{placesAll, recordsAll, allServed}
 use Rattle.fleet.specs.declared.Fleet.{Fleet}
 use Rattle.fleet.proofs.FleetLaws.{state-of}
@@ -48,17 +46,21 @@ use Rattle.planner.proofs.Courses.{reached-all, reached-held, form-van, sound-v
 use Rattle.planner.proofs.Never.{never-misfit}
 use Rattle.fleet.proofs.FormLaws.{form-with-all}
 use Rattle.planner.proofs.RowFacts.{rows-ready}
-use Rattle.dock.specs.declared.Told.{Told}
 use Rattle.dock.specs.declared.telling.Sums.{Sums}
-use Rattle.dock.specs.Listing.{toldIn, noTold, ToldAll, Reached, lineOf}
+use Rattle.dock.specs.Listing.{toldIn, ToldAll, Reached, lineOf}
 
 -- where a listing begins
 pub begun : {sheet : List ℕ} {f : Fleet} (t : List ℕ) → f ≡ freshOf sheet → Reached sheet f t
 begun {sheet} t e = subst (λ (f : Fleet). Reached sheet f t) (sym e) (record { first = t; steps = none })
 
--- what a line tells of a van hangs on its board
-abbrev told-by : (sheet : List ℕ) (j : ℕ) → Board → Told
-told-by sheet j b = record { places = placesOf (b .sets) 64; alive = alive (vanOf sheet j) (dayOf sheet) (planOf b) }
+-- what a line tells of a van hangs on its board and its records
+abbrev told-by : (sheet : List ℕ) (j : ℕ) → Board → ℕ → List ℕ
+told-by sheet j b records = placesOf (b .sets) 64 ∷ records ∷ cond (alive (vanOf sheet j) (dayOf sheet) (planOf b)) 1 0 ∷ []
+
+-- the last number of a row is 1 exactly where the van is alive
+told-alive : (b : Bool) → not (eqb (cond b 1 0) 0) ≡ b
+told-alive true = refl
+told-alive false = refl
 
 -- the open places of a board of words
 places-few : (b : Board) → Words b → placesOf (b .sets) 64 ≤ 4096
@@ -127,90 +129,96 @@ module _ {sheet : List ℕ} {f : Fleet} {t : List ℕ} (z : callRefusal sheet �
 
     -- so the line tells of it what it told before
     pub told-again : (j : ℕ) → j < vansOf sheet → stateIn f′ j .records ≡ stateIn f j .records → toldIn sheet f j ≡ toldIn sheet f′ j
-    told-again j l h = ap (told-by sheet j) (sym (same-board j l h))
+    told-again j l h = ap₂ (told-by sheet j) (sym (same-board j l h)) (sym h)
 
   -- ---- the line
 
-  -- the open places in all are those of the vans
-  places-all : {told : List Told} → ToldAll sheet f told → sumBelow (vansOf sheet) (λ j. getD told j noTold .places) ≡ countOf sheet f .places
-  unfolding countOf askRefusal orElse placesAll
-  places-all w = rw (z, formed) (sum-same (vansOf sheet) _ _ (λ j l. ap (λ (o : Told). o .places) (w .each j l)))
+  module _ {told : List (List ℕ)} (w : ToldAll sheet f told) where
+    -- one number of van j's row
+    entry : (i j : ℕ) → j < vansOf sheet → getD (getD told j []) i 0 ≡ getD (toldIn sheet f j) i 0
+    entry i j l = ap (λ (o : List ℕ). getD o i 0) (w .each j l)
 
-  -- the fleet is alive if each van is and every ward that must go somewhere is served
-  alive-all-is : {told : List Told} → ToldAll sheet f told → allBelow (vansOf sheet) (λ j. getD told j noTold .alive) && allServed (vansOf sheet) f ≡ judgeOf sheet f .alive
-  unfolding judgeOf askRefusal orElse
-  alive-all-is w =
-      rw (z, formed)
-      (ap (λ (b : Bool). b && allServed (vansOf sheet) f) (below-same (vansOf sheet) _ _ (λ j l. ap (λ (o : Told). o .alive) (w .each j l)))
-      ∙ sym (alive-all (dayOf sheet) (vansOf sheet) f (call-fine sheet z .vans-low) (sound-van sheet f t held z roomy) (words-van sheet f t held z roomy) (vanOf sheet)))
+    -- the open places in all are those of the vans
+    places-all : sumBelow (vansOf sheet) (λ j. getD (getD told j []) 0 0) ≡ countOf sheet f .places
+    unfolding countOf askRefusal orElse placesAll
+    places-all = rw (z, formed) (sum-same (vansOf sheet) _ _ (entry 0))
 
-  -- what is told of a van stays small
-  pub told-few : {told : List Told} → ToldAll sheet f told → (j : ℕ) → j < vansOf sheet → getD told j noTold .places ≤ 4096
-  told-few w j l = omega (arith, ap (λ (o : Told). o .places) (w .each j l), few-places j l)
+    -- and so are the records
+    records-all : sumBelow (vansOf sheet) (λ j. getD (getD told j []) 1 0) ≡ recordsAll (vansOf sheet) f
+    unfolding recordsAll
+    records-all = sum-same (vansOf sheet) _ _ (entry 1)
 
-  pub line-is : {told : List Told} {v : ℕ} {sums : Sums} {all : Bool} (i k r : ℕ) (records : ℕ → ℕ) → v ≡ vansOf sheet → ToldAll sheet f told
-      → sums ≡ record { places = sumBelow v (λ j. getD told j noTold .places); records = sumBelow v records; alive = allBelow v (λ j. getD told j noTold .alive) }
-      → all ≡ allServed v f → ((j : ℕ) → j < vansOf sheet → records j ≡ stateIn f j .records)
-      → stepLine (i + 1) k (sums .places) (sums .records) r (cond (sums .alive && all) 1 0) ≡ lineOf sheet i (record { answer = k; rounds = r; fleet = f })
-  unfolding lineOf recordsAll
-  line-is {told} {v} i k r records e w s served each =
-      rw (s, served, e, sym (places-all w), sym (alive-all-is w), sum-same (vansOf sheet) records (λ j. stateIn f j .records) each) refl
+    -- the fleet is alive if each van is and every ward that must go somewhere is served
+    alive-all-is : allBelow (vansOf sheet) (λ j. not (eqb (getD (getD told j []) 2 0) 0)) && allServed (vansOf sheet) f ≡ judgeOf sheet f .alive
+    unfolding judgeOf askRefusal orElse
+    alive-all-is =
+        rw (z, formed)
+        (ap (λ (b : Bool). b && allServed (vansOf sheet) f) (below-same (vansOf sheet) _ _ (λ j l. ap (λ (k : ℕ). not (eqb k 0)) (entry 2 j l) ∙ told-alive _))
+        ∙ sym (alive-all (dayOf sheet) (vansOf sheet) f (call-fine sheet z .vans-low) (sound-van sheet f t held z roomy) (words-van sheet f t held z roomy) (vanOf sheet)))
+
+    -- what is told of a van stays small
+    pub told-few : (j : ℕ) → j < vansOf sheet → (getD (getD told j []) 0 0 ≤ 4096) × (getD (getD told j []) 1 0 ≤ 4096)
+    told-few j l = (omega (arith, entry 0 j l, few-places j l), omega (arith, entry 1 j l, few-records j l))
+
+    pub line-is : {v : ℕ} {sums : Sums} {all : Bool} (i k r : ℕ) → v ≡ vansOf sheet
+        → sums ≡ record {
+          places = sumBelow v (λ j. getD (getD told j []) 0 0);
+          records = sumBelow v (λ j. getD (getD told j []) 1 0);
+          alive = allBelow v (λ j. not (eqb (getD (getD told j []) 2 0) 0));
+        }
+        → all ≡ allServed v f → stepLine (i + 1) k (sums .places) (sums .records) r (cond (sums .alive && all) 1 0) ≡ lineOf sheet i (record { answer = k; rounds = r; fleet = f })
+    unfolding lineOf
+    line-is i k r e s served = rw (s, served, e, sym places-all, sym records-all, sym alive-all-is) refl
 
 -- ---- a fleet in rows
 
-module _ {sheet : List ℕ} {at : Layout} {t : List ℕ} (z : callRefusal sheet ≡ 0) (l : Laid sheet at) (routes sets levels : List (List ℕ)) (figures : List Figures)
+module _ {sheet : List ℕ} {at : Layout} {t : List ℕ} (z : callRefusal sheet ≡ 0) (l : Laid sheet at) (routes sets levels figures : List (List ℕ)) (figured : Figured figures)
     (p : Reached sheet (fleetWith routes sets levels figures) t) where
   -- what the verdict and the line ask of its rows
   pub readied : ReadyAll sheet at routes sets figures
-  readied = rows-ready z l routes sets levels figures (held z p) (formed z p)
+  readied = rows-ready z l routes sets levels figures figured (held z p) (formed z p)
 
   -- what the steps ask of them
-  pub known : Rows routes × Rows sets × Rows levels → length figures ≡ mostVans → KnownRows sheet at routes sets levels figures t
-  known r e = record { clear = z; laid = l; form = roomy z p; held = held z p; rows = r; eight = e }
+  pub known : Rows routes × Rows sets × Rows levels → KnownRows sheet at routes sets levels figures t
+  known r = record { clear = z; laid = l; form = roomy z p; held = held z p; rows = r; figured = figured }
 
-  row : (j : ℕ) → j < vansOf sheet → stateIn (fleetWith routes sets levels figures) j ≡ rowState routes sets levels figures j
-  row j h = state-of (rowState routes sets levels figures) j (omega (arith, h, l .fine .vans-high))
+  pub row-stops : (j : ℕ) → j < vansOf sheet → figuresIn (getD figures j []) .stops ≤ 64
+  row-stops j h = omega (arith, ap (λ (s : State). s .stops) (state-of (rowState routes sets levels figures) j (omega (arith, h, l .fine .vans-high))), few-stops z p j h)
 
-  pub row-stops : (j : ℕ) → j < vansOf sheet → getD figures j noFigures .stops ≤ 64
-  row-stops j h = omega (arith, ap (λ (s : State). s .stops) (row j h), few-stops z p j h)
-
-  pub row-records : (j : ℕ) → j < vansOf sheet → getD figures j noFigures .records ≡ stateIn (fleetWith routes sets levels figures) j .records
-  row-records j h = ap (λ (s : State). s .records) (sym (row j h))
-
-  -- what the sums ask of what is told and of the records
-  pub summing : {told : List Told} → ToldAll sheet (fleetWith routes sets levels figures) told
-      → (at .vans ≤ mostVans) × ((j : ℕ) → j < at .vans → (getD told j noTold .places ≤ 4096) × (getD figures j noFigures .records ≤ 4096))
-  summing w = (
-    omega (arith, l .vans, l .fine .vans-high),
-    λ j h. let g : j < vansOf sheet = omega (arith, h, l .vans) in (told-few z p w j g, omega (arith, row-records j g, few-records z p j g)),
-  )
+  -- what the sums ask of what is told
+  pub summing : {told : List (List ℕ)} → ToldAll sheet (fleetWith routes sets levels figures) told
+      → (at .vans ≤ mostVans) × ((j : ℕ) → j < at .vans → (getD (getD told j []) 0 0 ≤ 4096) × (getD (getD told j []) 1 0 ≤ 4096))
+  summing w = (omega (arith, l .vans, l .fine .vans-high), λ j h. told-few z p w j (omega (arith, h, l .vans)))
 
   -- what is asked of the boards for the wards that must go somewhere
-  pub serving : (1 ≤ at .vans) × (at .vans ≤ mostVans) × (2 ≤ at .nodes) × ((j : ℕ) → j < at .vans → Sound (at .nodes) (rowBoard routes sets figures j))
+  pub serving : (1 ≤ at .vans) × (at .vans ≤ mostVans) × (2 ≤ at .nodes) × Figured figures × ((j : ℕ) → j < at .vans → Sound (at .nodes) (rowBoard routes sets figures j))
   serving = (
     omega (arith, l .vans, l .fine .vans-low),
     omega (arith, l .vans, l .fine .vans-high),
     omega (arith, l .nodes, l .fine .n-low),
+    figured,
     λ j h. subst (λ (n : ℕ). Sound n (rowBoard routes sets figures j)) (sym (l .nodes)) (readied .each j (omega (arith, h, l .vans))),
   )
 
   -- a step more: a van whose records are those of before is told as before
-  pub told-on : {told : List Told} (word a b : ℕ) {k r : ℕ} {t′ : List ℕ} (routes′ sets′ levels′ : List (List ℕ)) (figures′ : List Figures)
+  pub told-on : {told : List (List ℕ)} (word a b : ℕ) {k r : ℕ} {t′ : List ℕ} (routes′ sets′ levels′ figures′ : List (List ℕ))
       → stepOf sheet (fleetWith routes sets levels figures) t word a b ≡ actedAll k r (fleetWith routes′ sets′ levels′ figures′) t′
       → ToldAll sheet (fleetWith routes sets levels figures) told
-      → (j : ℕ) → j < vansOf sheet → getD figures′ j noFigures .records ≡ getD figures j noFigures .records
-      → getD told j noTold ≡ toldIn sheet (fleetWith routes′ sets′ levels′ figures′) j
+      → (j : ℕ) → j < vansOf sheet → figuresIn (getD figures′ j []) .records ≡ getD (getD told j []) 1 0
+      → getD told j [] ≡ toldIn sheet (fleetWith routes′ sets′ levels′ figures′) j
   told-on word a b routes′ sets′ levels′ figures′ e w j h same =
       w .each j h
       ∙ told-again z p word a b e j h
-      (ap (λ (s : State). s .records) (state-of (rowState routes′ sets′ levels′ figures′) j (omega (arith, h, l .fine .vans-high))) ∙ same ∙ row-records j h)
+      (ap (λ (s : State). s .records) (state-of (rowState routes′ sets′ levels′ figures′) j (omega (arith, h, l .fine .vans-high))) ∙ same ∙ ap (λ (o : List ℕ). getD o 1 0) (w .each j h))
 
 -- eight rows that have a held fleet are rows of 64
-pub rows-held : (routes sets levels : List (List ℕ)) (figures : List Figures) → HeldAll (fleetWith routes sets levels figures) → EightRows routes sets levels → Rows routes × Rows sets × Rows levels
+pub rows-held : (routes sets levels figures : List (List ℕ)) → HeldAll (fleetWith routes sets levels figures) → EightRows routes sets levels figures
+    → Rows routes × Rows sets × Rows levels × Figured figures
 rows-held routes sets levels figures h e = (
   record { eight = e .0; wide = λ j l. at j l .wide .route },
   record { eight = e .1; wide = λ j l. at j l .wide .sets },
   record { eight = e .2; wide = λ j l. at j l .levels },
+  e .3,
 )
   where
     at : (j : ℕ) → j < mostVans → Held (rowState routes sets levels figures j)

@@ -1,8 +1,8 @@
 -- The whole listing of a sheet as bytes, line by line, with the trail that is lent (01, One sheet and its listing; 02, No. 1).
 use Prim.Native.Nat.{ℕ, zero, suc, _+_, _<_}
 use mathlib.Core.Path.{_≡_}
-use mathlib.Core.Bool.{cond, false}
-use mathlib.Core.List.{List, [], _++_}
+use mathlib.Core.Bool.{cond}
+use mathlib.Core.List.{List, [], _∷_, _++_}
 use lib.ListN.{length, getD, replicate}
 use lib.Dec.{eqb, ltb}
 use Rattle.laws.specs.Basic.{joined}
@@ -20,7 +20,6 @@ use Rattle.turns.specs.Together.{RanAll}
 use Rattle.turns.specs.declared.Turned.{Turned}
 use Rattle.planner.specs.Face.{freshOf, stepOf, countOf, judgeOf}
 use Rattle.planner.specs.Promises.{Steps, planAt}
-use Rattle.dock.specs.declared.Told.{Told}
 
 -- "step from 1, refusal or 0, open places in all, records, striking rounds, verdict": places and records of all vans, the fleet's verdict
 unfoldable pub lineOf : List ℕ → ℕ → Turned → List ℕ
@@ -62,17 +61,13 @@ listingOf sheet t = cond (eqb (openRefusal sheet) 0) (wholeOf sheet t) (refusedL
 unfoldable pub printed : List ℕ → List ℕ
 printed input = cond (ltb 60104 (length input)) (refusedLine refusal.SHORT) (listingOf input (replicate 64480 0))
 
--- ---- for contracts: what a line tells of one van beside its records
+-- ---- for contracts: what a line tells of one van
 
--- "open places in all", "verdict", of van j
-abbrev pub toldIn : List ℕ → Fleet → ℕ → Told
-toldIn sheet f j = record { places = placesOf (stateIn f j .sets) 64; alive = alive (vanOf sheet j) (dayOf sheet) (planAt f j) }
-
--- of no van
-abbrev pub noTold : Told
-noTold = record { places = 0; alive = false }
+-- "open places in all", "records", "verdict", of van j, in a row
+abbrev pub toldIn : List ℕ → Fleet → ℕ → List ℕ
+toldIn sheet f j = placesOf (stateIn f j .sets) 64 ∷ stateIn f j .records ∷ cond (alive (vanOf sheet j) (dayOf sheet) (planAt f j)) 1 0 ∷ []
 
 -- of every van of the sheet
-pub record ToldAll (sheet : List ℕ) (f : Fleet) (told : List Told) : Type 0 where
+pub record ToldAll (sheet : List ℕ) (f : Fleet) (told : List (List ℕ)) : Type 0 where
   pub eight : length told ≡ mostVans
-  pub each : (j : ℕ) → j < vansOf sheet → getD told j noTold ≡ toldIn sheet f j
+  pub each : (j : ℕ) → j < vansOf sheet → getD told j [] ≡ toldIn sheet f j

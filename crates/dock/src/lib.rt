@@ -13,8 +13,9 @@ pub const TRAIL: usize = 2 * Fleet::VANS * (Node::MOST + 1) * (Node::MOST - 2);
 // Bytes of the longest listing: a line has at most 200, a route's at most 1,350.
 pub const TEXT: usize = 200 * Step::MOST + 1350 * Fleet::VANS;
 
-// What a line tells of a van beside its records: its open places, and its verdict.
-pub struct Told {
-    pub places: usize,
-    pub alive: bool,
+// What a line tells of a van: its open places, its records, and its verdict, in a row.
+pub struct Told;
+
+impl Told {
+    pub const COUNT: usize = 3;
 }

@@ -1,27 +1,32 @@
 // The lines of the steps, the routes at the end, and the whole listing.
 ghost use mathlib.Core.Path.{_≡_};
 ghost use mathlib.Core.Bool.{cond, _&&_};
-ghost use mathlib.Core.List.{List};
+ghost use mathlib.Core.List.{List, []};
 ghost use Prim.Native.Nat.{ℕ, _+_, _*_, _<_, _≤_};
-ghost use lib.ListN.{length, getD};
+ghost use lib.ListN.{length, getD, replicate};
 ghost use Rattle.rules.specs.Numbers.{mostVans};
 ghost use Rattle.sheet.specs.Place.{Laid};
 ghost use Rattle.day.specs.Refuse.{callRefusal};
-ghost use Rattle.day.specs.Tell.{stepWord};
-ghost use Rattle.board.specs.Fresh.{noFigures};
+ghost use Rattle.day.specs.Tell.{jobIn, stepWord};
+ghost use Rattle.along.specs.Nodes.{ByNode};
 ghost use Rattle.listing.specs.Put.{Put};
 ghost use Rattle.listing.specs.Text.{stepLine};
-ghost use Rattle.fleet.specs.Rows.{fleetWith, Rows};
+ghost use Rattle.fleet.specs.Fleet.{freshFleet};
+ghost use Rattle.fleet.specs.Rows.{figuresIn, fleetWith, Rows, Figured, Blank};
 ghost use Rattle.turns.specs.Together.{ranAll};
 ghost use Rattle.planner.specs.Face.{freshOf, stepOf};
 ghost use Rattle.dock.specs.Listing.{Reached, comeTo, linesOf, routesOf, wholeOf, listingOf};
 use crate::Told;
 use crate::telling::Sums;
+use crate::telling::one_if;
 use crate::telling::sum_up;
 use crate::telling::tell_vans;
+use along::nodes::Jobs;
+use along::nodes::by_node;
 use board::Figures;
 use board::State;
 use fleet::Fleet;
+use fleet::rows::figures_in;
 use fleet::rows::unpack;
 use fleet::sums::served;
 use listing::Three;
@@ -40,24 +45,20 @@ pub fn step_at(
     routes: &mut [[usize; Node::MOST]; Fleet::VANS],
     sets: &mut [[u64; Node::MOST]; Fleet::VANS],
     levels: &mut [[usize; State::LEVELS]; Fleet::VANS],
-    figures: [Figures; Fleet::VANS],
+    figures: &mut [[u64; Figures::COUNT]; Fleet::VANS],
     trail: &mut [u64],
 ) -> Outcomes
-    requires { ⌜ (callRefusal (now sheet) ≡ 0) × Laid (now sheet) at × (i < at .steps) × Rows (now routes) × Rows (now sets) × Rows (now levels) ⌝ }
-    requires { ⌜ Reached (now sheet) (fleetWith (now routes) (now sets) (now levels) figures) (now trail) ⌝ }
-    ensures { λ r. ⌜ stepOf (now (sheet .entry)) (fleetWith (now (routes .entry)) (now (sets .entry)) (now (levels .entry)) figures) (now (trail .entry))
+    requires { ⌜ (callRefusal (now sheet) ≡ 0) × Laid (now sheet) at × (i < at .steps) ⌝ }
+    requires { ⌜ Rows (now routes) × Rows (now sets) × Rows (now levels) × Figured (now figures) ⌝ }
+    requires { ⌜ Reached (now sheet) (fleetWith (now routes) (now sets) (now levels) (now figures)) (now trail) ⌝ }
+    ensures { λ r. ⌜ stepOf (now (sheet .entry))
+        (fleetWith (now (routes .entry)) (now (sets .entry)) (now (levels .entry)) (now (figures .entry))) (now (trail .entry))
         (stepWord (now (sheet .entry)) i 0) (stepWord (now (sheet .entry)) i 1) (stepWord (now (sheet .entry)) i 2)
-        ≡ ranAll r (now (routes .exit)) (now (sets .exit)) (now (levels .exit)) (now (trail .exit)) ⌝ }
-    ensures { λ r. ⌜ Rows (now (routes .exit)) × Rows (now (sets .exit)) × Rows (now (levels .exit)) ⌝ }
+        ≡ ranAll r (now (routes .exit)) (now (sets .exit)) (now (levels .exit)) (now (figures .exit)) (now (trail .exit)) ⌝ }
+    ensures { λ r. ⌜ Rows (now (routes .exit)) × Rows (now (sets .exit)) × Rows (now (levels .exit)) × Figured (now (figures .exit)) ⌝ }
 {
     let step = day::look::step(sheet, at, i);
     turns::steps::act(sheet, at, routes, sets, levels, figures, trail, step)
-}
-
-fn one_if(b: bool) -> u64
-    ensures { λ r. ⌜ r ≡ cond b 1 0 ⌝ }
-{
-    if b { 1 } else { 0 }
 }
 
 // The line of the i-th step, from 0.
@@ -82,90 +83,95 @@ fn put_line(
     let tail = Three {
         first: sums.records as u64,
         second: rounds as u64,
-        third: one_if(sums.alive & served),
+        third: one_if(sums.alive & served) as u64,
     };
     put_step(out, used, head, tail)
-}
-
-// How much of the buffer is used, and the numbers of the vans.
-pub struct Part {
-    pub used: usize,
-    pub after: [Figures; Fleet::VANS],
 }
 
 // The lines of all steps, from the fresh fleet on.
 fn put_lines(
     sheet: &[u8],
     at: Layout,
+    jobs: &[usize; Jobs::ROOM],
     routes: &mut [[usize; Node::MOST]; Fleet::VANS],
     sets: &mut [[u64; Node::MOST]; Fleet::VANS],
     levels: &mut [[usize; State::LEVELS]; Fleet::VANS],
-    figures: [Figures; Fleet::VANS],
+    figures: &mut [[u64; Figures::COUNT]; Fleet::VANS],
     trail: &mut [u64],
     out: &mut [u8],
-) -> Part
-    requires { ⌜ (callRefusal (now sheet) ≡ 0) × Laid (now sheet) at × (200 * at .steps ≤ length (now out)) × Rows (now routes) × Rows (now sets) × Rows (now levels) ⌝ }
-    requires { ⌜ fleetWith (now routes) (now sets) (now levels) figures ≡ freshOf (now sheet) ⌝ }
-    ensures { λ r. ⌜ Put (now (out .entry)) 0 (linesOf (now (sheet .entry)) (now (trail .entry)) (at .steps)) (r .used) (now (out .exit))
+) -> usize
+    requires { ⌜ (callRefusal (now sheet) ≡ 0) × Laid (now sheet) at × (200 * at .steps ≤ length (now out)) × ByNode (jobIn (now sheet)) (at .jobs) (now jobs) ⌝ }
+    requires { ⌜ Rows (now routes) × Rows (now sets) × Rows (now levels) × Figured (now figures) ⌝ }
+    requires { ⌜ fleetWith (now routes) (now sets) (now levels) (now figures) ≡ freshOf (now sheet) ⌝ }
+    ensures { λ r. ⌜ Put (now (out .entry)) 0 (linesOf (now (sheet .entry)) (now (trail .entry)) (at .steps)) r (now (out .exit))
         × (comeTo (now (sheet .entry)) (now (trail .entry)) (at .steps)
-        ≡ (fleetWith (now (routes .exit)) (now (sets .exit)) (now (levels .exit)) (r .after), now (trail .exit)))
-        × (r .used ≤ 200 * at .steps) × Rows (now (routes .exit)) ⌝ }
+        ≡ (fleetWith (now (routes .exit)) (now (sets .exit)) (now (levels .exit)) (now (figures .exit)), now (trail .exit)))
+        × (r ≤ 200 * at .steps) × Rows (now (routes .exit)) × Figured (now (figures .exit)) ⌝ }
 {
-    let none = Told {
-        places: 0,
-        alive: false,
-    };
-    let mut told = tell_vans(
-        sheet,
-        at,
-        routes,
-        sets,
-        figures,
-        true,
-        [none; Fleet::VANS],
-        figures,
-    );
-    let mut after = figures;
+    let mut told = [[0usize; Told::COUNT]; Fleet::VANS];
+    tell_vans(sheet, at, jobs, routes, sets, figures, true, &mut told);
     let mut used = 0;
     let mut i = 0;
     while i < at.steps {
-        let o = step_at(sheet, at, i, routes, sets, levels, after, trail);
-        let next = o.after;
-        let anew = tell_vans(sheet, at, routes, sets, next, false, told, after);
-        told = anew;
-        after = next;
-        let sums = sum_up(told, after, at.vans);
-        let all = served(routes, sets, after, at.nodes, at.vans);
+        let o = step_at(sheet, at, i, routes, sets, levels, figures, trail);
+        tell_vans(sheet, at, jobs, routes, sets, figures, false, &mut told);
+        let sums = sum_up(&told, at.vans);
+        let all = served(routes, sets, figures, at.nodes, at.vans);
         used = put_line(out, used, i, o.answer, o.rounds, sums, all);
         i += 1;
     }
-    Part {
-        used: used,
-        after: after,
-    }
+    used
 }
 
 // A route line for each van.
-fn put_routes(
+fn put_routes<'a>(
     out: &mut [u8],
     used: usize,
-    routes: &[[usize; Node::MOST]; Fleet::VANS],
-    figures: [Figures; Fleet::VANS],
+    routes: &'a [[usize; Node::MOST]; Fleet::VANS],
+    figures: &'a [[u64; Figures::COUNT]; Fleet::VANS],
     v: usize,
 ) -> usize
-    requires { ⌜ (v ≤ mostVans) × (used + 1350 * v ≤ length (now out)) × Rows (now routes)
-        × ((j : ℕ) → j < v → getD figures j noFigures .stops ≤ 64) ⌝ }
+    requires { ⌜ (v ≤ mostVans) × (used + 1350 * v ≤ length (now out)) × Rows (now routes) × Figured (now figures)
+        × ((j : ℕ) → j < v → figuresIn (getD (now figures) j []) .stops ≤ 64) ⌝ }
     ensures { λ r. ⌜ (r ≤ used + 1350 * v) × ((sets levels : List (List ℕ)) →
-        Put (now (out .entry)) used (routesOf v (fleetWith (now (routes .entry)) sets levels figures)) r (now (out .exit))) ⌝ }
+        Put (now (out .entry)) used (routesOf v (fleetWith (now (routes .entry)) sets levels (now (figures .entry)))) r (now (out .exit))) ⌝ }
 {
     let mut next = used;
     let mut j = 0;
     while j < v {
-        let f = figures[j];
+        let f = figures_in(&figures[j]);
         next = put_route(out, next, &routes[j], f.stops);
         j += 1;
     }
     next
+}
+
+// The fresh fleet, put into rows that hold nothing but zeros.
+fn fresh_rows(
+    n: usize,
+    v: usize,
+    routes: &mut [[usize; Node::MOST]; Fleet::VANS],
+    sets: &mut [[u64; Node::MOST]; Fleet::VANS],
+    levels: &mut [[usize; State::LEVELS]; Fleet::VANS],
+    figures: &mut [[u64; Figures::COUNT]; Fleet::VANS],
+)
+    requires { ⌜ (v ≤ mostVans) × (2 ≤ n) × (n ≤ 64) × Blank (now routes) × Blank (now sets) × Blank (now levels)
+        × (now figures ≡ replicate mostVans (replicate 5 0)) ⌝ }
+    ensures { λ _. ⌜ fleetWith (now (routes .exit)) (now (sets .exit)) (now (levels .exit)) (now (figures .exit)) ≡ freshFleet n v ⌝ }
+    ensures { λ _. ⌜ Rows (now (routes .exit)) × Rows (now (sets .exit)) × Rows (now (levels .exit)) × Figured (now (figures .exit)) ⌝ }
+{
+    let one = State::fresh(n);
+    let mut j = 0;
+    while j < v {
+        unpack(
+            one,
+            &mut routes[j],
+            &mut sets[j],
+            &mut levels[j],
+            &mut figures[j],
+        );
+        j += 1;
+    }
 }
 
 // The lines of the steps from the fresh fleet on, then the routes.
@@ -176,20 +182,29 @@ fn put_all(sheet: &[u8], at: Layout, trail: &mut [u64], out: &mut [u8]) -> usize
     let mut routes = [[0usize; Node::MOST]; Fleet::VANS];
     let mut sets = [[0u64; Node::MOST]; Fleet::VANS];
     let mut levels = [[0usize; State::LEVELS]; Fleet::VANS];
-    let fresh = Fleet::fresh(at.nodes, at.vans);
-    let figures = unpack(fresh, at.vans, &mut routes, &mut sets, &mut levels);
-    let p = put_lines(
-        sheet,
-        at,
+    let mut figures = [[0u64; Figures::COUNT]; Fleet::VANS];
+    fresh_rows(
+        at.nodes,
+        at.vans,
         &mut routes,
         &mut sets,
         &mut levels,
-        figures,
+        &mut figures,
+    );
+    let mut jobs = [0usize; Jobs::ROOM];
+    by_node(sheet, at, &mut jobs);
+    let used = put_lines(
+        sheet,
+        at,
+        &jobs,
+        &mut routes,
+        &mut sets,
+        &mut levels,
+        &mut figures,
         trail,
         out,
     );
-    let after = p.after;
-    put_routes(out, p.used, &routes, after, at.vans)
+    put_routes(out, used, &routes, &figures, at.vans)
 }
 
 // The whole listing of a sheet, into a buffer with room for the longest; the answer is its length.

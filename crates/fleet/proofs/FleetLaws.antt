@@ -1,31 +1,29 @@
 -- A fleet by its states, the parts of a lent trail, and a state that is idle.
 use mathlib.Core.Path.{_≡_, refl, sym, ap, _∙_}
-use mathlib.Core.Bool.{true, cond, _&&_}
-use mathlib.Core.List.{List, []}
+use mathlib.Core.Bool.{true, _&&_}
+use mathlib.Core.List.{List}
 use Prim.Native.Nat.{ℕ, _+_, _*_, _/_, _≤_, _<_}
 use native.Mathlib.Nat.{mul-comm, div-mul-le-self}
 use native.Mathlib.Omega.{arith}
 use lib.ListN.{length, getD, replicate, length-replicate, getD-replicate}
 use lib.Seq.{ext-getD}
-use lib.Dec.{eqb, ltb}
+use lib.Dec.{eqb}
 use borrow.Author.Tests.{eqb-true}
 use Rattle.laws.specs.Basic.{allBelow}
-use Rattle.laws.proofs.Logic.{decided, and-true}
+use Rattle.laws.proofs.Logic.{and-true}
 use Rattle.laws.proofs.Below.{below-at, below-make}
 use Rattle.laws.proofs.Table.{length-tab, getD-tab}
 use Rattle.laws.proofs.Parts.{part-before, part-length}
 use Rattle.rules.specs.Numbers.{mostVans}
-use Rattle.board.specs.Board.{stateOf, stateWith}
-use Rattle.board.specs.Fresh.{noState, noFigures}
+use Rattle.board.specs.Board.{stateOf}
+use Rattle.board.specs.Fresh.{noState}
 use Rattle.board.specs.Held.{Held}
 use Rattle.board.specs.declared.State.{State}
-use Rattle.board.specs.declared.Figures.{Figures}
 use Rattle.trail.specs.Trail.{roomOf}
 use Rattle.fleet.specs.Fleet.{fleetOf, stateIn, shareOf, trailIn}
 use Rattle.fleet.specs.Form.{idle}
-use Rattle.fleet.specs.Rows.{rowState, fleetWith}
 use Rattle.fleet.specs.declared.Fleet.{Fleet}
-use Rattle.fleet.proofs.RowLaws.{Turned, getD-any, tab-same}
+use Rattle.fleet.proofs.RowLaws.{getD-any}
 
 -- ---- a fleet by its states
 
@@ -52,31 +50,6 @@ fleet-of f l = fleet-same (fleetOf (stateIn f)) f (fleet-eight (stateIn f)) l (�
 pub state-any : (f : Fleet) (j : ℕ) (d : State) → length (f .vans) ≡ mostVans → j < mostVans → getD (f .vans) j d ≡ stateIn f j
 unfolding stateIn
 state-any f j d e h = getD-any (f .vans) j d noState (omega (arith, e))
-
--- ---- a fleet in rows
-
--- the numbers of a state beside its arrays
-abbrev pub figuresOf : State → Figures
-figuresOf s = record { stops = s .stops; marks = s .marks; must = s .must; depth = s .depth; records = s .records }
-
-with-same : {route sets levels : List ℕ} {g : Figures} (s : State) → route ≡ s .route → sets ≡ s .sets → levels ≡ s .levels → g ≡ figuresOf s → stateWith route sets levels g ≡ s
-with-same s r w l g u = stateWith (r u) (w u) (l u) (g u)
-
--- rows that have the states of the first v vans and zeros from there on
-pub rows-are : {routes sets levels : List (List ℕ)} {figures : List Figures} (f : Fleet) (v : ℕ)
-    → Turned mostVans (λ k. stateIn f k .route) (λ k. replicate 64 0) [] v routes → Turned mostVans (λ k. stateIn f k .sets) (λ k. replicate 64 0) [] v sets
-    → Turned mostVans (λ k. stateIn f k .levels) (λ k. replicate 64 0) [] v levels → Turned mostVans (λ k. figuresOf (stateIn f k)) (λ k. noFigures) noFigures v figures
-    → fleetWith routes sets levels figures ≡ fleetOf (λ j. cond (ltb j v) (stateIn f j) noState)
-unfolding noState noFigures
-rows-are {routes = routes} {sets = sets} {levels = levels} {figures = figures} f v a b c d =
-    ap fleetMade (tab-same mostVans (rowState routes sets levels figures) (λ j. cond (ltb j v) (stateIn f j) noState) (λ k h.
-    let r = a .at k h in
-    let s = b .at k h in
-    let l = c .at k h in
-    let g = d .at k h in
-    decided (ltb k v)
-    (λ e. rw e (with-same (stateIn f k) (rw e at r) (rw e at s) (rw e at l) (rw e at g)))
-    (λ e. rw e (with-same noState (rw e at r) (rw e at s) (rw e at l) (rw e at g)))))
 
 -- ---- the parts of a lent trail
 

@@ -1,10 +1,9 @@
 -- FleetLaws: a fleet by its states, the parts of a lent trail, what is no van. RowLaws: a list rewritten place by place.
--- PackLaws: states put into rows, and taken out of them.
--- TestLaws: the form's tests as the code makes them. FormLaws: the form, fact by fact, and what makes it. WardLaws: what the vans have of the wards.
+-- FigureLaws: a van's other numbers in a row. TestLaws: the form's tests as the code makes them. FormLaws: the form, fact by fact, and what makes it. WardLaws: what the vans have of the wards.
 -- PlanLaws: a fleet as the rules see it. Told: a fleet by value is held.
 pub mod FleetLaws
 pub mod RowLaws
-pub mod PackLaws
+pub mod FigureLaws
 pub mod TestLaws
 pub mod FormLaws
 pub mod WardLaws

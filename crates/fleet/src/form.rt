@@ -1,17 +1,19 @@
 // When a fleet is in form.
 ghost use mathlib.Core.Path.{_≡_};
-ghost use mathlib.Core.Bool.{_&&_, _||_};
+ghost use mathlib.Core.Bool.{cond, _&&_, _||_};
 ghost use mathlib.Core.List.{List};
 ghost use Prim.Native.Nat.{ℕ, _<_, _≤_};
 ghost use lib.ListN.{length};
-ghost use lib.Dec.{leb, ltb};
+ghost use lib.Dec.{leb};
 ghost use Rattle.laws.specs.Basic.{allBelow};
 ghost use Rattle.rules.specs.Numbers.{mostVans};
 ghost use Rattle.board.specs.Board.{stateWith};
 ghost use Rattle.fleet.specs.Fleet.{stateIn};
 ghost use Rattle.fleet.specs.Form.{vanOk, vanFits, idle, sharesNone};
-ghost use Rattle.fleet.specs.Rows.{fleetWith, Rows};
+ghost use Rattle.fleet.specs.Rows.{figuresIn, fleetWith, Rows, Figured};
 use crate::Fleet;
+use crate::rows::figures_in;
+use crate::rows::unpack;
 use crate::wards::gather;
 use board::Figures;
 use board::State;
@@ -31,21 +33,25 @@ fn is_idle(s: State) -> bool
     all == 0
 }
 
-// What is no van is idle.
-pub fn rest_idle(fleet: Fleet, v: usize) -> bool
-    requires { ⌜ v ≤ mostVans ⌝ }
-    ensures { λ r. ⌜ r ≡ allBelow mostVans (λ j. ltb j v || idle (stateIn fleet j)) ⌝ }
+// A state of a fleet taken in: one among the vans into its rows; what is no van has to be idle.
+pub fn take_in(
+    s: State,
+    among: bool,
+    route: &mut [usize; Node::MOST],
+    sets: &mut [u64; Node::MOST],
+    levels: &mut [usize; State::LEVELS],
+    row: &mut [u64; Figures::COUNT],
+) -> bool
+    requires { ⌜ length (now row) ≡ 5 ⌝ }
+    ensures { λ r. ⌜ (r ≡ (among || idle s)) × (length (now (row .exit)) ≡ 5)
+        × (stateWith (now (route .exit)) (now (sets .exit)) (now (levels .exit)) (figuresIn (now (row .exit)))
+        ≡ cond among s (stateWith (now (route .entry)) (now (sets .entry)) (now (levels .entry)) (figuresIn (now (row .entry))))) ⌝ }
 {
-    let vans = fleet.vans;
-    let mut j = v;
-    while j < Fleet::VANS {
-        let s = vans[j];
-        if !is_idle(s) {
-            return false;
-        }
-        j += 1;
+    if among {
+        unpack(s, route, sets, levels, row);
+        return true;
     }
-    true
+    is_idle(s)
 }
 
 // One van, where the first has so many levels and `first` says whether this is it.
@@ -75,19 +81,19 @@ pub fn vans_ok<'a>(
     routes: &'a [[usize; Node::MOST]; Fleet::VANS],
     sets: &'a [[u64; Node::MOST]; Fleet::VANS],
     levels: &'a [[usize; State::LEVELS]; Fleet::VANS],
-    figures: [Figures; Fleet::VANS],
+    figures: &'a [[u64; Figures::COUNT]; Fleet::VANS],
     n: usize,
     v: usize,
 ) -> bool
-    requires { ⌜ (v ≤ mostVans) × (1 ≤ v) × (2 ≤ n) × (n ≤ 64) × Rows (now routes) × Rows (now sets) × (length figures ≡ mostVans) ⌝ }
-    ensures { λ r. ⌜ r ≡ allBelow v (vanOk n (fleetWith (now (routes .entry)) (now (sets .entry)) (now (levels .entry)) figures))
-        && sharesNone n v (fleetWith (now (routes .entry)) (now (sets .entry)) (now (levels .entry)) figures) ⌝ }
+    requires { ⌜ (v ≤ mostVans) × (1 ≤ v) × (2 ≤ n) × (n ≤ 64) × Rows (now routes) × Rows (now sets) × Figured (now figures) ⌝ }
+    ensures { λ r. ⌜ r ≡ allBelow v (vanOk n (fleetWith (now (routes .entry)) (now (sets .entry)) (now (levels .entry)) (now (figures .entry))))
+        && sharesNone n v (fleetWith (now (routes .entry)) (now (sets .entry)) (now (levels .entry)) (now (figures .entry))) ⌝ }
 {
-    let one = figures[0];
+    let one = figures_in(&figures[0]);
     let depth = one.depth;
     let mut j = 0;
     while j < v {
-        let f = figures[j];
+        let f = figures_in(&figures[j]);
         if !van_ok(&routes[j], &sets[j], &levels[j], f, n, depth, j == 0) {
             return false;
         }
@@ -101,13 +107,13 @@ pub fn vans_ok<'a>(
 }
 
 // No van has more records than its part of the trail has room for.
-pub fn within_room(figures: [Figures; Fleet::VANS], v: usize, room: usize) -> bool
-    requires { ⌜ (v ≤ mostVans) × (length figures ≡ mostVans) ⌝ }
-    ensures { λ r. ⌜ ((routes sets levels : List (List ℕ)) → r ≡ allBelow v (λ j. leb (stateIn (fleetWith routes sets levels figures) j .records) room)) ⌝ }
+pub fn within_room(figures: &[[u64; Figures::COUNT]; Fleet::VANS], v: usize, room: usize) -> bool
+    requires { ⌜ (v ≤ mostVans) × Figured (now figures) ⌝ }
+    ensures { λ r. ⌜ ((routes sets levels : List (List ℕ)) → r ≡ allBelow v (λ j. leb (stateIn (fleetWith routes sets levels (now (figures .entry))) j .records) room)) ⌝ }
 {
     let mut j = 0;
     while j < v {
-        let f = figures[j];
+        let f = figures_in(&figures[j]);
         if room < f.records {
             return false;
         }

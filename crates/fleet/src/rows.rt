@@ -1,83 +1,95 @@
-// A fleet in arrays. Only the vans are copied; the rows of what is no van are left alone.
+// A fleet in arrays, a row of each for every van: route, sets, levels, and its other numbers. A State goes in and out by value, van by van; what
+// is no van is not copied.
 ghost use mathlib.Core.Path.{_≡_};
-ghost use mathlib.Core.Bool.{cond};
-ghost use Prim.Native.Nat.{_≤_};
+ghost use Prim.Native.Nat.{ℕ};
 ghost use lib.ListN.{length};
-ghost use lib.Dec.{ltb};
-ghost use Rattle.rules.specs.Numbers.{mostVans};
-ghost use Rattle.board.specs.Fresh.{noState};
-ghost use Rattle.fleet.specs.Fleet.{fleetOf, stateIn, HeldAll};
-ghost use Rattle.fleet.specs.Rows.{rowState, fleetWith, Rows, Blank};
-use crate::Fleet;
+ghost use Rattle.board.specs.Board.{stateWith};
+ghost use Rattle.fleet.specs.Rows.{figuresIn, rowOf};
 use board::Figures;
 use board::State;
 use rules::Node;
 
-// The vans of a fleet put into rows that hold nothing but zeros; the answer has their other numbers.
-pub fn unpack(
-    fleet: Fleet,
-    v: usize,
-    routes: &mut [[usize; Node::MOST]; Fleet::VANS],
-    sets: &mut [[u64; Node::MOST]; Fleet::VANS],
-    levels: &mut [[usize; State::LEVELS]; Fleet::VANS],
-) -> [Figures; Fleet::VANS]
-    requires { ⌜ (v ≤ mostVans) × Blank (now routes) × Blank (now sets) × Blank (now levels) × HeldAll fleet ⌝ }
-    ensures { λ r. ⌜ fleetWith (now (routes .exit)) (now (sets .exit)) (now (levels .exit)) r ≡ fleetOf (λ j. cond (ltb j v) (stateIn fleet j) noState) ⌝ }
-    ensures { λ r. ⌜ Rows (now (routes .exit)) × Rows (now (sets .exit)) × Rows (now (levels .exit)) × (length r ≡ mostVans) ⌝ }
+fn narrow(w: u64) -> usize
+    ensures { λ r. ⌜ r ≡ w ⌝ }
 {
-    let mut figures = [Figures::none(); Fleet::VANS];
-    let vans = fleet.vans;
-    let mut j = 0;
-    while j < v {
-        let s = vans[j];
-        let route = s.route;
-        let places = s.sets;
-        let heights = s.levels;
-        routes[j] = route;
-        sets[j] = places;
-        levels[j] = heights;
-        figures[j] = Figures {
-            stops: s.stops,
-            marks: s.marks,
-            must: s.must,
-            depth: s.depth,
-            records: s.records,
-        };
-        j += 1;
-    }
-    figures
+    w as usize
 }
 
-// The fleet with its vans as the rows have them.
-pub fn pack(
-    fleet: Fleet,
-    v: usize,
-    routes: &[[usize; Node::MOST]; Fleet::VANS],
-    sets: &[[u64; Node::MOST]; Fleet::VANS],
-    levels: &[[usize; State::LEVELS]; Fleet::VANS],
-    figures: [Figures; Fleet::VANS],
-) -> Fleet
-    requires { ⌜ v ≤ mostVans ⌝ }
-    ensures { λ r. ⌜ r ≡ fleetOf (λ j. cond (ltb j v) (rowState (now (routes .entry)) (now (sets .entry)) (now (levels .entry)) figures j) (stateIn fleet j)) ⌝ }
+// The numbers that a row has.
+pub fn figures_in(row: &[u64; Figures::COUNT]) -> Figures
+    requires { ⌜ length (now row) ≡ 5 ⌝ }
+    ensures { λ r. ⌜ r ≡ figuresIn (now (row .entry)) ⌝ }
 {
-    let mut vans = fleet.vans;
-    let mut j = 0;
-    while j < v {
-        let f = figures[j];
-        let route = routes[j];
-        let places = sets[j];
-        let heights = levels[j];
-        vans[j] = State {
-            route: route,
-            stops: f.stops,
-            sets: places,
-            marks: f.marks,
-            must: f.must,
-            levels: heights,
-            depth: f.depth,
-            records: f.records,
-        };
-        j += 1;
+    Figures {
+        stops: narrow(row[0]),
+        marks: row[1],
+        must: row[2],
+        depth: narrow(row[3]),
+        records: narrow(row[4]),
     }
-    Fleet { vans: vans }
+}
+
+// A row for these numbers.
+pub fn put_figures(row: &mut [u64; Figures::COUNT], f: Figures)
+    requires { ⌜ length (now row) ≡ 5 ⌝ }
+    ensures { λ _. ⌜ now (row .exit) ≡ rowOf f ⌝ }
+{
+    row[0] = f.stops as u64;
+    row[1] = f.marks;
+    row[2] = f.must;
+    row[3] = f.depth as u64;
+    row[4] = f.records as u64;
+}
+
+// A state put into its rows.
+pub fn unpack(
+    s: State,
+    route: &mut [usize; Node::MOST],
+    sets: &mut [u64; Node::MOST],
+    levels: &mut [usize; State::LEVELS],
+    row: &mut [u64; Figures::COUNT],
+)
+    requires { ⌜ length (now row) ≡ 5 ⌝ }
+    ensures { λ _. ⌜ (stateWith (now (route .exit)) (now (sets .exit)) (now (levels .exit)) (figuresIn (now (row .exit))) ≡ s) × (length (now (row .exit)) ≡ 5) ⌝ }
+{
+    let stops = s.route;
+    let places = s.sets;
+    let heights = s.levels;
+    *route = stops;
+    *sets = places;
+    *levels = heights;
+    let f = Figures {
+        stops: s.stops,
+        marks: s.marks,
+        must: s.must,
+        depth: s.depth,
+        records: s.records,
+    };
+    put_figures(row, f);
+}
+
+// The state that its rows have.
+pub fn pack<'a>(
+    route: &'a [usize; Node::MOST],
+    sets: &'a [u64; Node::MOST],
+    levels: &'a [usize; State::LEVELS],
+    row: &'a [u64; Figures::COUNT],
+) -> State
+    requires { ⌜ length (now row) ≡ 5 ⌝ }
+    ensures { λ r. ⌜ r ≡ stateWith (now (route .entry)) (now (sets .entry)) (now (levels .entry)) (figuresIn (now (row .entry))) ⌝ }
+{
+    let f = figures_in(row);
+    let stops = *route;
+    let places = *sets;
+    let heights = *levels;
+    State {
+        route: stops,
+        stops: f.stops,
+        sets: places,
+        marks: f.marks,
+        must: f.must,
+        levels: heights,
+        depth: f.depth,
+        records: f.records,
+    }
 }

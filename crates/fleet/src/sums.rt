@@ -8,11 +8,13 @@ ghost use Rattle.rules.specs.Fleet.{aliveAll};
 ghost use Rattle.sheet.specs.Section.{vansOf};
 ghost use Rattle.day.specs.Tell.{vanOf, dayOf};
 ghost use Rattle.board.specs.Held.{Ends, Sound};
-ghost use Rattle.board.specs.declared.Figures.{Figures};
 ghost use Rattle.fleet.specs.Sums.{plansIn, placesAll, allServed};
-ghost use Rattle.fleet.specs.Rows.{rowBoard, fleetWith, ReadyAll};
+ghost use Rattle.fleet.specs.Rows.{rowBoard, fleetWith, Figured, ReadyAll};
 use crate::Fleet;
+use crate::rows::figures_in;
 use crate::wards::gather;
+use along::nodes::Jobs;
+use along::nodes::by_node;
 use board::Figures;
 use board::places::count;
 use rules::Node;
@@ -22,7 +24,7 @@ use sheet::Layout;
 pub fn places(sets: &[[u64; Node::MOST]; Fleet::VANS], n: usize, v: usize) -> usize
     requires { ⌜ (v ≤ mostVans) × (n ≤ 64) × ((j : ℕ) → j < v → Ends n (getD (now sets) j [])) ⌝ }
     ensures { λ r. ⌜ r ≤ 4096 * v ⌝ }
-    ensures { λ r. ⌜ ((routes levels : List (List ℕ)) (figures : List Figures) → r ≡ placesAll v (fleetWith routes (now (sets .entry)) levels figures)) ⌝ }
+    ensures { λ r. ⌜ ((routes levels figures : List (List ℕ)) → r ≡ placesAll v (fleetWith routes (now (sets .entry)) levels figures)) ⌝ }
 {
     let mut k = 0;
     let mut j = 0;
@@ -38,14 +40,14 @@ pub fn places(sets: &[[u64; Node::MOST]; Fleet::VANS], n: usize, v: usize) -> us
 pub fn served<'a>(
     routes: &'a [[usize; Node::MOST]; Fleet::VANS],
     sets: &'a [[u64; Node::MOST]; Fleet::VANS],
-    figures: [Figures; Fleet::VANS],
+    figures: &'a [[u64; Figures::COUNT]; Fleet::VANS],
     n: usize,
     v: usize,
 ) -> bool
-    requires { ⌜ (1 ≤ v) × (v ≤ mostVans) × (2 ≤ n) × ((j : ℕ) → j < v → Sound n (rowBoard (now routes) (now sets) figures j)) ⌝ }
-    ensures { λ r. ⌜ ((levels : List (List ℕ)) → r ≡ allServed v (fleetWith (now (routes .entry)) (now (sets .entry)) levels figures)) ⌝ }
+    requires { ⌜ (1 ≤ v) × (v ≤ mostVans) × (2 ≤ n) × Figured (now figures) × ((j : ℕ) → j < v → Sound n (rowBoard (now routes) (now sets) (now figures) j)) ⌝ }
+    ensures { λ r. ⌜ ((levels : List (List ℕ)) → r ≡ allServed v (fleetWith (now (routes .entry)) (now (sets .entry)) levels (now (figures .entry)))) ⌝ }
 {
-    let one = figures[0];
+    let one = figures_in(&figures[0]);
     if one.must == 0 {
         return true;
     }
@@ -59,18 +61,20 @@ pub fn alive<'a>(
     at: Layout,
     routes: &'a [[usize; Node::MOST]; Fleet::VANS],
     sets: &'a [[u64; Node::MOST]; Fleet::VANS],
-    figures: [Figures; Fleet::VANS],
+    figures: &'a [[u64; Figures::COUNT]; Fleet::VANS],
 ) -> bool
-    requires { ⌜ ReadyAll (now sheet) at (now routes) (now sets) figures ⌝ }
+    requires { ⌜ ReadyAll (now sheet) at (now routes) (now sets) (now figures) ⌝ }
     ensures { λ r. ⌜ ((levels : List (List ℕ)) → r ≡ aliveAll (vanOf (now (sheet .entry))) (dayOf (now (sheet .entry)))
-        (plansIn (vansOf (now (sheet .entry))) (fleetWith (now (routes .entry)) (now (sets .entry)) levels figures))) ⌝ }
+        (plansIn (vansOf (now (sheet .entry))) (fleetWith (now (routes .entry)) (now (sets .entry)) levels (now (figures .entry))))) ⌝ }
 {
     let v = at.vans;
+    let mut jobs = [0usize; Jobs::ROOM];
+    by_node(sheet, at, &mut jobs);
     let mut j = 0;
     while j < v {
-        let f = figures[j];
+        let f = figures_in(&figures[j]);
         let van = day::look::van(sheet, at, j);
-        if !van::alive(sheet, at, van, &routes[j], &sets[j], f) {
+        if !van::alive(sheet, at, &jobs, van, &routes[j], &sets[j], f) {
             return false;
         }
         j += 1;

@@ -7,11 +7,11 @@ ghost use lib.ListN.{getD};
 ghost use lib.Dec.{eqb, ltb};
 ghost use Rattle.rules.specs.Numbers.{mostVans};
 ghost use Rattle.bits.specs.Places.{has, minus, within};
-ghost use Rattle.board.specs.Fresh.{noFigures};
 ghost use Rattle.board.specs.Board.{board};
-ghost use Rattle.fleet.specs.Rows.{fleetWith};
+ghost use Rattle.fleet.specs.Rows.{figuresIn, fleetWith, Figured};
 ghost use Rattle.fleet.specs.Wards.{Nodes, HasWards, AddsVan};
 use crate::Fleet;
+use crate::rows::figures_in;
 use board::Figures;
 use board::route::word;
 use rules::Node;
@@ -70,12 +70,13 @@ fn with_van<'a>(
 pub fn gather<'a>(
     routes: &'a [[usize; Node::MOST]; Fleet::VANS],
     sets: &'a [[u64; Node::MOST]; Fleet::VANS],
-    figures: [Figures; Fleet::VANS],
+    figures: &'a [[u64; Figures::COUNT]; Fleet::VANS],
     n: usize,
     v: usize,
 ) -> Wards
-    requires { ⌜ (v ≤ mostVans) × (2 ≤ n) × ((j : ℕ) → j < v → Nodes n (getD figures j noFigures .stops) (getD (now routes) j [])) ⌝ }
-    ensures { λ r. ⌜ ((levels : List (List ℕ)) → HasWards n v (fleetWith (now (routes .entry)) (now (sets .entry)) levels figures) r) ⌝ }
+    requires { ⌜ (v ≤ mostVans) × (2 ≤ n) × Figured (now figures) ⌝ }
+    requires { ⌜ ((j : ℕ) → j < v → Nodes n (figuresIn (getD (now figures) j []) .stops) (getD (now routes) j [])) ⌝ }
+    ensures { λ r. ⌜ ((levels : List (List ℕ)) → HasWards n v (fleetWith (now (routes .entry)) (now (sets .entry)) levels (now (figures .entry))) r) ⌝ }
 {
     let mut all = Wards {
         placed: 0,
@@ -84,7 +85,7 @@ pub fn gather<'a>(
     };
     let mut j = 0;
     while j < v {
-        let f = figures[j];
+        let f = figures_in(&figures[j]);
         all = with_van(all, &routes[j], &sets[j], f.stops, n);
         j += 1;
     }

@@ -24,7 +24,7 @@ use Rattle.fleet.specs.Form.{vanOk, idle, sharesNone, inFormAll}
 use Rattle.fleet.specs.declared.Fleet.{Fleet}
 use Rattle.fleet.proofs.FleetLaws.{state-of, fleet-eight, fleet-same, idle-none}
 use Rattle.planner.specs.Face.{askRefusal}
-use Rattle.planner.specs.Sized.{Sized}
+use Rattle.planner.specs.Asked.{Sized}
 
 -- what an accepted sheet has
 pub sized : {sheet : List ℕ} {at : Layout} → Laid sheet at → Sized at
@@ -62,6 +62,13 @@ slots n v f h = T-ext _ _ (λ t. true→T _ (both (and-true (allBelow mostVans (
         rw (below-make mostVans rest (λ j l. decided (ltb j v) (λ q. rw q refl) (λ q. rw q (rw q at (at j l)))))
         (below-make v (vanOk n f) (λ j l. rw (lt-ltb j v l) at (at j (omega (arith, l, h)))))
 
+-- in form, what is no van is idle
+form-idle : (n v : ℕ) (f : Fleet) → v ≤ mostVans → inFormAll n v f ≡ true → allBelow mostVans (λ j. ltb j v || idle (stateIn f j)) ≡ true
+unfolding inFormAll
+form-idle n v f h e =
+    and-true (allBelow mostVans (λ j. ltb j v || idle (stateIn f j))) _
+    (slots n v f h ∙ and-true (allBelow mostVans (λ j. cond (ltb j v) (vanOk n f j) (idle (stateIn f j)))) _ e .0) .0
+
 module _ {sheet : List ℕ} {r : Found} (e : r ≡ found callRefusal sheet) (z : r .answer ≡ 0) (l : Laid sheet (r .layout)) (f g : Fleet) (held : HeldAll f)
     (rows : g ≡ fleetOf (λ j. cond (ltb j (r .layout .vans)) (stateIn f j) noState)) where
   -- where what is no van is idle, the rows have the whole fleet
@@ -74,6 +81,11 @@ module _ {sheet : List ℕ} {r : Found} (e : r ≡ found callRefusal sheet) (z :
       same : (j : ℕ) → j < mostVans → there j ≡ stateIn f j
       same j h = decided (ltb j (r .layout .vans)) (λ b. rw b refl)
           (λ b. rw b (sym (idle-none (stateIn f j) (held .each j h) (rw b at (below-at mostVans j (λ j. ltb j (r .layout .vans) || idle (stateIn f j)) q h)))))
+
+  -- and so they do where the fleet is in form
+  pub rows-formed : inFormAll (nOf sheet) (vansOf sheet) f ≡ true → g ≡ f
+  rows-formed q =
+      rows-whole (subst (λ (v : ℕ). allBelow mostVans (λ j. ltb j v || idle (stateIn f j)) ≡ true) (sym (l .vans)) (form-idle (nOf sheet) (vansOf sheet) f (l .fine .vans-high) q))
 
   -- the form, as it is found
   pub form-found : {a b : Bool} → a ≡ allBelow mostVans (λ j. ltb j (r .layout .vans) || idle (stateIn f j))

@@ -13,17 +13,16 @@ use Rattle.day.specs.Refuse.{callRefusal}
 use Rattle.board.specs.Board.{boardOf}
 use Rattle.board.specs.Held.{Held, Sound, Words, Ends}
 use Rattle.board.specs.declared.State.{State}
-use Rattle.board.specs.declared.Figures.{Figures}
 use Rattle.board.proofs.FormLaws.{in-form}
 use Rattle.board.proofs.EndLaws.{sets-end}
 use Rattle.fleet.specs.Fleet.{stateIn, HeldAll}
 use Rattle.fleet.specs.Form.{inFormAll}
-use Rattle.fleet.specs.Rows.{rowState, rowBoard, fleetWith, ReadyAll}
+use Rattle.fleet.specs.Rows.{rowState, rowBoard, fleetWith, ReadyAll, Figured}
 use Rattle.fleet.specs.declared.Fleet.{Fleet}
 use Rattle.fleet.proofs.FleetLaws.{state-of}
 use Rattle.fleet.proofs.FormLaws.{in-form-all}
 
-module _ {sheet : List ℕ} {at : Layout} (z : callRefusal sheet ≡ 0) (l : Laid sheet at) (routes sets levels : List (List ℕ)) (figures : List Figures)
+module _ {sheet : List ℕ} {at : Layout} (z : callRefusal sheet ≡ 0) (l : Laid sheet at) (routes sets levels figures : List (List ℕ)) (five : Figured figures)
     (held : HeldAll (fleetWith routes sets levels figures)) (form : inFormAll (nOf sheet) (vansOf sheet) (fleetWith routes sets levels figures) ≡ true) where
   low : (j : ℕ) → j < vansOf sheet → j < mostVans
   low j h = omega (arith, h, l .fine .vans-high)
@@ -41,16 +40,16 @@ module _ {sheet : List ℕ} {at : Layout} (z : callRefusal sheet ≡ 0) (l : Lai
       record { small = l .fine .n-high; wide = w; form = in-form (nOf sheet) _ (l .fine .n-high) w (in-form-all (nOf sheet) (vansOf sheet) _ (l .fine .n-high) (l .fine .vans-high) form .each j h) .board })
 
   pub rows-ready : ReadyAll sheet at routes sets figures
-  rows-ready = record { clear = z; laid = l; each = row-sound; words = λ j h. row-held j h .words }
+  rows-ready = record { clear = z; laid = l; figured = five; each = row-sound; words = λ j h. row-held j h .words }
 
   pub row-ends : (j : ℕ) → j < vansOf sheet → Ends (nOf sheet) (getD sets j [])
   row-ends j h = sets-end (nOf sheet) (rowBoard routes sets figures j) (row-sound j h)
 
 -- the same, by the fleet that the rows have
 module _ {sheet : List ℕ} {at : Layout} {f : Fleet} (z : callRefusal sheet ≡ 0) (l : Laid sheet at) (held : HeldAll f) (form : inFormAll (nOf sheet) (vansOf sheet) f ≡ true)
-    (routes sets levels : List (List ℕ)) (figures : List Figures) (e : fleetWith routes sets levels figures ≡ f) where
+    (routes sets levels figures : List (List ℕ)) (five : Figured figures) (e : fleetWith routes sets levels figures ≡ f) where
   pub fleet-ready : ReadyAll sheet at routes sets figures
-  fleet-ready = rows-ready z l routes sets levels figures (subst HeldAll (sym e) held) (ap (inFormAll (nOf sheet) (vansOf sheet)) e ∙ form)
+  fleet-ready = rows-ready z l routes sets levels figures five (subst HeldAll (sym e) held) (ap (inFormAll (nOf sheet) (vansOf sheet)) e ∙ form)
 
   pub fleet-ends : (j : ℕ) → j < vansOf sheet → Ends (nOf sheet) (getD sets j [])
-  fleet-ends = row-ends z l routes sets levels figures (subst HeldAll (sym e) held) (ap (inFormAll (nOf sheet) (vansOf sheet)) e ∙ form)
+  fleet-ends = row-ends z l routes sets levels figures five (subst HeldAll (sym e) held) (ap (inFormAll (nOf sheet) (vansOf sheet)) e ∙ form)

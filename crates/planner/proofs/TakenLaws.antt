@@ -16,12 +16,11 @@ use Rattle.sheet.specs.Place.{Laid}
 use Rattle.sheet.specs.declared.Layout.{Layout}
 use Rattle.day.specs.Refuse.{callRefusal}
 use Rattle.day.specs.Tell.{dayOf, vanOf}
-use Rattle.board.specs.declared.Figures.{Figures}
 use Rattle.board.specs.declared.State.{State}
 use Rattle.trail.specs.Trail.{roomOf}
 use Rattle.fleet.specs.Fleet.{fleetOf, stateIn, shareOf, trailIn, HeldAll}
 use Rattle.fleet.specs.Form.{inFormAll, formWithAll}
-use Rattle.fleet.specs.Rows.{rowState, fleetWith, Rows}
+use Rattle.fleet.specs.Rows.{rowState, fleetWith, Rows, Figured}
 use Rattle.fleet.specs.declared.Fleet.{Fleet}
 use Rattle.fleet.proofs.FleetLaws.{state-of, fleet-eight, fleet-same, room-part}
 use Rattle.turns.specs.Together.{RanAll, actedAll, ranAll}
@@ -73,8 +72,8 @@ rooms v f t e = below-same v _ _ (λ j l. ap (λ (r : ℕ). leb (stateIn f j .re
 -- ---- a step that was done in rows
 
 module _ (sheet : List ℕ) {at : Layout} (f : Fleet) (t : List ℕ) (z : callRefusal sheet ≡ 0) (l : Laid sheet at) (held : HeldAll f)
-    (form : formWithAll (nOf sheet) (vansOf sheet) f t ≡ true) (word a b : ℕ) (o : Outcomes) (routes sets levels : List (List ℕ)) (u : List ℕ)
-    (did : Did (actAll (vanOf sheet) (dayOf sheet) (vansOf sheet) f t (stepSaid word a b)) o routes sets levels u) where
+    (form : formWithAll (nOf sheet) (vansOf sheet) f t ≡ true) (word a b : ℕ) (o : Outcomes) (routes sets levels figures : List (List ℕ)) (u : List ℕ)
+    (did : Did (actAll (vanOf sheet) (dayOf sheet) (vansOf sheet) f t (stepSaid word a b)) o routes sets levels figures u) where
   acts : stepOf sheet f t word a b ≡ actAll (vanOf sheet) (dayOf sheet) (vansOf sheet) f t (stepSaid word a b)
   acts = call-yes sheet f t word a b (call-made sheet f t z form)
 
@@ -91,24 +90,24 @@ module _ (sheet : List ℕ) {at : Layout} (f : Fleet) (t : List ℕ) (z : callRe
 
   -- taken: the vans as the rows have them, and the rest of the fleet as it was
   pub done-taken : o .answer ≡ 0
-      → stepOf sheet f t word a b ≡ actedAll 0 (o .rounds) (fleetOf (λ j. cond (ltb j (at .vans)) (rowState routes sets levels (o .after) j) (stateIn f j))) u
+      → stepOf sheet f t word a b ≡ actedAll 0 (o .rounds) (fleetOf (λ j. cond (ltb j (at .vans)) (rowState routes sets levels figures j) (stateIn f j))) u
   done-taken y = acts ∙ whole ∙ ap (λ (g : Fleet). actedAll 0 (o .rounds) g u) same
     where
-      whole : actAll (vanOf sheet) (dayOf sheet) (vansOf sheet) f t (stepSaid word a b) ≡ actedAll 0 (o .rounds) (fleetWith routes sets levels (o .after)) u
-      whole = did .whole (λ m. absurd (omega (arith, sym y ∙ m))) ∙ ap (λ (k : ℕ). actedAll k (o .rounds) (fleetWith routes sets levels (o .after)) u) y
+      whole : actAll (vanOf sheet) (dayOf sheet) (vansOf sheet) f t (stepSaid word a b) ≡ actedAll 0 (o .rounds) (fleetWith routes sets levels figures) u
+      whole = did .whole (λ m. absurd (omega (arith, sym y ∙ m))) ∙ ap (λ (k : ℕ). actedAll k (o .rounds) (fleetWith routes sets levels figures) u) y
 
-      stays : (j : ℕ) → vansOf sheet ≤ j → j < mostVans → stateIn (fleetWith routes sets levels (o .after)) j ≡ stateIn f j
+      stays : (j : ℕ) → vansOf sheet ≤ j → j < mostVans → stateIn (fleetWith routes sets levels figures) j ≡ stateIn f j
       stays = act-all-moves (vanOf sheet) (dayOf sheet) (vansOf sheet) f t (stepSaid word a b) (l .fine .vans-low) (l .fine .vans-high) (l .fine .n-high) form whole .1 .beyond
 
-      same : fleetWith routes sets levels (o .after) ≡ fleetOf (λ j. cond (ltb j (at .vans)) (rowState routes sets levels (o .after) j) (stateIn f j))
-      same = fleet-same _ _ (fleet-eight _) (fleet-eight _) (λ j h. row j h ∙ sym (state-of (λ j. cond (ltb j (at .vans)) (rowState routes sets levels (o .after) j) (stateIn f j)) j h))
+      same : fleetWith routes sets levels figures ≡ fleetOf (λ j. cond (ltb j (at .vans)) (rowState routes sets levels figures j) (stateIn f j))
+      same = fleet-same _ _ (fleet-eight _) (fleet-eight _) (λ j h. row j h ∙ sym (state-of (λ j. cond (ltb j (at .vans)) (rowState routes sets levels figures j) (stateIn f j)) j h))
         where
-          row : (j : ℕ) → j < mostVans → stateIn (fleetWith routes sets levels (o .after)) j ≡ cond (ltb j (at .vans)) (rowState routes sets levels (o .after) j) (stateIn f j)
-          row j h = decided (ltb j (at .vans)) (λ q. rw q (state-of (rowState routes sets levels (o .after)) j h)) (λ q. rw q (stays j (omega (arith, ltb-false j (at .vans) q, l .vans)) h))
+          row : (j : ℕ) → j < mostVans → stateIn (fleetWith routes sets levels figures) j ≡ cond (ltb j (at .vans)) (rowState routes sets levels figures j) (stateIn f j)
+          row j h = decided (ltb j (at .vans)) (λ q. rw q (state-of (rowState routes sets levels figures) j h)) (λ q. rw q (stays j (omega (arith, ltb-false j (at .vans) q, l .vans)) h))
 
 -- what acting asks, of rows that have the fleet
-pub rows-known : (sheet : List ℕ) {at : Layout} (f : Fleet) (t : List ℕ) (routes sets levels : List (List ℕ)) (figures : List Figures) → callRefusal sheet ≡ 0 → Laid sheet at → HeldAll f
-    → formWithAll (nOf sheet) (vansOf sheet) f t ≡ true → fleetWith routes sets levels figures ≡ f → Rows routes × Rows sets × Rows levels × (length figures ≡ mostVans)
+pub rows-known : (sheet : List ℕ) {at : Layout} (f : Fleet) (t : List ℕ) (routes sets levels figures : List (List ℕ)) → callRefusal sheet ≡ 0 → Laid sheet at → HeldAll f
+    → formWithAll (nOf sheet) (vansOf sheet) f t ≡ true → fleetWith routes sets levels figures ≡ f → Rows routes × Rows sets × Rows levels × Figured figures
     → KnownRows sheet at routes sets levels figures t
 rows-known sheet f t routes sets levels figures z l held form e r = record {
   clear = z;
@@ -116,7 +115,7 @@ rows-known sheet f t routes sets levels figures z l held form e r = record {
   form = ap (λ (f : Fleet). formWithAll (nOf sheet) (vansOf sheet) f t) e ∙ form;
   held = subst HeldAll (sym e) held;
   rows = (r .0, r .1, r .2);
-  eight = r .3;
+  figured = r .3;
 }
 
 -- ---- the room, as it is found

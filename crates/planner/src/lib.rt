@@ -1,26 +1,21 @@
 // The planner's five entry points. Each is total: any bytes, any fleet, any trail, any numbers.
 ghost use mathlib.Core.Path.{_≡_};
-ghost use mathlib.Core.Bool.{cond};
 ghost use mathlib.Core.List.{List};
 ghost use Prim.Native.Nat.{ℕ, _≤_};
 ghost use Rattle.rules.specs.Numbers.{mostVans};
 ghost use Rattle.sheet.specs.Place.{found};
 ghost use Rattle.day.specs.Refuse.{callRefusal};
-ghost use lib.ListN.{length};
-ghost use lib.Dec.{eqb, ltb};
-ghost use Rattle.fleet.specs.Fleet.{fleetOf, stateIn, HeldAll};
-ghost use Rattle.turns.specs.Together.{actedAll};
-ghost use Rattle.fleet.specs.Rows.{rowState, fleetWith, Rows, Blank};
-ghost use Rattle.planner.specs.Sized.{Sized};
-ghost use Rattle.planner.specs.Face.{askRefusal, Opens, Sections, Stepping, Counts, Judges};
+ghost use Rattle.fleet.specs.Rows.{Rows, Figured};
+ghost use Rattle.fleet.specs.declared.Fleet.{Fleet};
+ghost use Rattle.planner.specs.Asked.{Sized, TakenIn, putBack};
+ghost use Rattle.planner.specs.Face.{askRefusal, stepOf, Opens, Sections, Stepping, Counts, Judges};
 use board::Figures;
 use board::State;
 use fleet::Fleet;
-use fleet::form::rest_idle;
+use fleet::form::take_in;
 use fleet::form::vans_ok;
 use fleet::form::within_room;
 use fleet::rows::pack;
-use fleet::rows::unpack;
 use rules::Node;
 use rules::Refusal;
 use rules::Step;
@@ -71,81 +66,72 @@ pub fn section(sheet: &[u8], number: usize) -> &[u8]
     day::section(sheet, number)
 }
 
-// Why a call on a fleet is refused, or 0, and then its vans are in the rows; and their other numbers.
-pub struct Asked {
-    pub answer: usize,
-    pub figures: [Figures; Fleet::VANS],
-}
-
-// Asks a call, the trail's room apart: `read` is what checking the sheet found.
-fn ask(
+// Why a call on a fleet is refused, or 0, the trail's room apart: `read` is what checking the sheet found, `idle` whether what is no van is idle.
+fn asked<'a>(
     read: Found,
-    fleet: Fleet,
-    routes: &mut [[usize; Node::MOST]; Fleet::VANS],
-    sets: &mut [[u64; Node::MOST]; Fleet::VANS],
-    levels: &mut [[usize; State::LEVELS]; Fleet::VANS],
-) -> Asked
-    requires { ⌜ Blank (now routes) × Blank (now sets) × Blank (now levels) × HeldAll fleet × (read .answer ≡ 0 → Sized (read .layout)) ⌝ }
-    ensures { λ r. ⌜ ((sheet : List ℕ) → read ≡ found callRefusal sheet → (r .answer ≡ askRefusal sheet fleet)
-        × (r .answer ≡ 0 → (fleetWith (now (routes .exit)) (now (sets .exit)) (now (levels .exit)) (r .figures) ≡ fleet)
-        × Rows (now (routes .exit)) × Rows (now (sets .exit)) × Rows (now (levels .exit)) × (length (r .figures) ≡ mostVans))) ⌝ }
-{
-    let none = [Figures::none(); Fleet::VANS];
-    if read.answer != 0 {
-        return Asked {
-            answer: read.answer,
-            figures: none,
-        };
-    }
-    let at = read.layout;
-    let idle = rest_idle(fleet, at.vans);
-    let figures = unpack(fleet, at.vans, routes, sets, levels);
-    let form = idle & vans_ok(routes, sets, levels, figures, at.nodes, at.vans);
-    let answer = if form { 0 } else { Refusal::FORM };
-    Asked {
-        answer: answer,
-        figures: figures,
-    }
-}
-
-// Refused: the fleet as it was handed in.
-fn refused(answer: usize, fleet: Fleet) -> Turned
-    ensures { λ r. ⌜ ((t : List ℕ) → (r, t) ≡ actedAll answer 0 fleet t) ⌝ }
-{
-    Turned {
-        answer: answer,
-        rounds: 0,
-        fleet: fleet,
-    }
-}
-
-// What a step gives by what was done in the rows: refused, the fleet as it was handed in; taken, its vans as the rows have them.
-fn outcome<'a>(
-    fleet: Fleet,
-    v: usize,
+    idle: bool,
     routes: &'a [[usize; Node::MOST]; Fleet::VANS],
     sets: &'a [[u64; Node::MOST]; Fleet::VANS],
     levels: &'a [[usize; State::LEVELS]; Fleet::VANS],
-    o: Outcomes,
-) -> Turned
-    requires { ⌜ v ≤ mostVans ⌝ }
-    ensures { λ r. ⌜ ((t : List ℕ) → (r, t) ≡ cond (eqb (o .answer) 0) (actedAll 0 (o .rounds)
-        (fleetOf (λ j. cond (ltb j v) (rowState (now (routes .entry)) (now (sets .entry)) (now (levels .entry)) (o .after) j) (stateIn fleet j))) t)
-        (actedAll (o .answer) 0 fleet t)) ⌝ }
+    figures: &'a [[u64; Figures::COUNT]; Fleet::VANS],
+) -> usize
+    requires { ⌜ (read .answer ≡ 0 → Sized (read .layout)) × Rows (now routes) × Rows (now sets) × Figured (now figures) ⌝ }
+    ensures { λ r. ⌜ ((sheet : List ℕ) (fleet : Fleet) → read ≡ found callRefusal sheet
+        → TakenIn fleet (read .layout .vans) (now (routes .entry)) (now (sets .entry)) (now (levels .entry)) (now (figures .entry)) idle
+        → r ≡ askRefusal sheet fleet) ⌝ }
 {
-    if o.answer != 0 {
-        return refused(o.answer, fleet);
+    if read.answer != 0 {
+        return read.answer;
     }
-    let after = o.after;
-    let packed = pack(fleet, v, routes, sets, levels, after);
-    Turned {
-        answer: 0,
-        rounds: o.rounds,
-        fleet: packed,
+    let at = read.layout;
+    let form = idle & vans_ok(routes, sets, levels, figures, at.nodes, at.vans);
+    if form { 0 } else { Refusal::FORM }
+}
+
+// A step in rows: refused as a call is, or for its records, or else what it gives.
+fn turn(
+    sheet: &[u8],
+    read: Found,
+    idle: bool,
+    routes: &mut [[usize; Node::MOST]; Fleet::VANS],
+    sets: &mut [[u64; Node::MOST]; Fleet::VANS],
+    levels: &mut [[usize; State::LEVELS]; Fleet::VANS],
+    figures: &mut [[u64; Figures::COUNT]; Fleet::VANS],
+    trail: &mut [u64],
+    word: usize,
+    first: usize,
+    second: usize,
+) -> Outcomes
+    requires { ⌜ (read ≡ found callRefusal (now sheet)) × ((fleet : Fleet)
+        × TakenIn fleet (read .layout .vans) (now routes) (now sets) (now levels) (now figures) idle) ⌝ }
+    ensures { λ r. ⌜ Figured (now (figures .exit)) × (r .answer ≡ 0 → read .layout .vans ≤ mostVans) × ((fleet : Fleet)
+        → TakenIn fleet (read .layout .vans) (now (routes .entry)) (now (sets .entry)) (now (levels .entry)) (now (figures .entry)) idle
+        → stepOf (now (sheet .entry)) fleet (now (trail .entry)) word first second
+        ≡ putBack fleet (read .layout .vans) r (now (routes .exit)) (now (sets .exit)) (now (levels .exit)) (now (figures .exit)) (now (trail .exit))) ⌝ }
+{
+    let code = asked(read, idle, routes, sets, levels, figures);
+    if code != 0 {
+        return refused(code);
+    }
+    let at = read.layout;
+    let room = trail.len() / at.vans / 2;
+    if !within_room(figures, at.vans, room) {
+        return refused(Refusal::FORM);
+    }
+    let said = Step::said(word, first, second);
+    act(sheet, at, routes, sets, levels, figures, trail, said)
+}
+
+fn refused(answer: usize) -> Outcomes
+    ensures { λ r. ⌜ r ≡ record { answer = answer; rounds = 0 } ⌝ }
+{
+    Outcomes {
+        answer: answer,
+        rounds: 0,
     }
 }
 
-// One step: the outcome, and the trail.
+// One step: the outcome, and the trail. The vans are taken into rows, changed there, and put back.
 pub fn step(
     sheet: &[u8],
     fleet: Fleet,
@@ -159,29 +145,52 @@ pub fn step(
     let mut routes = [[0usize; Node::MOST]; Fleet::VANS];
     let mut sets = [[0u64; Node::MOST]; Fleet::VANS];
     let mut levels = [[0usize; State::LEVELS]; Fleet::VANS];
+    let mut figures = [[0u64; Figures::COUNT]; Fleet::VANS];
     let read = day::checked(sheet);
-    let a = ask(read, fleet, &mut routes, &mut sets, &mut levels);
-    if a.answer != 0 {
-        return refused(a.answer, fleet);
+    let v = read.layout.vans;
+    let mut vans = fleet.vans;
+    let mut idle = true;
+    let mut j = 0;
+    while j < Fleet::VANS {
+        let s = vans[j];
+        idle = idle
+            & take_in(
+                s,
+                j < v,
+                &mut routes[j],
+                &mut sets[j],
+                &mut levels[j],
+                &mut figures[j],
+            );
+        j += 1;
     }
-    let at = read.layout;
-    let v = at.vans;
-    let figures = a.figures;
-    if !within_room(figures, v, trail.len() / v / 2) {
-        return refused(Refusal::FORM, fleet);
-    }
-    let said = Step::said(word, first, second);
-    let o = act(
+    let o = turn(
         sheet,
-        at,
+        read,
+        idle,
         &mut routes,
         &mut sets,
         &mut levels,
-        figures,
+        &mut figures,
         trail,
-        said,
+        word,
+        first,
+        second,
     );
-    outcome(fleet, v, &routes, &sets, &levels, o)
+    let mut rounds = 0;
+    if o.answer == 0 {
+        rounds = o.rounds;
+        j = 0;
+        while j < v {
+            vans[j] = pack(&routes[j], &sets[j], &levels[j], &figures[j]);
+            j += 1;
+        }
+    }
+    Turned {
+        answer: o.answer,
+        rounds: rounds,
+        fleet: Fleet { vans: vans },
+    }
 }
 
 // The open places of a fleet in all.
@@ -191,15 +200,33 @@ pub fn open_places(sheet: &[u8], fleet: Fleet) -> Counted
     let mut routes = [[0usize; Node::MOST]; Fleet::VANS];
     let mut sets = [[0u64; Node::MOST]; Fleet::VANS];
     let mut levels = [[0usize; State::LEVELS]; Fleet::VANS];
+    let mut figures = [[0u64; Figures::COUNT]; Fleet::VANS];
     let read = day::checked(sheet);
-    let a = ask(read, fleet, &mut routes, &mut sets, &mut levels);
-    if a.answer != 0 {
+    let at = read.layout;
+    let v = at.vans;
+    let vans = fleet.vans;
+    let mut idle = true;
+    let mut j = 0;
+    while j < Fleet::VANS {
+        let s = vans[j];
+        idle = idle
+            & take_in(
+                s,
+                j < v,
+                &mut routes[j],
+                &mut sets[j],
+                &mut levels[j],
+                &mut figures[j],
+            );
+        j += 1;
+    }
+    let answer = asked(read, idle, &routes, &sets, &levels, &figures);
+    if answer != 0 {
         return Counted {
-            answer: a.answer,
+            answer: answer,
             places: 0,
         };
     }
-    let at = read.layout;
     Counted {
         answer: 0,
         places: fleet::sums::places(&sets, at.nodes, at.vans),
@@ -213,18 +240,35 @@ pub fn verdict(sheet: &[u8], fleet: Fleet) -> Judged
     let mut routes = [[0usize; Node::MOST]; Fleet::VANS];
     let mut sets = [[0u64; Node::MOST]; Fleet::VANS];
     let mut levels = [[0usize; State::LEVELS]; Fleet::VANS];
+    let mut figures = [[0u64; Figures::COUNT]; Fleet::VANS];
     let read = day::checked(sheet);
-    let a = ask(read, fleet, &mut routes, &mut sets, &mut levels);
-    if a.answer != 0 {
+    let at = read.layout;
+    let v = at.vans;
+    let vans = fleet.vans;
+    let mut idle = true;
+    let mut j = 0;
+    while j < Fleet::VANS {
+        let s = vans[j];
+        idle = idle
+            & take_in(
+                s,
+                j < v,
+                &mut routes[j],
+                &mut sets[j],
+                &mut levels[j],
+                &mut figures[j],
+            );
+        j += 1;
+    }
+    let answer = asked(read, idle, &routes, &sets, &levels, &figures);
+    if answer != 0 {
         return Judged {
-            answer: a.answer,
+            answer: answer,
             alive: false,
         };
     }
-    let at = read.layout;
-    let figures = a.figures;
     Judged {
         answer: 0,
-        alive: fleet::sums::alive(sheet, at, &routes, &sets, figures),
+        alive: fleet::sums::alive(sheet, at, &routes, &sets, &figures),
     }
 }

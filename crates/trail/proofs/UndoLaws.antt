@@ -1,21 +1,19 @@
 -- Undoing one record and many: loops, and the form that stays.
-use mathlib.Core.Path.{_≡_, refl, ap, sym, _∙_, subst}
-use mathlib.Core.Bool.{Bool, true, false, cond, not, _&&_, and-false}
+use mathlib.Core.Path.{_≡_, refl}
+use mathlib.Core.Bool.{Bool, true, false, cond, not, _&&_}
 use mathlib.Core.List.{List}
 use Prim.Native.Nat.{ℕ, zero, suc, _-_, _≤_, _<_}
 use native.Mathlib.Omega.{arith}
-use lib.Dec.{eqb, leb, ltb}
-use borrow.Author.Tests.{ne-eqb, not-true, ltb-true, ltb-false, lt-ltb, le-ltb, lt-leb, le-leb}
-use Rattle.laws.proofs.Logic.{decided, and-true}
+use lib.Dec.{eqb}
+use borrow.Author.Tests.{ne-eqb, not-true}
+use Rattle.laws.proofs.Logic.{and-true}
 use Rattle.bits.specs.Places.{has, without, within}
 use Rattle.rules.specs.Day.{isInner}
 use Rattle.rules.proofs.Inner.{is-inner}
-use Rattle.board.specs.Board.{Board, routeOf, onRoute, legsOf, setOf}
+use Rattle.board.specs.Board.{Board, onRoute, legsOf, setOf}
 use Rattle.board.specs.Change.{putSet, unplaced, unmarked, unobliged}
-use Rattle.board.proofs.FormLaws.{on-leg, route-long}
+use Rattle.board.proofs.FormLaws.{on-leg}
 use Rattle.board.specs.Held.{Wide, Sound}
-use Rattle.board.specs.Route.{indexOf}
-use Rattle.board.proofs.RouteLaws.{index-mem}
 use Rattle.board.proofs.Keep.{put-wide, put-formed, unplaced-wide, unplaced-formed, unmarked-formed, unobliged-formed}
 use Rattle.trail.specs.Trail.{firstOf, secondOf, change, recordKind, recordNode}
 use Rattle.trail.specs.Undo.{strictly, stopBefore, fitsShrunk, fitsPlaced, fitsMarked, fitsObliged, Undone, undone, undoShrunk, undoPlaced, undoMarked, undoObliged, undoOne, undoMany, Readable}
@@ -60,38 +58,15 @@ pub shrunk-out : (n : ℕ) (b : Board) (x w : ℕ) → isInner n x ≡ false →
 unfolding fitsShrunk
 shrunk-out n b x w e = rw e
 
-pub placed-out : (n : ℕ) (b : Board) (x w : ℕ) → isInner n x ≡ false → fitsPlaced n b x w ≡ false
-unfolding fitsPlaced
-placed-out n b x w e = rw e
-
 pub shrunk-test : (n : ℕ) (b : Board) (x w : ℕ) → Sound n b → isInner n x ≡ true
     → fitsShrunk n b x w ≡ not (has (legsOf b) x) && (strictly (setOf b x) w && within w (legsOf b))
 unfolding fitsShrunk
 shrunk-test n b x w s e = rw (e, on-leg n b (s .small) (s .wide) (s .form) x e)
 
-on-index : (n : ℕ) (b : Board) (x : ℕ) → Sound n b → ltb (indexOf x (routeOf b)) (b .stops) ≡ onRoute b x
-unfolding onRoute
-on-index n b x s = ap (λ (k : ℕ). ltb (indexOf x (routeOf b)) k) (sym (route-long n b (s .small) (s .wide) (s .form .route))) ∙ index-mem x (routeOf b)
-
-pub placed-on : (n : ℕ) (b : Board) (x : ℕ) → Sound n b → indexOf x (routeOf b) < b .stops → onRoute b x ≡ true
-placed-on n b x s h = sym (on-index n b x s) ∙ lt-ltb (indexOf x (routeOf b)) (b .stops) h
-
-pub placed-off : (n : ℕ) (b : Board) (x w : ℕ) → Sound n b → b .stops ≤ indexOf x (routeOf b) → fitsPlaced n b x w ≡ false
-unfolding fitsPlaced
-placed-off n b x w s h = rw (sym (on-index n b x s) ∙ le-ltb (indexOf x (routeOf b)) (b .stops) h, and-false (isInner n x))
-
 pub placed-test : (n : ℕ) (b : Board) (x w : ℕ) → isInner n x ≡ true → onRoute b x ≡ true
     → fitsPlaced n b x w ≡ within w (without (legsOf b) x) && has w (stopBefore b x)
 unfolding fitsPlaced
 placed-test n b x w e m = rw (e, m)
-
-pub marked-test : (n : ℕ) (b : Board) (x w : ℕ) → Sound n b → fitsMarked b x w ≡ leb (b .stops) (indexOf x (routeOf b)) && (has (b .marks) x && eqb w 0)
-unfolding fitsMarked
-marked-test n b x w s =
-    rw (← on-index n b x s) (ap (λ (t : Bool). t && (has (b .marks) x && eqb w 0)) (turn (indexOf x (routeOf b)) (b .stops)))
-  where
-    turn : (i k : ℕ) → not (ltb i k) ≡ leb k i
-    turn i k = decided (ltb i k) (λ e. rw (e, lt-leb k i (ltb-true i k e))) (λ e. rw (e, le-leb k i (ltb-false i k e)))
 
 -- ---- a record that fits leaves the board in form, whoever wrote it
 
@@ -100,7 +75,7 @@ unfolding undone
 undone-keeps n true b c f s = f refl
 undone-keeps n false b c f s = s
 
-shrunk-sound : (n : ℕ) (b : Board) (x w : ℕ) → Sound n b → fitsShrunk n b x w ≡ true → Sound n (putSet b x w)
+pub shrunk-sound : (n : ℕ) (b : Board) (x w : ℕ) → Sound n b → fitsShrunk n b x w ≡ true → Sound n (putSet b x w)
 unfolding fitsShrunk
 shrunk-sound n b x w s e =
     let p = and-true (isInner n x && not (onRoute b x)) _ e in
@@ -112,7 +87,7 @@ shrunk-sound n b x w s e =
       form = put-formed n b x w (s .wide) (s .form) (omega (arith, is-inner n x (q .0) .1, s .small)) (q .0) (not-true (onRoute b x) (q .1)) (r .1);
     }
 
-placed-sound : (n : ℕ) (b : Board) (x w : ℕ) → Sound n b → fitsPlaced n b x w ≡ true → Sound n (unplaced b x w)
+pub placed-sound : (n : ℕ) (b : Board) (x w : ℕ) → Sound n b → fitsPlaced n b x w ≡ true → Sound n (unplaced b x w)
 unfolding fitsPlaced
 placed-sound n b x w s e =
     let p = and-true (isInner n x && onRoute b x) _ e in
@@ -128,15 +103,19 @@ unmarked-wide : (b : Board) (x : ℕ) → Wide b → Wide (unmarked b x)
 unfolding unmarked
 unmarked-wide b x h = record { route = h .route; sets = h .sets }
 
-marked-sound : (n : ℕ) (b : Board) (x : ℕ) → Sound n b → Sound n (unmarked b x)
+pub marked-sound : (n : ℕ) (b : Board) (x : ℕ) → Sound n b → Sound n (unmarked b x)
 marked-sound n b x s = record { small = s .small; wide = unmarked-wide b x (s .wide); form = unmarked-formed n b x (s .form) }
 
 unobliged-wide : (b : Board) (x : ℕ) → Wide b → Wide (unobliged b x)
 unfolding unobliged
 unobliged-wide b x h = record { route = h .route; sets = h .sets }
 
-obliged-sound : (n : ℕ) (b : Board) (x : ℕ) → Sound n b → Sound n (unobliged b x)
+pub obliged-sound : (n : ℕ) (b : Board) (x : ℕ) → Sound n b → Sound n (unobliged b x)
 obliged-sound n b x s = record { small = s .small; wide = unobliged-wide b x (s .wide); form = unobliged-formed n b x (s .form) }
+
+pub unplaced-marks : (b : Board) (x w : ℕ) → (unplaced b x w .marks ≡ b .marks) × (unplaced b x w .must ≡ b .must)
+unfolding unplaced
+unplaced-marks b x w = (refl, refl)
 
 -- what holds after a record of each kind, and where none fits, holds after any
 pub one-by : (P : Undone → Type 0) (n : ℕ) (b : Board) (a w : ℕ) → P (undoShrunk n b (recordNode a) w) → P (undoPlaced n b (recordNode a) w) → P (undoMarked b (recordNode a) w)
@@ -165,23 +144,20 @@ unfolding undoMany
 many-none n b records t = refl
 
 -- a turn of the loop: the newest record, undone, goes on; where it does not fit all stops
-module _ (n : ℕ) (b : Board) (t : List ℕ) (f : Bool) (c : Board) where
-  pub many-on : (left base : ℕ) → base < left → undoOne n b (firstOf t (left - 1)) (secondOf t (left - 1)) ≡ (f, c) → f ≡ true
-      → undoMany (left - base) n b left t ≡ undoMany (left - 1 - base) n c (left - 1) t
+module _ (n : ℕ) (b : Board) (t : List ℕ) (left base : ℕ) (h : base < left) where
+  pub many-on : undoOne n b (firstOf t (left - 1)) (secondOf t (left - 1)) .0 ≡ true
+      → undoMany (left - base) n b left t ≡ undoMany (left - 1 - base) n (undoOne n b (firstOf t (left - 1)) (secondOf t (left - 1)) .1) (left - 1) t
   unfolding undoMany
-  many-on left base h e z =
+  many-on z =
       let d : left - base ≡ suc (left - 1 - base) = omega arith in
-      rw (d, e, z)
+      rw (d, z)
 
-  pub many-stop : (left base : ℕ) → base < left → undoOne n b (firstOf t (left - 1)) (secondOf t (left - 1)) ≡ (f, c) → f ≡ false
-      → undoMany (left - base) n b left t ≡ (f, c)
+  pub many-stop : undoOne n b (firstOf t (left - 1)) (secondOf t (left - 1)) .0 ≡ false
+      → undoMany (left - base) n b left t ≡ undoOne n b (firstOf t (left - 1)) (secondOf t (left - 1))
   unfolding undoMany
-  many-stop left base h e z =
+  many-stop z =
       let d : left - base ≡ suc (left - 1 - base) = omega arith in
-      rw (d, e, z)
-
-  pub one-next : (a w : ℕ) → Sound n b → undoOne n b a w ≡ (f, c) → Sound n c
-  one-next a w s e = subst (λ (u : Undone). Sound n (u .1)) e (one-sound n b a w s)
+      rw (d, z)
 
 -- what each record of a trail keeps, undoing many keeps
 pub many-keeps : (P : Board → Type 0) (n : ℕ) (t : List ℕ) → ((b : Board) (i : ℕ) → P b → P (undoOne n b (firstOf t i) (secondOf t i) .1))

@@ -17,7 +17,7 @@ use Rattle.board.specs.Held.{Words, Sound}
 use Rattle.board.proofs.Keep.{unplaced-set, unplaced-here}
 use Rattle.trail.specs.Trail.{firstOf, secondOf, recordNode}
 use Rattle.trail.specs.Undo.{fitsShrunk, fitsPlaced, fitsMarked, fitsObliged, Undone, undone, undoOne, undoMany}
-use Rattle.trail.proofs.UndoLaws.{one-by, one-sound, many-keeps}
+use Rattle.trail.proofs.UndoLaws.{unplaced-marks, one-by, one-sound, many-keeps}
 use Rattle.trail.proofs.Small.{put-words}
 
 undone-words : (t : Bool) (b c : Board) → (t ≡ true → Words c) → Words b → Words (undone t c b .1)
@@ -34,10 +34,6 @@ shrunk-words n b x w s h l e =
 strike-word : (x w : ℕ) → w < 2 ^ 64 → strike x w < 2 ^ 64
 unfolding strike
 strike-word x w h = without-fits w x h
-
-unplaced-marks : (b : Board) (x w : ℕ) → (unplaced b x w .marks ≡ b .marks) × (unplaced b x w .must ≡ b .must)
-unfolding unplaced
-unplaced-marks b x w = (refl, refl)
 
 placed-words : (n : ℕ) (b : Board) (x w : ℕ) → Sound n b → Words b → w < 2 ^ 64 → fitsPlaced n b x w ≡ true → Words (unplaced b x w)
 unfolding fitsPlaced

@@ -70,8 +70,8 @@ module _ (vans : ℕ → Van) (d : Day) (v : ℕ) (f : Fleet) (t : List ℕ) (st
 -- ---- done in place
 
 -- what the arrays hold is what the step gives
-pub did : {want : RanAll} (o : Outcomes) {routes sets levels : List (List ℕ)} {t : List ℕ} → EightRows routes sets levels → want ≡ ranAll o routes sets levels t
-    → Did want o routes sets levels t
+pub did : {want : RanAll} (o : Outcomes) {routes sets levels figures : List (List ℕ)} {t : List ℕ} → EightRows routes sets levels figures → want ≡ ranAll o routes sets levels figures t
+    → Did want o routes sets levels figures t
 did o rows e = record {
   answer = sym (ap (λ (r : RanAll). r .0 .answer) e);
   whole = λ n. e;
@@ -80,8 +80,8 @@ did o rows e = record {
 }
 
 -- the same of a step by another name
-pub did-as : {want other : RanAll} {o : Outcomes} {routes sets levels : List (List ℕ)} {t : List ℕ} → other ≡ want → Did want o routes sets levels t
-    → Did other o routes sets levels t
+pub did-as : {want other : RanAll} {o : Outcomes} {routes sets levels figures : List (List ℕ)} {t : List ℕ} → other ≡ want → Did want o routes sets levels figures t
+    → Did other o routes sets levels figures t
 did-as e d = record {
   answer = d .answer ∙ sym (ap (λ (r : RanAll). r .0 .answer) e);
   whole = λ n. e ∙ d .whole n;

@@ -17,17 +17,15 @@ use Rattle.sheet.specs.Section.{nOf, vansOf}
 use Rattle.sheet.specs.declared.Layout.{Layout}
 use Rattle.day.specs.Tell.{vanOf, dayOf}
 use Rattle.board.specs.Board.{boardOf}
-use Rattle.board.specs.Fresh.{noFigures}
 use Rattle.board.specs.Held.{Sound}
 use Rattle.board.proofs.FormLaws.{in-form, form-with}
 use Rattle.board.specs.declared.State.{State}
-use Rattle.board.specs.declared.Figures.{Figures}
 use Rattle.trail.specs.Trail.{roomOf}
 use Rattle.trail.specs.Steps.{Ran, undoLevel}
 use Rattle.van.specs.Known.{Known}
 use Rattle.fleet.specs.Fleet.{stateIn, boardIn, shareOf, trailIn}
 use Rattle.fleet.specs.Form.{sharesNone, formWithAll}
-use Rattle.fleet.specs.Rows.{rowState, rowBoard, fleetWith}
+use Rattle.fleet.specs.Rows.{figuresIn, rowState, rowBoard, fleetWith}
 use Rattle.fleet.specs.Wards.{Nodes}
 use Rattle.fleet.specs.declared.Fleet.{Fleet}
 use Rattle.fleet.proofs.FleetLaws.{state-of, room-part}
@@ -45,21 +43,21 @@ use Rattle.turns.proofs.Moves.{turns-read, turn-back}
 
 -- ---- an outcome without a round
 
-pub did-of : {want : RanAll} {o : Outcomes} {a : ℕ} {figures : List Figures} (routes sets levels : List (List ℕ)) (t : List ℕ)
-    → o ≡ record { answer = a; rounds = 0; after = figures } → EightRows routes sets levels → want ≡ actedAll a 0 (fleetWith routes sets levels figures) t
-    → Did want o routes sets levels t
-did-of routes sets levels t r rows e = record {
+pub did-of : {want : RanAll} {o : Outcomes} {a : ℕ} (routes sets levels figures : List (List ℕ)) (t : List ℕ)
+    → o ≡ record { answer = a; rounds = 0 } → EightRows routes sets levels figures → want ≡ actedAll a 0 (fleetWith routes sets levels figures) t
+    → Did want o routes sets levels figures t
+did-of routes sets levels figures t r rows e = record {
   answer = ap (λ (o : Outcomes). o .answer) r ∙ sym (ap (λ (w : RanAll). w .0 .answer) e);
-  whole = λ n. e ∙ ap (λ (o : Outcomes). actedAll (o .answer) (o .rounds) (fleetWith routes sets levels (o .after)) t) (sym r);
+  whole = λ n. e ∙ ap (λ (o : Outcomes). actedAll (o .answer) (o .rounds) (fleetWith routes sets levels figures) t) (sym r);
   trail = λ z. sym (ap (λ (w : RanAll). w .1) e);
   eight = rows;
 }
 
 -- 20: the answer and the trail are the step's; the arrays may be half undone
-pub did-misfit : {want : RanAll} {o : Outcomes} {figures : List Figures} (routes sets levels : List (List ℕ)) {t t′ : List ℕ} {f : Fleet}
-    → o ≡ record { answer = refusal.MISFIT; rounds = 0; after = figures } → EightRows routes sets levels → t ≡ t′ → want ≡ actedAll refusal.MISFIT 0 f t
-    → Did want o routes sets levels t′
-did-misfit routes sets levels r rows same e = record {
+pub did-misfit : {want : RanAll} {o : Outcomes} (routes sets levels figures : List (List ℕ)) {t t′ : List ℕ} {f : Fleet}
+    → o ≡ record { answer = refusal.MISFIT; rounds = 0 } → EightRows routes sets levels figures → t ≡ t′ → want ≡ actedAll refusal.MISFIT 0 f t
+    → Did want o routes sets levels figures t′
+did-misfit routes sets levels figures r rows same e = record {
   answer = ap (λ (o : Outcomes). o .answer) r ∙ sym (ap (λ (w : RanAll). w .0 .answer) e);
   whole = λ n. absurd (n (ap (λ (o : Outcomes). o .answer) r));
   trail = λ z. sym same ∙ sym (ap (λ (w : RanAll). w .1) e);
@@ -85,7 +83,7 @@ pub room-as : {vans v : ℕ} (t : List ℕ) → vans ≡ v → (j : ℕ) → j <
 room-as {vans} {v} t e j h = room-part v t j h ∙ ap (λ (k : ℕ). k / 2) (sym (share-as t e))
 
 -- the levels of the first van, in its row
-pub depth-row : (routes sets levels : List (List ℕ)) (figures : List Figures) → stateIn (fleetWith routes sets levels figures) 0 .depth ≡ getD figures 0 noFigures .depth
+pub depth-row : (routes sets levels figures : List (List ℕ)) → stateIn (fleetWith routes sets levels figures) 0 .depth ≡ figuresIn (getD figures 0 []) .depth
 depth-row routes sets levels figures = ap (λ (s : State). s .depth) (state-of (rowState routes sets levels figures) 0 (omega arith))
 
 -- ---- stepping back in all vans
@@ -127,7 +125,7 @@ module _ (vans : ℕ → Van) (d : Day) (v : ℕ) (f : Fleet) (t : List ℕ) (st
 
 -- ---- what is known of a van
 
-module _ {sheet : List ℕ} {at : Layout} {routes sets levels : List (List ℕ)} {figures : List Figures} {t : List ℕ} (k : KnownRows sheet at routes sets levels figures t) where
+module _ {sheet : List ℕ} {at : Layout} {routes sets levels figures : List (List ℕ)} {t : List ℕ} (k : KnownRows sheet at routes sets levels figures t) where
   pub known-sound : (j : ℕ) → j < vansOf sheet → Sound (nOf sheet) (boardIn (fleetWith routes sets levels figures) j)
   known-sound j h =
       let s = stateIn (fleetWith routes sets levels figures) j in
@@ -142,10 +140,10 @@ module _ {sheet : List ℕ} {at : Layout} {routes sets levels : List (List ℕ)}
       (record { clear = k .clear; laid = k .laid; form = known-form k j h; held = known-held k j h }))
 
 -- what a pass over the wards asks of a van
-pub nodes-row : {n nodes : ℕ} (routes sets levels : List (List ℕ)) (figures : List Figures) (j : ℕ) → j < mostVans → nodes ≡ n → Sound n (boardIn (fleetWith routes sets levels figures) j)
-    → Nodes nodes (getD figures j noFigures .stops) (getD routes j [])
+pub nodes-row : {n nodes : ℕ} (routes sets levels figures : List (List ℕ)) (j : ℕ) → j < mostVans → nodes ≡ n → Sound n (boardIn (fleetWith routes sets levels figures) j)
+    → Nodes nodes (figuresIn (getD figures j []) .stops) (getD routes j [])
 nodes-row {n} routes sets levels figures j h e s =
-    subst (λ (m : ℕ). Nodes m (getD figures j noFigures .stops) (getD routes j [])) (sym e)
+    subst (λ (m : ℕ). Nodes m (figuresIn (getD figures j []) .stops) (getD routes j [])) (sym e)
     (sound-nodes n (rowBoard routes sets figures j) (subst (λ (x : State). Sound n (boardOf x)) (state-of (rowState routes sets levels figures) j h) s))
 
 -- ---- a bar that is known
@@ -164,8 +162,8 @@ pub record Backed (sheet : List ℕ) (f : Fleet) (t : List ℕ) (step : Step) (f
   pub yes : fits ≡ true → sharesNone (nOf sheet) (vansOf sheet) f′ ≡ true → actAll (vanOf sheet) (dayOf sheet) (vansOf sheet) f t step ≡ actedAll 0 0 f′ t′
   pub no : fits && sharesNone (nOf sheet) (vansOf sheet) f′ ≡ false → actAll (vanOf sheet) (dayOf sheet) (vansOf sheet) f t step ≡ actedAll refusal.MISFIT 0 f t
 
-pub backed : {sheet : List ℕ} {at : Layout} {routes sets levels : List (List ℕ)} {figures : List Figures} {t : List ℕ} (step : Step) (f′ : Fleet) (t′ : List ℕ) (fits : Bool)
-    → KnownRows sheet at routes sets levels figures t → step .kind ≡ kinds.BACK → 1 ≤ getD figures 0 noFigures .depth
+pub backed : {sheet : List ℕ} {at : Layout} {routes sets levels figures : List (List ℕ)} {t : List ℕ} (step : Step) (f′ : Fleet) (t′ : List ℕ) (fits : Bool)
+    → KnownRows sheet at routes sets levels figures t → step .kind ≡ kinds.BACK → 1 ≤ figuresIn (getD figures 0 []) .depth
     → Turned (at .nodes) (at .vans) (fleetWith routes sets levels figures) t step (actedAll 0 0 f′ t′) fits → Backed sheet (fleetWith routes sets levels figures) t step f′ t′ fits
 backed {sheet} {at} {routes} {sets} {levels} {figures} {t} step f′ t′ fits k kind deep e =
     let f = fleetWith routes sets levels figures in

@@ -23,7 +23,6 @@ use Rattle.board.specs.Form.{inForm, formWith}
 use Rattle.board.specs.Held.{Held, Words}
 use Rattle.board.proofs.FormLaws.{in-form, form-with}
 use Rattle.board.specs.declared.State.{State}
-use Rattle.board.specs.declared.Figures.{Figures}
 use Rattle.trail.specs.Trail.{roomOf}
 use Rattle.trail.specs.Refusals.{placeShut, excludeRefusal}
 use Rattle.trail.proofs.StepLaws.{not-shut, place-open}
@@ -108,7 +107,7 @@ module _ (n v : ℕ) (f : Fleet) (t : List ℕ) (small : n ≤ 64) (e : formWith
 
 -- ---- what is known of the rows
 
-module _ {sheet : List ℕ} {at : Layout} {routes sets levels : List (List ℕ)} {figures : List Figures} {t : List ℕ} (k : KnownRows sheet at routes sets levels figures t) where
+module _ {sheet : List ℕ} {at : Layout} {routes sets levels figures : List (List ℕ)} {t : List ℕ} (k : KnownRows sheet at routes sets levels figures t) where
   abbrev f : Fleet
   f = fleetWith routes sets levels figures
 
@@ -129,6 +128,7 @@ module _ {sheet : List ℕ} {at : Layout} {routes sets levels : List (List ℕ)}
   known-ready = record {
     clear = k .clear;
     laid = k .laid;
+    figured = k .figured;
     each = λ j h.
         let s = rowState routes sets levels figures j in
         let is = state-of (rowState routes sets levels figures) j (omega (arith, h, k .laid .fine .vans-high)) in
@@ -138,5 +138,5 @@ module _ {sheet : List ℕ} {at : Layout} {routes sets levels : List (List ℕ)}
     words = λ j h. subst (λ (s : State). Words (boardOf s)) (state-of (rowState routes sets levels figures) j (omega (arith, h, k .laid .fine .vans-high))) (known-held j h .words);
   }
 
-  pub known-eight : EightRows routes sets levels
-  known-eight = (k .rows .0 .eight, k .rows .1 .eight, k .rows .2 .eight)
+  pub known-eight : EightRows routes sets levels figures
+  known-eight = (k .rows .0 .eight, k .rows .1 .eight, k .rows .2 .eight, k .figured)

@@ -10,15 +10,15 @@ use lib.Seq.{getD-set-same, getD-set-other, set-getD, drop-drop}
 use Rattle.laws.specs.Basic.{partAt, putPart}
 use Rattle.laws.proofs.Parts.{part-before, put-length, put-same, put-other, put-behind}
 use Rattle.rules.specs.Numbers.{mostVans}
-use Rattle.board.specs.Fresh.{noFigures}
 use Rattle.board.specs.Board.{stateWith}
 use Rattle.board.specs.declared.State.{State}
 use Rattle.board.specs.declared.Figures.{Figures}
 use Rattle.trail.specs.Steps.{Ran, ran, answered}
 use Rattle.trail.specs.declared.Outcome.{Outcome}
 use Rattle.fleet.specs.Fleet.{fleetOf, stateIn, shareOf, trailIn}
-use Rattle.fleet.specs.Rows.{rowState, fleetWith}
+use Rattle.fleet.specs.Rows.{rowOf, rowState, fleetWith}
 use Rattle.fleet.specs.declared.Fleet.{Fleet}
+use Rattle.fleet.proofs.FigureLaws.{figured-set}
 use Rattle.fleet.proofs.FleetLaws.{state-of, fleet-eight, part-fits, part-long}
 use Rattle.turns.specs.Together.{actedAll, alone}
 use Rattle.turns.specs.Known.{EightRows}
@@ -26,25 +26,25 @@ use Rattle.turns.proofs.TogetherLaws.{trail-part, Others, alone-is}
 
 -- ---- the rows
 
-module _ (routes sets levels : List (List ℕ)) (figures : List Figures) (rows : EightRows routes sets levels) (eight : length figures ≡ mostVans)
+module _ (routes sets levels figures : List (List ℕ)) (rows : EightRows routes sets levels figures)
     (j : ℕ) (low : j < mostVans) (route places heights : List ℕ) (g : Figures) where
-  pub row-own : rowState (set routes j route) (set sets j places) (set levels j heights) (set figures j g) j ≡ stateWith route places heights g
+  pub row-own : rowState (set routes j route) (set sets j places) (set levels j heights) (set figures j (rowOf g)) j ≡ stateWith route places heights g
   row-own =
       rw (
         getD-set-same routes j route [] (omega (arith, rows .0)),
         getD-set-same sets j places [] (omega (arith, rows .1)),
         getD-set-same levels j heights [] (omega (arith, rows .2)),
-        getD-set-same figures j g noFigures (omega (arith, eight)),
+        getD-set-same figures j (rowOf g) [] (omega (arith, rows .3 .eight)),
       )
       refl
 
-  pub rows-stay : EightRows (set routes j route) (set sets j places) (set levels j heights)
-  rows-stay = (length-set routes j route ∙ rows .0, length-set sets j places ∙ rows .1, length-set levels j heights ∙ rows .2)
+  pub rows-stay : EightRows (set routes j route) (set sets j places) (set levels j heights) (set figures j (rowOf g))
+  rows-stay = (length-set routes j route ∙ rows .0, length-set sets j places ∙ rows .1, length-set levels j heights ∙ rows .2, figured-set figures j g (rows .3))
 
-pub row-other : (routes sets levels : List (List ℕ)) (figures : List Figures) (j : ℕ) (route places heights : List ℕ) (g : Figures) (i : ℕ) → i ≢ j
-    → rowState (set routes j route) (set sets j places) (set levels j heights) (set figures j g) i ≡ rowState routes sets levels figures i
+pub row-other : (routes sets levels figures : List (List ℕ)) (j : ℕ) (route places heights : List ℕ) (g : Figures) (i : ℕ) → i ≢ j
+    → rowState (set routes j route) (set sets j places) (set levels j heights) (set figures j (rowOf g)) i ≡ rowState routes sets levels figures i
 row-other routes sets levels figures j route places heights g i d =
-    rw (getD-set-other routes j i route [] d, getD-set-other sets j i places [] d, getD-set-other levels j i heights [] d, getD-set-other figures j i g noFigures d) refl
+    rw (getD-set-other routes j i route [] d, getD-set-other sets j i places [] d, getD-set-other levels j i heights [] d, getD-set-other figures j i (rowOf g) [] d) refl
 
 -- ---- the parts: those of a trail t′ that is as long as t
 
@@ -99,15 +99,15 @@ part-back v j from end t t′ u s =
 abbrev pub Leaving : (State → List ℕ → Ran) → Type 0
 Leaving step = (s : State) (u : List ℕ) → (step s u .0 .answer ≡ 0 → ⊥) → step s u ≡ answered (step s u .0 .answer) s u
 
-module _ (v i from end : ℕ) (routes sets levels : List (List ℕ)) (figures : List Figures) (t : List ℕ) (step : State → List ℕ → Ran) (o : Outcome) {route places heights u : List ℕ}
-    (low : i < v) (most : v ≤ mostVans) (spot : Spot v t i from end) (rows : EightRows routes sets levels) (eight : length figures ≡ mostVans) (leaves : Leaving step)
+module _ (v i from end : ℕ) (routes sets levels figures : List (List ℕ)) (t : List ℕ) (step : State → List ℕ → Ran) (o : Outcome) {route places heights u : List ℕ}
+    (low : i < v) (most : v ≤ mostVans) (spot : Spot v t i from end) (rows : EightRows routes sets levels figures) (leaves : Leaving step)
     (e : step (rowState routes sets levels figures i) (take (end - from) (drop from t)) ≡ ran o route places heights u)
     (eu : length u ≡ length (take (end - from) (drop from t))) where
   abbrev f : Fleet
   f = fleetWith routes sets levels figures
 
   abbrev after : ℕ → State
-  after = rowState (set routes i route) (set sets i places) (set levels i heights) (set figures i (o .after))
+  after = rowState (set routes i route) (set sets i places) (set levels i heights) (set figures i (rowOf (o .after)))
 
   lent : take (end - from) (drop from t) ≡ trailIn v t i
   lent = part-lent v i from end t t spot refl
@@ -134,17 +134,17 @@ module _ (v i from end : ℕ) (routes sets levels : List (List ℕ)) (figures : 
   alone-did =
       alone-is v f t i step low most (fleet-eight (rowState routes sets levels figures)) own
       (λ n. sym own ∙ leaves (stateIn f i) (trailIn v t i) (λ z. n (sym answer ∙ z)) ∙ ap (λ (k : ℕ). answered k (stateIn f i) (trailIn v t i)) answer)
-      (state-of after i (omega arith) ∙ row-own routes sets levels figures rows eight i (omega arith) route places heights (o .after))
+      (state-of after i (omega arith) ∙ row-own routes sets levels figures rows i (omega arith) route places heights (o .after))
       (part-own v t t refl i low u long) stay
       ∙ ap (λ (w : List ℕ). actedAll (o .answer) (o .rounds) (fleetOf after) w) (sym (part-back v i from end t t u spot))
 
 -- the same of a step that leaves the van's arrays
-pub alone-noted : (v i from end : ℕ) (routes sets levels : List (List ℕ)) (figures : List Figures) (t : List ℕ) (step : State → List ℕ → Ran) (o : Outcome) {u : List ℕ}
-    → i < v → v ≤ mostVans → Spot v t i from end → EightRows routes sets levels → length figures ≡ mostVans → Leaving step
+pub alone-noted : (v i from end : ℕ) (routes sets levels figures : List (List ℕ)) (t : List ℕ) (step : State → List ℕ → Ran) (o : Outcome) {u : List ℕ}
+    → i < v → v ≤ mostVans → Spot v t i from end → EightRows routes sets levels figures → Leaving step
     → step (rowState routes sets levels figures i) (take (end - from) (drop from t)) ≡ ran o (getD routes i []) (getD sets i []) (getD levels i []) u
     → length u ≡ length (take (end - from) (drop from t))
     → alone v (fleetWith routes sets levels figures) t i step
-    ≡ actedAll (o .answer) (o .rounds) (fleetWith routes sets levels (set figures i (o .after))) (take from t ++ (u ++ drop (end - from) (drop from t)))
-alone-noted v i from end routes sets levels figures t step o {u} low most spot rows eight leaves e eu =
-    alone-did v i from end routes sets levels figures t step o low most spot rows eight leaves e eu
+    ≡ actedAll (o .answer) (o .rounds) (fleetWith routes sets levels (set figures i (rowOf (o .after)))) (take from t ++ (u ++ drop (end - from) (drop from t)))
+alone-noted v i from end routes sets levels figures t step o {u} low most spot rows leaves e eu =
+    alone-did v i from end routes sets levels figures t step o low most spot rows leaves e eu
     ∙ rw (set-getD routes i [], set-getD sets i [], set-getD levels i []) refl

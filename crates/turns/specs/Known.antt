@@ -19,19 +19,18 @@ use Rattle.trail.specs.Trail.{roomOf}
 use Rattle.trail.specs.Refusals.{placeRefusal, excludeRefusal}
 use Rattle.fleet.specs.Fleet.{HeldAll}
 use Rattle.fleet.specs.Form.{formWithAll}
-use Rattle.fleet.specs.Rows.{fleetWith, Rows}
-use Rattle.board.specs.declared.Figures.{Figures}
+use Rattle.fleet.specs.Rows.{fleetWith, Rows, Figured}
 use Rattle.turns.specs.Together.{RanAll, ranAll}
 use Rattle.turns.specs.declared.Outcomes.{Outcomes}
 
 -- a sheet that no call refuses, where it has what, and a fleet in form in rows, each van's records within its part's room
-pub record KnownRows (sheet : List ℕ) (at : Layout) (routes sets levels : List (List ℕ)) (figures : List Figures) (t : List ℕ) : Type 0 where
+pub record KnownRows (sheet : List ℕ) (at : Layout) (routes sets levels figures : List (List ℕ)) (t : List ℕ) : Type 0 where
   pub clear : callRefusal sheet ≡ 0
   pub laid : Laid sheet at
   pub form : formWithAll (nOf sheet) (vansOf sheet) (fleetWith routes sets levels figures) t ≡ true
   pub held : HeldAll (fleetWith routes sets levels figures)
   pub rows : Rows routes × Rows sets × Rows levels
-  pub eight : length figures ≡ mostVans
+  pub figured : Figured figures
 
 -- why van j's part in placing is refused, or 0
 abbrev pub turnBar : ℕ → Step → ℕ → State → List ℕ → ℕ
@@ -47,13 +46,13 @@ pub record Turning (n : ℕ) (step : Step) (j : ℕ) (s : State) (t : List ℕ) 
   pub free : step .kind ≡ kinds.PLACE → turnBar n step j s t ≡ 0
 
 -- eight rows in each array
-abbrev pub EightRows : List (List ℕ) → List (List ℕ) → List (List ℕ) → Type 0
-EightRows routes sets levels = (length routes ≡ mostVans) × (length sets ≡ mostVans) × (length levels ≡ mostVans)
+abbrev pub EightRows : List (List ℕ) → List (List ℕ) → List (List ℕ) → List (List ℕ) → Type 0
+EightRows routes sets levels figures = (length routes ≡ mostVans) × (length sets ≡ mostVans) × (length levels ≡ mostVans) × Figured figures
 
 -- the step `want` was done in place: its outcome, and arrays and trail as it leaves them. Where undoing was refused by 20 the arrays may be half undone:
 -- the caller has the fleet from before, or knows that it cannot be
-pub record Did (want : RanAll) (o : Outcomes) (routes sets levels : List (List ℕ)) (t : List ℕ) : Type 0 where
+pub record Did (want : RanAll) (o : Outcomes) (routes sets levels figures : List (List ℕ)) (t : List ℕ) : Type 0 where
   pub answer : o .answer ≡ want .0 .answer
-  pub whole : (o .answer ≡ refusal.MISFIT → ⊥) → want ≡ ranAll o routes sets levels t
+  pub whole : (o .answer ≡ refusal.MISFIT → ⊥) → want ≡ ranAll o routes sets levels figures t
   pub trail : o .answer ≡ refusal.MISFIT → t ≡ want .1
-  pub eight : EightRows routes sets levels
+  pub eight : EightRows routes sets levels figures

@@ -37,5 +37,5 @@ alone v f t i step =
     unlessBarred (r .0 .answer) f t (together v f t (r .0 .rounds) (λ j. cond (eqb j i) r (answered 0 (stateIn f j) (trailIn v t j))))
 
 -- what a step has left in arrays and a trail, with its outcome
-abbrev pub ranAll : Outcomes → List (List ℕ) → List (List ℕ) → List (List ℕ) → List ℕ → RanAll
-ranAll o routes sets levels t = actedAll (o .answer) (o .rounds) (fleetWith routes sets levels (o .after)) t
+abbrev pub ranAll : Outcomes → List (List ℕ) → List (List ℕ) → List (List ℕ) → List (List ℕ) → List ℕ → RanAll
+ranAll o routes sets levels figures t = actedAll (o .answer) (o .rounds) (fleetWith routes sets levels figures) t

@@ -1,7 +1,6 @@
 // A step in which every van takes its turn: placing, opening a level, stepping back.
 ghost use mathlib.Core.Path.{_≡_};
 ghost use Prim.Native.Nat.{ℕ, _<_, _≤_};
-ghost use lib.ListN.{length};
 ghost use lib.Dec.{eqb};
 ghost use Rattle.laws.specs.Basic.{allBelow};
 ghost use Rattle.rules.specs.Numbers.{mostVans};
@@ -15,6 +14,8 @@ ghost use Rattle.turns.specs.Known.{Turning, EightRows};
 use board::Figures;
 use board::State;
 use fleet::Fleet;
+use fleet::rows::figures_in;
+use fleet::rows::put_figures;
 use rules::Node;
 use rules::Step;
 use trail::Outcome;
@@ -50,13 +51,7 @@ fn turn(
     back(route, sets, levels, f, n, trail)
 }
 
-// Whether every turn was accepted, and the numbers of the vans after it.
-pub struct Round {
-    pub fits: bool,
-    pub after: [Figures; Fleet::VANS],
-}
-
-// Every van's turn; each has `share` words of the trail.
+// Every van's turn, and whether all were accepted; each has `share` words of the trail.
 pub fn each(
     n: usize,
     v: usize,
@@ -64,24 +59,23 @@ pub fn each(
     routes: &mut [[usize; Node::MOST]; Fleet::VANS],
     sets: &mut [[u64; Node::MOST]; Fleet::VANS],
     levels: &mut [[usize; State::LEVELS]; Fleet::VANS],
-    figures: [Figures; Fleet::VANS],
+    figures: &mut [[u64; Figures::COUNT]; Fleet::VANS],
     trail: &mut [u64],
     step: Step,
-) -> Round
-    requires { ⌜ (1 ≤ v) × (v ≤ mostVans) × (share ≡ shareOf v (now trail)) × EightRows (now routes) (now sets) (now levels) × (length figures ≡ mostVans) ⌝ }
-    requires { ⌜ ((j : ℕ) → j < v → Turning n step j (stateIn (fleetWith (now routes) (now sets) (now levels) figures) j) (trailIn v (now trail) j)) ⌝ }
-    ensures { λ r. ⌜ (turnsOf n v (fleetWith (now (routes .entry)) (now (sets .entry)) (now (levels .entry)) figures) (now (trail .entry)) step
-        ≡ actedAll 0 0 (fleetWith (now (routes .exit)) (now (sets .exit)) (now (levels .exit)) (r .after)) (now (trail .exit)))
-        × (r .fits ≡ allBelow v (λ j. eqb (turnOf n step j (stateIn (fleetWith (now (routes .entry)) (now (sets .entry)) (now (levels .entry)) figures) j) (trailIn v (now (trail .entry)) j) .0 .answer) 0))
-        × EightRows (now (routes .exit)) (now (sets .exit)) (now (levels .exit)) ⌝ }
+) -> bool
+    requires { ⌜ (1 ≤ v) × (v ≤ mostVans) × (share ≡ shareOf v (now trail)) × EightRows (now routes) (now sets) (now levels) (now figures) ⌝ }
+    requires { ⌜ ((j : ℕ) → j < v → Turning n step j (stateIn (fleetWith (now routes) (now sets) (now levels) (now figures)) j) (trailIn v (now trail) j)) ⌝ }
+    ensures { λ r. ⌜ (turnsOf n v (fleetWith (now (routes .entry)) (now (sets .entry)) (now (levels .entry)) (now (figures .entry))) (now (trail .entry)) step
+        ≡ actedAll 0 0 (fleetWith (now (routes .exit)) (now (sets .exit)) (now (levels .exit)) (now (figures .exit))) (now (trail .exit)))
+        × (r ≡ allBelow v (λ j. eqb (turnOf n step j (stateIn (fleetWith (now (routes .entry)) (now (sets .entry)) (now (levels .entry)) (now (figures .entry))) j) (trailIn v (now (trail .entry)) j) .0 .answer) 0))
+        × EightRows (now (routes .exit)) (now (sets .exit)) (now (levels .exit)) (now (figures .exit)) ⌝ }
 {
-    let mut after = figures;
     let mut fits = true;
     let mut j = 0;
     while j < v {
         let from = j * share;
         let end = from + share;
-        let f = after[j];
+        let f = figures_in(&figures[j]);
         let o = turn(
             n,
             j,
@@ -93,12 +87,9 @@ pub fn each(
             step,
         );
         let g = o.after;
-        after[j] = g;
+        put_figures(&mut figures[j], g);
         fits = fits & (o.answer == 0);
         j += 1;
     }
-    Round {
-        fits: fits,
-        after: after,
-    }
+    fits
 }

@@ -4,7 +4,6 @@ pub mod bars;
 pub mod each;
 pub mod steps;
 
-use board::Figures;
 use fleet::Fleet;
 
 // What a step gives: 0 or the number of a refusal, how many rounds of settling struck something, and the fleet.
@@ -14,9 +13,8 @@ pub struct Turned {
     pub fleet: Fleet,
 }
 
-// The same where the rows were changed in place: the other numbers of the vans after it.
+// The same where the rows were changed in place.
 pub struct Outcomes {
     pub answer: usize,
     pub rounds: usize,
-    pub after: [Figures; Fleet::VANS],
 }

@@ -13,20 +13,21 @@ use crate::each::each;
 use board::Figures;
 use board::State;
 use fleet::Fleet;
+use fleet::rows::figures_in;
+use fleet::rows::put_figures;
 use fleet::wards::gather;
 use rules::Node;
 use rules::Refusal;
 use rules::Step;
 use sheet::Layout;
 
-// Nothing changed.
-pub fn unmoved(answer: usize, figures: [Figures; Fleet::VANS]) -> Outcomes
-    ensures { λ r. ⌜ r ≡ record { answer = answer; rounds = 0; after = figures } ⌝ }
+// An answer with no rounds.
+fn answered(answer: usize) -> Outcomes
+    ensures { λ r. ⌜ r ≡ record { answer = answer; rounds = 0 } ⌝ }
 {
     Outcomes {
         answer: answer,
         rounds: 0,
-        after: figures,
     }
 }
 
@@ -37,14 +38,14 @@ fn place(
     routes: &mut [[usize; Node::MOST]; Fleet::VANS],
     sets: &mut [[u64; Node::MOST]; Fleet::VANS],
     levels: &mut [[usize; State::LEVELS]; Fleet::VANS],
-    figures: [Figures; Fleet::VANS],
+    figures: &mut [[u64; Figures::COUNT]; Fleet::VANS],
     trail: &mut [u64],
     step: Step,
 ) -> Outcomes
-    requires { ⌜ KnownRows (now sheet) at (now routes) (now sets) (now levels) figures (now trail) × (step .kind ≡ kinds.PLACE) × (step .van < vansOf (now sheet)) ⌝ }
+    requires { ⌜ KnownRows (now sheet) at (now routes) (now sets) (now levels) (now figures) (now trail) × (step .kind ≡ kinds.PLACE) × (step .van < vansOf (now sheet)) ⌝ }
     ensures { λ r. ⌜ Did (vanAct (vanOf (now (sheet .entry))) (dayOf (now (sheet .entry))) (vansOf (now (sheet .entry)))
-        (fleetWith (now (routes .entry)) (now (sets .entry)) (now (levels .entry)) figures) (now (trail .entry)) step)
-        r (now (routes .exit)) (now (sets .exit)) (now (levels .exit)) (now (trail .exit)) ⌝ }
+        (fleetWith (now (routes .entry)) (now (sets .entry)) (now (levels .entry)) (now (figures .entry))) (now (trail .entry)) step)
+        r (now (routes .exit)) (now (sets .exit)) (now (levels .exit)) (now (figures .exit)) (now (trail .exit)) ⌝ }
 {
     let v = at.vans;
     let n = at.nodes;
@@ -61,11 +62,10 @@ fn place(
         step.second,
     );
     if code != 0 {
-        return unmoved(code, figures);
+        return answered(code);
     }
-    let placed = each(n, v, share, routes, sets, levels, figures, trail, step);
-    let after = placed.after;
-    unmoved(0, after)
+    each(n, v, share, routes, sets, levels, figures, trail, step);
+    answered(0)
 }
 
 // Steps 2 to 5: in one van.
@@ -75,22 +75,21 @@ fn alone(
     routes: &mut [[usize; Node::MOST]; Fleet::VANS],
     sets: &mut [[u64; Node::MOST]; Fleet::VANS],
     levels: &mut [[usize; State::LEVELS]; Fleet::VANS],
-    figures: [Figures; Fleet::VANS],
+    figures: &mut [[u64; Figures::COUNT]; Fleet::VANS],
     trail: &mut [u64],
     step: Step,
 ) -> Outcomes
-    requires { ⌜ KnownRows (now sheet) at (now routes) (now sets) (now levels) figures (now trail) × (step .kind ≡ kinds.PLACE → ⊥) × (step .van < vansOf (now sheet)) ⌝ }
+    requires { ⌜ KnownRows (now sheet) at (now routes) (now sets) (now levels) (now figures) (now trail) × (step .kind ≡ kinds.PLACE → ⊥) × (step .van < vansOf (now sheet)) ⌝ }
     ensures { λ r. ⌜ Did (vanAct (vanOf (now (sheet .entry))) (dayOf (now (sheet .entry))) (vansOf (now (sheet .entry)))
-        (fleetWith (now (routes .entry)) (now (sets .entry)) (now (levels .entry)) figures) (now (trail .entry)) step)
-        r (now (routes .exit)) (now (sets .exit)) (now (levels .exit)) (now (trail .exit)) ⌝ }
+        (fleetWith (now (routes .entry)) (now (sets .entry)) (now (levels .entry)) (now (figures .entry))) (now (trail .entry)) step)
+        r (now (routes .exit)) (now (sets .exit)) (now (levels .exit)) (now (figures .exit)) (now (trail .exit)) ⌝ }
 {
     let i = step.van;
     let share = trail.len() / at.vans;
     let from = i * share;
     let end = from + share;
     let van = day::look::van(sheet, at, i);
-    let mut after = figures;
-    let f = after[i];
+    let f = figures_in(&figures[i]);
     let o = van::act(
         sheet,
         at,
@@ -103,11 +102,10 @@ fn alone(
         step,
     );
     let g = o.after;
-    after[i] = g;
+    put_figures(&mut figures[i], g);
     Outcomes {
         answer: o.answer,
         rounds: o.rounds,
-        after: after,
     }
 }
 
@@ -118,17 +116,17 @@ fn in_van(
     routes: &mut [[usize; Node::MOST]; Fleet::VANS],
     sets: &mut [[u64; Node::MOST]; Fleet::VANS],
     levels: &mut [[usize; State::LEVELS]; Fleet::VANS],
-    figures: [Figures; Fleet::VANS],
+    figures: &mut [[u64; Figures::COUNT]; Fleet::VANS],
     trail: &mut [u64],
     step: Step,
 ) -> Outcomes
-    requires { ⌜ KnownRows (now sheet) at (now routes) (now sets) (now levels) figures (now trail) ⌝ }
+    requires { ⌜ KnownRows (now sheet) at (now routes) (now sets) (now levels) (now figures) (now trail) ⌝ }
     ensures { λ r. ⌜ Did (vanAct (vanOf (now (sheet .entry))) (dayOf (now (sheet .entry))) (vansOf (now (sheet .entry)))
-        (fleetWith (now (routes .entry)) (now (sets .entry)) (now (levels .entry)) figures) (now (trail .entry)) step)
-        r (now (routes .exit)) (now (sets .exit)) (now (levels .exit)) (now (trail .exit)) ⌝ }
+        (fleetWith (now (routes .entry)) (now (sets .entry)) (now (levels .entry)) (now (figures .entry))) (now (trail .entry)) step)
+        r (now (routes .exit)) (now (sets .exit)) (now (levels .exit)) (now (figures .exit)) (now (trail .exit)) ⌝ }
 {
     if at.vans <= step.van {
-        return unmoved(Refusal::VAN, figures);
+        return answered(Refusal::VAN);
     }
     if step.kind == Step::PLACE {
         return place(sheet, at, routes, sets, levels, figures, trail, step);
@@ -143,25 +141,33 @@ fn level(
     routes: &mut [[usize; Node::MOST]; Fleet::VANS],
     sets: &mut [[u64; Node::MOST]; Fleet::VANS],
     levels: &mut [[usize; State::LEVELS]; Fleet::VANS],
-    figures: [Figures; Fleet::VANS],
+    figures: &mut [[u64; Figures::COUNT]; Fleet::VANS],
     trail: &mut [u64],
     step: Step,
 ) -> Outcomes
-    requires { ⌜ KnownRows (now sheet) at (now routes) (now sets) (now levels) figures (now trail) × (step .kind ≡ kinds.LEVEL) ⌝ }
+    requires { ⌜ KnownRows (now sheet) at (now routes) (now sets) (now levels) (now figures) (now trail) × (step .kind ≡ kinds.LEVEL) ⌝ }
     ensures { λ r. ⌜ Did (actAll (vanOf (now (sheet .entry))) (dayOf (now (sheet .entry))) (vansOf (now (sheet .entry)))
-        (fleetWith (now (routes .entry)) (now (sets .entry)) (now (levels .entry)) figures) (now (trail .entry)) step)
-        r (now (routes .exit)) (now (sets .exit)) (now (levels .exit)) (now (trail .exit)) ⌝ }
+        (fleetWith (now (routes .entry)) (now (sets .entry)) (now (levels .entry)) (now (figures .entry))) (now (trail .entry)) step)
+        r (now (routes .exit)) (now (sets .exit)) (now (levels .exit)) (now (figures .exit)) (now (trail .exit)) ⌝ }
 {
     let v = at.vans;
-    let n = at.nodes;
     let share = trail.len() / v;
-    let one = figures[0];
+    let one = figures_in(&figures[0]);
     if State::LEVELS <= one.depth {
-        return unmoved(Refusal::DEPTH, figures);
+        return answered(Refusal::DEPTH);
     }
-    let opened = each(n, v, share, routes, sets, levels, figures, trail, step);
-    let after = opened.after;
-    unmoved(0, after)
+    each(
+        at.nodes,
+        v,
+        share,
+        routes,
+        sets,
+        levels,
+        figures,
+        trail,
+        step,
+    );
+    answered(0)
 }
 
 // Step 7: step back in every van. The rule between vans is asked once, when all have: placing left a record in each, and one alone undone breaks it.
@@ -171,32 +177,30 @@ fn back(
     routes: &mut [[usize; Node::MOST]; Fleet::VANS],
     sets: &mut [[u64; Node::MOST]; Fleet::VANS],
     levels: &mut [[usize; State::LEVELS]; Fleet::VANS],
-    figures: [Figures; Fleet::VANS],
+    figures: &mut [[u64; Figures::COUNT]; Fleet::VANS],
     trail: &mut [u64],
     step: Step,
 ) -> Outcomes
-    requires { ⌜ KnownRows (now sheet) at (now routes) (now sets) (now levels) figures (now trail) × (step .kind ≡ kinds.BACK) ⌝ }
+    requires { ⌜ KnownRows (now sheet) at (now routes) (now sets) (now levels) (now figures) (now trail) × (step .kind ≡ kinds.BACK) ⌝ }
     ensures { λ r. ⌜ Did (actAll (vanOf (now (sheet .entry))) (dayOf (now (sheet .entry))) (vansOf (now (sheet .entry)))
-        (fleetWith (now (routes .entry)) (now (sets .entry)) (now (levels .entry)) figures) (now (trail .entry)) step)
-        r (now (routes .exit)) (now (sets .exit)) (now (levels .exit)) (now (trail .exit)) ⌝ }
+        (fleetWith (now (routes .entry)) (now (sets .entry)) (now (levels .entry)) (now (figures .entry))) (now (trail .entry)) step)
+        r (now (routes .exit)) (now (sets .exit)) (now (levels .exit)) (now (figures .exit)) (now (trail .exit)) ⌝ }
 {
     let v = at.vans;
     let n = at.nodes;
     let share = trail.len() / v;
-    let one = figures[0];
+    let one = figures_in(&figures[0]);
     if one.depth < 1 {
-        return unmoved(Refusal::DEPTH, figures);
+        return answered(Refusal::DEPTH);
     }
-    let undone = each(n, v, share, routes, sets, levels, figures, trail, step);
-    if !undone.fits {
-        return unmoved(Refusal::MISFIT, figures);
+    if !each(n, v, share, routes, sets, levels, figures, trail, step) {
+        return answered(Refusal::MISFIT);
     }
-    let after = undone.after;
-    let w = gather(routes, sets, after, n, v);
+    let w = gather(routes, sets, figures, n, v);
     if w.apart {
-        unmoved(0, after)
+        answered(0)
     } else {
-        unmoved(Refusal::MISFIT, figures)
+        answered(Refusal::MISFIT)
     }
 }
 
@@ -207,25 +211,23 @@ fn oblige(
     routes: &mut [[usize; Node::MOST]; Fleet::VANS],
     sets: &mut [[u64; Node::MOST]; Fleet::VANS],
     levels: &mut [[usize; State::LEVELS]; Fleet::VANS],
-    figures: [Figures; Fleet::VANS],
+    figures: &mut [[u64; Figures::COUNT]; Fleet::VANS],
     trail: &mut [u64],
     step: Step,
 ) -> Outcomes
-    requires { ⌜ KnownRows (now sheet) at (now routes) (now sets) (now levels) figures (now trail) × (step .kind ≡ kinds.OBLIGE) ⌝ }
+    requires { ⌜ KnownRows (now sheet) at (now routes) (now sets) (now levels) (now figures) (now trail) × (step .kind ≡ kinds.OBLIGE) ⌝ }
     ensures { λ r. ⌜ Did (actAll (vanOf (now (sheet .entry))) (dayOf (now (sheet .entry))) (vansOf (now (sheet .entry)))
-        (fleetWith (now (routes .entry)) (now (sets .entry)) (now (levels .entry)) figures) (now (trail .entry)) step)
-        r (now (routes .exit)) (now (sets .exit)) (now (levels .exit)) (now (trail .exit)) ⌝ }
+        (fleetWith (now (routes .entry)) (now (sets .entry)) (now (levels .entry)) (now (figures .entry))) (now (trail .entry)) step)
+        r (now (routes .exit)) (now (sets .exit)) (now (levels .exit)) (now (figures .exit)) (now (trail .exit)) ⌝ }
 {
     let share = trail.len() / at.vans;
-    let mut after = figures;
-    let f = after[0];
+    let f = figures_in(&figures[0]);
     let o = trail::steps::oblige(f, at.nodes, step.first, &mut trail[0..share]);
     let g = o.after;
-    after[0] = g;
+    put_figures(&mut figures[0], g);
     Outcomes {
         answer: o.answer,
         rounds: o.rounds,
-        after: after,
     }
 }
 
@@ -236,14 +238,14 @@ pub fn act(
     routes: &mut [[usize; Node::MOST]; Fleet::VANS],
     sets: &mut [[u64; Node::MOST]; Fleet::VANS],
     levels: &mut [[usize; State::LEVELS]; Fleet::VANS],
-    figures: [Figures; Fleet::VANS],
+    figures: &mut [[u64; Figures::COUNT]; Fleet::VANS],
     trail: &mut [u64],
     step: Step,
 ) -> Outcomes
-    requires { ⌜ KnownRows (now sheet) at (now routes) (now sets) (now levels) figures (now trail) ⌝ }
+    requires { ⌜ KnownRows (now sheet) at (now routes) (now sets) (now levels) (now figures) (now trail) ⌝ }
     ensures { λ r. ⌜ Did (actAll (vanOf (now (sheet .entry))) (dayOf (now (sheet .entry))) (vansOf (now (sheet .entry)))
-        (fleetWith (now (routes .entry)) (now (sets .entry)) (now (levels .entry)) figures) (now (trail .entry)) step)
-        r (now (routes .exit)) (now (sets .exit)) (now (levels .exit)) (now (trail .exit)) ⌝ }
+        (fleetWith (now (routes .entry)) (now (sets .entry)) (now (levels .entry)) (now (figures .entry))) (now (trail .entry)) step)
+        r (now (routes .exit)) (now (sets .exit)) (now (levels .exit)) (now (figures .exit)) (now (trail .exit)) ⌝ }
 {
     let kind = step.kind;
     if kind == Step::LEVEL {
@@ -258,5 +260,5 @@ pub fn act(
     if (Step::PLACE <= kind) & (kind <= Step::SETTLE) {
         return in_van(sheet, at, routes, sets, levels, figures, trail, step);
     }
-    unmoved(Refusal::KIND, figures)
+    answered(Refusal::KIND)
 }

@@ -2,7 +2,7 @@
 ghost use mathlib.Core.Path.{_≡_};
 ghost use mathlib.Core.List.{List};
 ghost use Prim.Native.Nat.{ℕ, _≤_};
-ghost use Rattle.day.specs.Tell.{dayOf};
+ghost use Rattle.day.specs.Tell.{dayOf, jobIn};
 ghost use Rattle.rules.specs.Numbers.{kinds};
 ghost use Rattle.rules.specs.Verdict.{alive};
 ghost use Rattle.rules.specs.declared.Van.{Van};
@@ -11,8 +11,10 @@ ghost use Rattle.board.specs.Held.{Sound};
 ghost use Rattle.trail.specs.Trail.{roomOf};
 ghost use Rattle.trail.specs.Steps.{ran, placeStep, settleStep};
 ghost use Rattle.along.specs.Ready.{Ready};
+ghost use Rattle.along.specs.Nodes.{ByNode};
 ghost use Rattle.van.specs.Act.{planIn, settledSets, settlingRounds, actOf};
 ghost use Rattle.van.specs.Known.{Known};
+use along::nodes::Jobs;
 use board::Figures;
 use board::State;
 use rules::Node;
@@ -131,18 +133,19 @@ pub fn act(
     change(sheet, at, route, sets, levels, f, trail, step)
 }
 
-// The verdict of a van.
+// The verdict of a van; `jobs` has the jobs of the sheet by node.
 pub fn alive<'a>(
     sheet: &[u8],
     at: Layout,
+    jobs: &[usize; Jobs::ROOM],
     van: Van,
     route: &'a [usize; Node::MOST],
     sets: &'a [u64; Node::MOST],
     f: Figures,
 ) -> bool
-    requires { ⌜ Ready (now sheet) at (now route) (f .stops) (now sets) (f .marks) ⌝ }
+    requires { ⌜ Ready (now sheet) at (now route) (f .stops) (now sets) (f .marks) × ByNode (jobIn (now sheet)) (at .jobs) (now jobs) ⌝ }
     ensures { λ r. ⌜ ((levels : List ℕ) →
         r ≡ alive van (dayOf (now (sheet .entry))) (planIn (stateWith (now (route .entry)) (now (sets .entry)) levels f))) ⌝ }
 {
-    verdict::alive(sheet, at, van, route, f.stops, sets, f.marks)
+    verdict::alive(sheet, at, jobs, van, route, f.stops, sets, f.marks)
 }

@@ -1,5 +1,8 @@
 pub mod Order
 pub mod Marks
 pub mod Owing
-pub mod Bare
+pub mod Standing
 pub mod Road
+pub mod Pairing
+pub mod Mating
+pub mod Carry

@@ -1,10 +1,11 @@
--- The verdict's parts from arrays: who is called for, who stands, which transfers are in order. `on` says which nodes are on the route.
+-- The verdict's parts: who is joined to whom, who is open, what a route keeps by itself.
 use Prim.Native.Nat.{ℕ}
 use mathlib.Core.Bool.{Bool, true, not, _&&_, _||_}
 use mathlib.Core.List.{List, []}
+use mathlib.Core.Path.{_≡_}
 use lib.Dec.{leb, ltb, eqb}
 use lib.ListN.{getD}
-use Rattle.laws.specs.Basic.{all}
+use Rattle.laws.specs.Basic.{all, mem}
 use Rattle.bits.specs.Places.{has}
 use Rattle.rules.specs.Day.{Day, inner}
 use Rattle.rules.specs.declared.Van.{Van}
@@ -12,52 +13,48 @@ use Rattle.rules.specs.Leg.{everyLeg}
 use Rattle.rules.specs.Time.{onTime, driven}
 use Rattle.rules.specs.Load.{carries}
 use Rattle.rules.specs.Plan.{Plan}
-use Rattle.rules.specs.Verdict.{owed, hasPlace, wrongWay}
+use Rattle.rules.specs.Verdict.{partnered, owed, hasPlace, wrongWay}
+use Rattle.sheet.specs.Place.{Laid}
+use Rattle.sheet.specs.declared.Layout.{Layout}
+use Rattle.day.specs.Refuse.{callRefusal}
+use Rattle.day.specs.Tell.{jobIn}
+use Rattle.along.specs.Route.{Route}
+use Rattle.along.specs.Nodes.{ByNode, Mates}
+use Rattle.verdict.specs.declared.Course.{Course}
 use Rattle.rules.specs.declared.Job.{Job}
 use Rattle.rules.specs.declared.Job.the-variants.{Clean, Soiled, Transfer}
 
--- x has a stop, by the array of all stops
-abbrev pub onSpot : List ℕ → ℕ → Bool
-onSpot a x = ltb (getD a x 64) 64
+-- the job is a transfer between x and y
+abbrev pub joins : ℕ → ℕ → Job → Bool
+joins x y = partnered (λ z. eqb z y) x
 
--- y is marked or on the route, so its partner is owed
-abbrev pub called : (ℕ → Bool) → ℕ → ℕ → Bool
-called on marks y = has marks y || on y
+-- y has an open place
+abbrev pub opened : List ℕ → ℕ → Bool
+opened ws y = not (eqb (getD ws y 0) 0)
 
--- y is on the route or has an open place
-abbrev pub standing : (ℕ → Bool) → List ℕ → ℕ → Bool
-standing on ws y = on y || not (eqb (getD ws y 0) 0)
-
--- x stands if it is marked
-unfoldable pub markKept : (ℕ → Bool) → List ℕ → ℕ → ℕ → Bool
-markKept on ws marks x = not (has marks x) || standing on ws x
-
--- of a transfer, one end stands if the other is called for
-unfoldable pub endsKept : (ℕ → Bool) → List ℕ → ℕ → Job → Bool
-endsKept on ws marks (Clean a w) = true
-endsKept on ws marks (Soiled a w) = true
-endsKept on ws marks (Transfer a b w) = (not (called on marks a) || standing on ws b) && (not (called on marks b) || standing on ws a)
-
--- a transfer's second node does not stand before its first, by the array of all stops
-unfoldable pub orderKept : List ℕ → Job → Bool
-orderKept a (Clean x w) = true
-orderKept a (Soiled x w) = true
-orderKept a (Transfer x y w) = not (ltb (getD a y 64) (getD a x 64) && onSpot a x)
-
--- both, which is what the verdict asks of a job
-abbrev pub jobKept : List ℕ → List ℕ → ℕ → Job → Bool
-jobKept a ws marks j = endsKept (onSpot a) ws marks j && orderKept a j
-
--- a test of the k-th job
-abbrev pub ofJob : (Job → Bool) → (ℕ → Job) → ℕ → Bool
-ofJob f g k = f (g k)
+-- x is open if it is a member
+unfoldable pub memberOpen : List ℕ → ℕ → ℕ → Bool
+memberOpen ws w x = not (has w x) || opened ws x
 
 -- windows and metres: no start of the route is too late, and it is within the limit
 unfoldable pub roadKept : ℕ → Day → List ℕ → Bool
 roadKept limit d l = onTime d [] l && leb (driven d l) limit
 
--- the verdict but for windows and metres: who is owed has a place, no leg is above the capacity, no transfer is in wrong order
-unfoldable pub nodesKept : Van → Day → Plan → Bool
-nodesKept v d a =
-    all (λ x. not (owed d (a .route) (a .marks) x) || hasPlace a x) (inner d) && everyLeg (carries v d) (a .route)
-    && all (λ j. not (wrongWay (a .route) j)) (d .jobs)
+-- ---- with the jobs by node
+
+-- what a walk along a route asks: a sheet that no call refuses, where it has what, a route in an array, and the jobs by node
+pub record Routed (s : List ℕ) (at : Layout) (l : List ℕ) (n : ℕ) (t : List ℕ) : Type 0 where
+  pub clear : callRefusal s ≡ 0
+  pub laid : Laid s at
+  pub route : Route (at .nodes) l n
+  pub jobs : ByNode (jobIn s) (at .jobs) t
+
+-- the loads and the order of the transfers: no leg is above the capacity, no transfer is in wrong order
+unfoldable pub loadKept : Van → Day → List ℕ → Bool
+loadKept v d m = everyLeg (carries v d) m && all (λ j. not (wrongWay m j)) (d .jobs)
+
+-- what hangs on the route m alone: whether it keeps windows, metres, loads and the order of its transfers; its nodes, and their partners
+pub record Coursed (v : Van) (d : Day) (t m : List ℕ) (c : Course) : Type 0 where
+  pub keeps : c .keeps ≡ (roadKept (v .limit) d m && loadKept v d m)
+  pub on : (x : ℕ) → has (c .on) x ≡ mem x m
+  pub called : Mates t (c .on) (c .called)

@@ -1,19 +1,26 @@
 // Who is owed, and the verdict of a state.
 ghost use mathlib.Core.Path.{_≡_};
-ghost use mathlib.Core.Bool.{not};
+ghost use mathlib.Core.Bool.{cond, not, _&&_, _||_};
+ghost use mathlib.Core.List.{List, []};
+ghost use Prim.Native.Nat.{ℕ, _+_, _<_, _≤_};
 ghost use lib.ListN.{getD, length, take};
 ghost use lib.Dec.{eqb};
-ghost use Rattle.laws.specs.Basic.{allBelow};
+ghost use Rattle.laws.specs.Basic.{allBelow, any, mem};
 ghost use Rattle.bits.specs.Places.{has};
-ghost use Rattle.rules.specs.Verdict.{partnered, owed, alive};
+ghost use Rattle.rules.specs.Verdict.{owed, alive};
 ghost use Rattle.sheet.specs.Place.{Laid};
-ghost use Rattle.day.specs.Tell.{jobIn, dayOf};
+ghost use Rattle.day.specs.Tell.{dayOf, jobIn};
+ghost use Rattle.rules.specs.Day.{Day};
 ghost use Rattle.day.specs.Seen.{Placed};
 ghost use Rattle.along.specs.Route.{Route};
 ghost use Rattle.along.specs.Sets.{planFrom};
 ghost use Rattle.along.specs.Ready.{Ready};
-ghost use Rattle.verdict.specs.Verdict.{onSpot, called, standing, markKept, jobKept, roadKept, nodesKept};
-use along::spots::spot;
+ghost use Rattle.verdict.specs.Verdict.{joins, memberOpen, roadKept, loadKept, Routed, Coursed};
+ghost use Rattle.rules.specs.declared.Van.{Van};
+ghost use Rattle.sheet.specs.declared.Layout.{Layout};
+ghost use Rattle.along.specs.Nodes.{ByNode};
+ghost use Rattle.rules.specs.Load.{load};
+use along::nodes::Jobs;
 use along::times::arrive;
 use along::times::in_time;
 use along::times::last_moment;
@@ -22,55 +29,47 @@ use rules::Node;
 use rules::Van;
 use sheet::Layout;
 
-// Whether x is on the route.
-fn placed(spots: &[usize; Node::MOST], x: usize) -> bool
-    requires { ⌜ length (now spots) ≡ 64 ⌝ }
-    ensures { λ r. ⌜ r ≡ onSpot (now (spots .entry)) x ⌝ }
+// Whether two sets have a member in common.
+fn meets(a: u64, b: u64) -> bool
+    ensures { λ r. ⌜ r ≡ not (allBelow 64 (λ p. not (has a p && has b p))) ⌝ }
 {
-    spot(spots, x) < Node::MOST
+    a & b != 0
 }
 
-// Whether y is marked or on the route, so that its partner is owed.
-fn calls(spots: &[usize; Node::MOST], marks: u64, y: usize) -> bool
-    requires { ⌜ length (now spots) ≡ 64 ⌝ }
-    ensures { λ r. ⌜ r ≡ called (onSpot (now (spots .entry))) marks y ⌝ }
-{
-    let marked = bits::has(marks, y);
-    let on = placed(spots, y);
-    marked | on
-}
-
-// Whether the job is a transfer with one end at x, and its other end is marked or on the route.
-fn pairs(job: Job, spots: &[usize; Node::MOST], marks: u64, x: usize) -> bool
-    requires { ⌜ length (now spots) ≡ 64 ⌝ }
-    ensures { λ r. ⌜ r ≡ partnered (called (onSpot (now (spots .entry))) marks) x job ⌝ }
+// The set with the other end of the job too, if it is a transfer with one end at x.
+fn with_partner(job: Job, x: usize, word: u64) -> u64
+    requires { ⌜ Placed job ⌝ }
+    ensures { λ r. ⌜ ((y : ℕ) → has r y ≡ (has word y || joins x y job)) ⌝ }
 {
     match job {
-        Job::Clean { node: _, load: _ } => false,
-        Job::Soiled { node: _, load: _ } => false,
+        Job::Clean { node: _, load: _ } => word,
+        Job::Soiled { node: _, load: _ } => word,
         Job::Transfer { from, to, load: _ } => {
-            let first = calls(spots, marks, from);
-            let second = calls(spots, marks, to);
-            (from == x) & second | (to == x) & first
+            if from == x {
+                return bits::put(word, to);
+            }
+            if to == x {
+                return bits::put(word, from);
+            }
+            word
         },
     }
 }
 
-// Whether a transfer partner of x is marked or on the route.
-fn paired(s: &[u8], at: Layout, spots: &[usize; Node::MOST], marks: u64, x: usize) -> bool
-    requires { ⌜ Laid (now s) at × (length (now spots) ≡ 64) ⌝ }
-    ensures { λ r. ⌜ r ≡ not (allBelow (at .jobs) (λ k. not (partnered (called (onSpot (now (spots .entry))) marks) x (jobIn (now (s .entry)) k)))) ⌝ }
+// The transfer partners of x, as a set: one pass over the jobs, whatever routes and marks they are then held against.
+pub fn partners(s: &[u8], at: Layout, x: usize) -> u64
+    requires { ⌜ Laid (now s) at ⌝ }
+    ensures { λ r. ⌜ ((y : ℕ) → has r y ≡ any (joins x y) (dayOf (now (s .entry)) .jobs)) ⌝ }
 {
     let m = at.jobs;
+    let mut word: u64 = 0;
     let mut j = 0;
     while j < m {
         let job = day::jobs::job(s, at, j);
-        if pairs(job, spots, marks, x) {
-            return true;
-        }
+        word = with_partner(job, x, word);
         j += 1;
     }
-    false
+    word
 }
 
 // The places of x; a number that is no node has none.
@@ -87,52 +86,6 @@ fn is_open(sets: &[u64; Node::MOST], x: usize) -> bool
     ensures { λ r. ⌜ r ≡ not (eqb (getD (now (sets .entry)) x 0) 0) ⌝ }
 {
     bits::count(places(sets, x)) != 0
-}
-
-// Whether x is on the route or has an open place.
-fn stands(spots: &[usize; Node::MOST], sets: &[u64; Node::MOST], x: usize) -> bool
-    requires { ⌜ (length (now spots) ≡ 64) × (length (now sets) ≡ 64) ⌝ }
-    ensures { λ r. ⌜ r ≡ standing (onSpot (now (spots .entry))) (now (sets .entry)) x ⌝ }
-{
-    let on = placed(spots, x);
-    let some = is_open(sets, x);
-    on | some
-}
-
-// Every marked node stands: each is asked, from the least on.
-fn marks_kept(spots: &[usize; Node::MOST], sets: &[u64; Node::MOST], marks: u64) -> bool
-    requires { ⌜ (length (now spots) ≡ 64) × (length (now sets) ≡ 64) ⌝ }
-    ensures { λ r. ⌜ r ≡ allBelow 64 (markKept (onSpot (now (spots .entry))) (now (sets .entry)) marks) ⌝ }
-{
-    let mut left = marks;
-    while left != 0 {
-        let x = bits::lowest(left);
-        if !stands(spots, sets, x) {
-            return false;
-        }
-        left = bits::rest(left);
-    }
-    true
-}
-
-// Of a transfer, one end stands if the other is marked or on the route, and the second node does not stand before the first.
-fn job_kept(job: Job, spots: &[usize; Node::MOST], sets: &[u64; Node::MOST], marks: u64) -> bool
-    requires { ⌜ Placed job × (length (now spots) ≡ 64) × (length (now sets) ≡ 64) ⌝ }
-    ensures { λ r. ⌜ r ≡ jobKept (now (spots .entry)) (now (sets .entry)) marks job ⌝ }
-{
-    match job {
-        Job::Clean { node: _, load: _ } => true,
-        Job::Soiled { node: _, load: _ } => true,
-        Job::Transfer { from, to, load: _ } => {
-            let a = spots[from];
-            let b = spots[to];
-            let first = bits::holds(marks, from) | (a < Node::MOST);
-            let second = bits::holds(marks, to) | (b < Node::MOST);
-            let after = (b < Node::MOST) | (bits::count(sets[to]) != 0);
-            let before = (a < Node::MOST) | (bits::count(sets[from]) != 0);
-            (!first | after) & (!second | before) & !((b < a) & (a < Node::MOST))
-        },
-    }
 }
 
 // Windows and metres in one pass along the route: no start is too late, and the legs are together within the limit. The first start need not
@@ -164,7 +117,20 @@ fn on_the_road(
     total <= limit
 }
 
-// Whether x is owed: unplaced, and marked or with a transfer partner that is marked or on the route.
+// Whether x, whose transfer partners are given, is owed: unplaced, and marked or with a partner that is marked or on the route.
+pub fn owes(route: &[usize; Node::MOST], stops: usize, marks: u64, partners: u64, x: usize) -> bool
+    requires { ⌜ (length (now route) ≡ 64) × (stops ≤ 64) × ((i : ℕ) → i < stops → getD (now route) i 0 < 64) ⌝ }
+    ensures { λ r. ⌜ ((d : Day) → ((y : ℕ) → has partners y ≡ any (joins x y) (d .jobs))
+        → r ≡ owed d (take stops (now (route .entry))) (has marks) x) ⌝ }
+{
+    let on = along::spots::word(route, stops);
+    let placed = bits::has(on, x);
+    let marked = bits::has(marks, x);
+    let pair = meets(partners, bits::join(marks, on));
+    !placed & (marked | pair)
+}
+
+// Whether x is owed.
 pub fn owed(
     s: &[u8],
     at: Layout,
@@ -176,70 +142,168 @@ pub fn owed(
     requires { ⌜ Laid (now s) at × Route (at .nodes) (now route) stops ⌝ }
     ensures { λ r. ⌜ r ≡ owed (dayOf (now (s .entry))) (take stops (now (route .entry))) (has marks) x ⌝ }
 {
-    let mut spots = [Node::MOST; Node::MOST];
-    along::spots::spots(route, stops, &mut spots);
-    let on = placed(&spots, x);
-    let marked = bits::has(marks, x);
-    let pair = paired(s, at, &spots, marks, x);
-    !on & (marked | pair)
+    let pair = partners(s, at, x);
+    owes(route, stops, marks, pair, x)
 }
 
-// What the nodes have to keep: who is owed has a place, no load is too large and no transfer in wrong order. One pass over the jobs asks of each
-// whether it is kept, and has its load come aboard and go off.
-fn nodes_kept(
+// What comes aboard at x: its soiled load, and that of the transfer that begins there, if it ends on the route.
+fn comes(t: &[usize; Jobs::ROOM], x: usize, ends: bool) -> usize
+    requires { ⌜ (length (now t) ≡ 320) × (x < 64) × ((i : ℕ) → getD (now t) i 0 < 4398046511104) ⌝ }
+    ensures { λ r. ⌜ r ≡ getD (now (t .entry)) (64 + x) 0 + cond ends (getD (now (t .entry)) (128 + x) 0) 0 ⌝ }
+{
+    let soiled = t[Jobs::SOILED + x];
+    if ends {
+        soiled + t[Jobs::FIRST + x]
+    } else {
+        soiled
+    }
+}
+
+// What goes off at x: its clean load, and that of the transfer that ends there, if it has begun.
+fn goes(t: &[usize; Jobs::ROOM], x: usize, begun: bool) -> usize
+    requires { ⌜ (length (now t) ≡ 320) × (x < 64) × ((i : ℕ) → getD (now t) i 0 < 4398046511104) ⌝ }
+    ensures { λ r. ⌜ r ≡ getD (now (t .entry)) x 0 + cond begun (getD (now (t .entry)) (192 + x) 0) 0 ⌝ }
+{
+    let clean = t[x];
+    if begun {
+        clean + t[Jobs::SECOND + x]
+    } else {
+        clean
+    }
+}
+
+// What is aboard before the first stop: the clean load of every stop.
+fn at_start(
     s: &[u8],
     at: Layout,
+    t: &[usize; Jobs::ROOM],
+    route: &[usize; Node::MOST],
+    stops: usize,
+) -> usize
+    requires { ⌜ Routed (now s) at (now route) stops (now t) ⌝ }
+    ensures { λ r. ⌜ (r ≡ load (dayOf (now (s .entry))) [] (take stops (now (route .entry)))) × (r ≤ 281474976710656) ⌝ }
+{
+    let mut sum = 0;
+    let mut i = 0;
+    while i < stops {
+        let x = route[i];
+        sum += t[x];
+        i += 1;
+    }
+    sum
+}
+
+// The loads and the order of the transfers in one pass along the route, where `on` has its nodes. A transfer in wrong order shows where it begins.
+fn carried(
+    s: &[u8],
+    at: Layout,
+    t: &[usize; Jobs::ROOM],
     van: Van,
     route: &[usize; Node::MOST],
     stops: usize,
-    sets: &[u64; Node::MOST],
-    marks: u64,
+    on: u64,
 ) -> bool
-    requires { ⌜ Ready (now s) at (now route) stops (now sets) marks ⌝ }
-    ensures { λ r. ⌜ r ≡ nodesKept van (dayOf (now (s .entry))) (planFrom (now (route .entry)) stops (now (sets .entry)) marks) ⌝ }
+    requires { ⌜ Routed (now s) at (now route) stops (now t) × ((x : ℕ) → has on x ≡ mem x (take stops (now route))) ⌝ }
+    ensures { λ r. ⌜ r ≡ loadKept van (dayOf (now (s .entry))) (take stops (now (route .entry))) ⌝ }
 {
-    let mut spots = [Node::MOST; Node::MOST];
-    along::spots::spots(route, stops, &mut spots);
-    if !marks_kept(&spots, sets, marks) {
-        return false;
+    let mut aboard = at_start(s, at, t, route, stops);
+    let mut seen: u64 = 0;
+    let mut i = 0;
+    while i < stops {
+        let x = route[i];
+        let other = t[Jobs::PARTNER + x];
+        let begun = bits::holds(seen, other);
+        if begun & (t[Jobs::FIRST + x] != 0) {
+            return false;
+        }
+        let up = comes(t, x, bits::holds(on, other));
+        let down = goes(t, x, begun);
+        aboard = aboard + up - down;
+        i += 1;
+        if (i < stops) & (van.capacity < aboard) {
+            return false;
+        }
+        seen = bits::put(seen, x);
     }
-    let mut on = [0usize; Node::MOST];
-    let mut off = [0usize; Node::MOST];
-    let m = at.jobs;
-    let mut first = 0;
-    let mut ok = true;
-    let mut j = 0;
-    while j < m {
-        let job = day::jobs::job(s, at, j);
-        first += along::loads::stow(job, &spots, &mut on, &mut off);
-        ok = ok & job_kept(job, &spots, sets, marks);
-        j += 1;
-    }
-    if !ok {
-        return false;
-    }
-    let highest = along::loads::run(&mut on, &off, first, stops);
-    highest <= van.capacity
+    true
 }
 
-// The verdict of a state in form. Where nothing is placed and nothing marked, no node is owed and nothing is aboard: no job is looked at.
+// Every member of a set has an open place: each is asked, from the least on.
+fn all_open(sets: &[u64; Node::MOST], members: u64) -> bool
+    requires { ⌜ length (now sets) ≡ 64 ⌝ }
+    ensures { λ r. ⌜ r ≡ allBelow 64 (memberOpen (now (sets .entry)) members) ⌝ }
+{
+    let mut left = members;
+    while left != 0 {
+        let x = bits::lowest(left);
+        if !is_open(sets, x) {
+            return false;
+        }
+        left = bits::rest(left);
+    }
+    true
+}
+
+// What hangs on a van's route alone, and stands while the route does.
+pub struct Course {
+    pub keeps: bool,
+    pub on: u64,
+    pub called: u64,
+}
+
+// Whether the route keeps windows, metres, loads and the order of its transfers; its nodes, and their partners.
+pub fn sound(
+    s: &[u8],
+    at: Layout,
+    t: &[usize; Jobs::ROOM],
+    van: Van,
+    route: &[usize; Node::MOST],
+    stops: usize,
+) -> Course
+    requires { ⌜ Routed (now s) at (now route) stops (now t) ⌝ }
+    ensures { λ r. ⌜ Coursed van (dayOf (now (s .entry))) (now (t .entry)) (take stops (now (route .entry))) r ⌝ }
+{
+    let on = along::spots::word(route, stops);
+    let called = along::nodes::partners_of(t, on);
+    let road = on_the_road(s, at, van.limit, route, stops);
+    let load = carried(s, at, t, van, route, stops, on);
+    Course {
+        keeps: road & load,
+        on: on,
+        called: called,
+    }
+}
+
+// The verdict of a state whose route has the course: who is marked, and who is a partner of a node marked or on the route, is on it or open.
+pub fn stand(t: &[usize; Jobs::ROOM], sets: &[u64; Node::MOST], marks: u64, course: Course) -> bool
+    requires { ⌜ (length (now t) ≡ 320) × ((x : ℕ) → x < 64 → getD (now t) (256 + x) 0 < 64) × (length (now sets) ≡ 64) ⌝ }
+    ensures { λ r. ⌜ ((v : Van) (s : List ℕ) (at : Layout) (l : List ℕ) (n : ℕ) → Ready s at l n (now (sets .entry)) marks
+        → ByNode (jobIn s) (at .jobs) (now (t .entry)) → Coursed v (dayOf s) (now (t .entry)) (take n l) course
+        → r ≡ alive v (dayOf s) (planFrom l n (now (sets .entry)) marks)) ⌝ }
+{
+    if !course.keeps {
+        return false;
+    }
+    let paired = along::nodes::partners_of(t, marks);
+    let owing = bits::join(marks, bits::join(course.called, paired));
+    let left = bits::minus(owing, course.on);
+    all_open(sets, left)
+}
+
+// The verdict of a state in form.
 pub fn alive<'a>(
     s: &[u8],
     at: Layout,
+    t: &[usize; Jobs::ROOM],
     van: Van,
     route: &'a [usize; Node::MOST],
     stops: usize,
     sets: &'a [u64; Node::MOST],
     marks: u64,
 ) -> bool
-    requires { ⌜ Ready (now s) at (now route) stops (now sets) marks ⌝ }
+    requires { ⌜ Ready (now s) at (now route) stops (now sets) marks × ByNode (jobIn (now s)) (at .jobs) (now t) ⌝ }
     ensures { λ r. ⌜ r ≡ alive van (dayOf (now (s .entry))) (planFrom (now (route .entry)) stops (now (sets .entry)) marks) ⌝ }
 {
-    if !on_the_road(s, at, van.limit, route, stops) {
-        return false;
-    }
-    if (stops == 2) & (marks == 0) {
-        return true;
-    }
-    nodes_kept(s, at, van, route, stops, sets, marks)
+    let way = sound(s, at, t, van, route, stops);
+    stand(t, sets, marks, way)
 }

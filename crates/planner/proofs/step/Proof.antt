@@ -1,159 +1,223 @@
-use mathlib.Core.Path.{_≡_, refl, sym, ap, ap₂, subst, _∙_}
-use mathlib.Core.Bool.{true}
-use mathlib.Core.List.{List}
-use Prim.Native.Nat.{ℕ}
+use mathlib.Core.Path.{_≡_, refl, sym, ap, _∙_}
+use mathlib.Core.Bool.{cond}
+use Prim.Native.Nat.{ℕ, _≤_, _-_}
 use native.Mathlib.Omega.{arith}
-use lib.Dec.{eqb, leb}
-use Rattle.laws.specs.Basic.{allBelow}
-use Rattle.trail.specs.Trail.{roomOf}
-use lib.ListN.{length}
-use borrow.Author.Tests.{eqb-true, eqb-false, not-true, not-false}
-use Rattle.laws.proofs.Logic.{decided}
-use Rattle.rules.specs.Numbers.{mostVans, stepSaid}
-use Rattle.rules.specs.declared.Step.{Step}
-use Rattle.sheet.specs.Section.{nOf, vansOf}
-use Rattle.sheet.specs.Place.{Laid}
-use Rattle.sheet.proofs.PlaceLaws.{found-answer}
-use Rattle.day.specs.Refuse.{callRefusal}
-use Rattle.day.specs.Tell.{dayOf, vanOf}
-use Rattle.day.proofs.RefuseLaws.{call-laid}
-use Rattle.fleet.specs.Fleet.{stateIn, trailIn, HeldAll}
-use Rattle.fleet.specs.Form.{inFormAll, formWithAll}
-use Rattle.fleet.specs.Rows.{fleetWith, Rows}
+use lib.Dec.{ltb}
+use borrow.Author.Tests.{eq-eqb, ne-eqb}
+use Rattle.board.specs.Fresh.{noState}
+use Rattle.fleet.specs.Fleet.{fleetOf, stateIn, HeldAll}
+use Rattle.fleet.specs.Rows.{rowState}
 use Rattle.fleet.specs.declared.Fleet.{Fleet}
 use Rattle.fleet.proofs.Told.{is-held-all}
-use Rattle.turns.specs.Together.{RanAll}
-use Rattle.turns.specs.Act.{actAll}
-use Rattle.turns.specs.Known.{Did}
-use Rattle.planner.specs.Face.{askRefusal, stepOf}
-use Rattle.planner.proofs.AskLaws.{sized, asked}
-use Rattle.planner.proofs.TakenLaws.{refused-asked, refused-room, room-found, form-both, rows-known, done-refused, done-taken}
+use Rattle.fleet.proofs.FleetLaws.{fleetMade, state-any}
+use Rattle.fleet.proofs.RowLaws.{Turned, turned-none, turned-more, turned-all}
+use Rattle.turns.specs.Together.{actedAll}
+use Rattle.planner.specs.Asked.{TakenIn}
+use Rattle.planner.proofs.TakeLaws.{Taking, taking-none, taking-more, taking-all}
 use borrow.Author.Needs.{needs}
 use Rattle.planner.proofs.step.Statement.{statement}
 use Rattle.planner.proofs.step.Tie as tie
 
-asks : (c : tie.After-ask) → let a = c .before .before .before .before .before .before .before .args in c .ask .result .answer ≡ askRefusal (a .sheet .now) (a .fleet)
-asks c = c .ask .ensures _ (c .before .before .before .before .checked .ensures) .0
+abbrev Inv-loop : tie.InvT-loop
+Inv-loop sheet trail word first second routes₀ sets₀ levels₀ figures₀ read v vans idle₀ j₀ routes sets levels figures idle j =
+    (j ≤ 8) × Taking (fleetMade vans) v j routes sets levels figures idle
 
--- what is known once nothing is refused
-clear : (c : tie.After-ask) → c .ask .result .answer ≡ 0 → let a = c .before .before .before .before .before .before .before .args in
-    (callRefusal (a .sheet .now) ≡ 0) × (inFormAll (nOf (a .sheet .now)) (vansOf (a .sheet .now)) (a .fleet) ≡ true)
-clear c z = asked _ _ (sym (asks c) ∙ z)
+abbrev μ-loop : tie.MeasureT-loop
+μ-loop sheet trail word first second routes₀ sets₀ levels₀ figures₀ read v vans idle₀ j₀ routes sets levels figures idle j = 8 - j
 
-laid : (c : tie.After-ask) → c .ask .result .answer ≡ 0 → let k = c .before .before .before .before in Laid (k .before .before .before .args .sheet .now) (k .checked .result .layout)
-laid c z = let e = c .before .before .before .before .checked .ensures in call-laid _ e (found-answer _ _ e ∙ clear c z .0)
+-- the first j vans are put back
+abbrev Inv-loop2 : tie.InvT-loop2
+Inv-loop2 sheet trail word first second routes sets levels figures v vans₀ idle j₀ o rounds vans j =
+    (j ≤ v) × (v ≤ 8) × Turned 8 (rowState routes sets levels figures) (stateIn (fleetMade vans₀)) noState j vans
 
-held : (c : tie.After-ask) → HeldAll (c .before .before .before .before .before .before .before .args .fleet)
-held c = is-held-all _ _ (c .before .before .before .before .before .before .before .good .1 .0)
+abbrev μ-loop2 : tie.MeasureT-loop2
+μ-loop2 sheet trail word first second routes sets levels figures v vans₀ idle j₀ o rounds vans j = v - j
 
--- the rows have the fleet
-rows : (c : tie.After-ask) → c .ask .result .answer ≡ 0
-    → (fleetWith (c .ask .last .1 .1 .0) (c .ask .last .1 .1 .1 .0) (c .ask .last .1 .1 .1 .1 .0) (c .ask .result .figures) ≡ c .before .before .before .before .before .before .before .args .fleet)
-    × Rows (c .ask .last .1 .1 .0) × Rows (c .ask .last .1 .1 .1 .0) × Rows (c .ask .last .1 .1 .1 .1 .0) × (length (c .ask .result .figures) ≡ mostVans)
-rows c z = c .ask .ensures _ (c .before .before .before .before .checked .ensures) .1 z
+held : (c : tie.Start Inv-loop μ-loop Inv-loop2 μ-loop2) → HeldAll (c .args .fleet)
+held c = is-held-all _ _ (c .good .1 .0)
 
--- the room, and the form with it
-found : (w : tie.After-within-room) → let a = w .before .before .before .before .before .before .before .before .before .before .before .before .args in
-    w .within-room .result ≡ allBelow (vansOf (a .sheet .now)) (λ j. leb (stateIn (a .fleet) j .records) (roomOf (trailIn (vansOf (a .sheet .now)) (a .trail .now) j)))
-found w =
-    let e = w .before .before .before in
-    let o = e .before .before in
-    let r = rows o (e .if1 .left) in
-    room-found (laid o (e .if1 .left)) _ _ _ (r .0) (w .within-room .ensures (o .ask .last .1 .1 .0) (o .ask .last .1 .1 .1 .0) (o .ask .last .1 .1 .1 .1 .0))
-
-formed : (c : tie.Else2) → let a = c .before .before .before .before .before .before .before .before .before .before .before .before .before .args in formWithAll (nOf (a .sheet .now)) (vansOf (a .sheet .now)) (a .fleet) (a .trail .now) ≡ true
-formed c =
-    let w = c .before in
-    let e = w .before .before .before in
-    let o = e .before .before in
-    let r = rows o (e .if1 .left) in
-    form-both (laid o (e .if1 .left)) _ _ _ (r .0) (w .within-room .ensures (o .ask .last .1 .1 .0) (o .ask .last .1 .1 .1 .0) (o .ask .last .1 .1 .1 .1 .0))
-    (clear o (e .if1 .left) .1) (not-false _ (c .if2 .left))
-
-checked-requires : tie.Need-checked-requires
+checked-requires : tie.Need-checked-requires Inv-loop μ-loop Inv-loop2 μ-loop2
 checked-requires c κs = search needs
 
-ask-requires : tie.Need-ask-requires
-ask-requires c κs =
-    let k = c .before .before .before in
-    (refl, refl, refl, is-held-all _ _ (k .before .before .before .good .1 .0), λ z. sized (call-laid _ (k .checked .ensures) z))
+loop-holds : tie.Need-loop-holds Inv-loop μ-loop Inv-loop2 μ-loop2
+loop-holds c = (omega arith, taking-none _ _ refl refl refl refl)
 
-refused-requires : tie.Need-refused-requires
-refused-requires c κs = search needs
+mul-s : tie.Need-mul-s Inv-loop μ-loop Inv-loop2 μ-loop2
+mul-s c = omega arith
 
-returns : tie.Need-returns
-returns c =
-    let e = c .before in
-    refused-asked _ _ _ _ _ _ (asks (e .before .before)) (e .if1 .taken) ∙ sym (c .refused .ensures _)
+array-copy-out-s : tie.Need-array-copy-out-s Inv-loop μ-loop Inv-loop2 μ-loop2
+array-copy-out-s c = omega arith
 
-div-within-room : tie.Need-div-within-room
-div-within-room c =
-    let e = c .before .before in
-    omega (arith, sized (laid (e .before .before) (e .if1 .left)) .some)
+mul-take-in : tie.Need-mul-take-in Inv-loop μ-loop Inv-loop2 μ-loop2
+mul-take-in c = omega arith
 
-within-room-requires : tie.Need-within-room-requires
-within-room-requires c κs =
-    let e = c .before .before in
-    let o = e .before .before in
-    (sized (laid o (e .if1 .left)) .most, rows o (e .if1 .left) .4)
+index-1-take-in : tie.Need-index-1-take-in Inv-loop μ-loop Inv-loop2 μ-loop2
+index-1-take-in c = omega arith
 
-refused-requires-2 : tie.Need-refused-requires-2
-refused-requires-2 c κs = search needs
+mul-take-in-2 : tie.Need-mul-take-in-2 Inv-loop μ-loop Inv-loop2 μ-loop2
+mul-take-in-2 c = omega arith
 
-returns-2 : tie.Need-returns-2
-returns-2 c =
-    let w = c .before .before in
-    let e = w .before .before .before in
-    let o = e .before .before in
-    let r = rows o (e .if1 .left) in
-    refused-room _ _ _ _ _ _ (sym (asks o) ∙ e .if1 .left) (found w) (not-true _ (c .before .if2 .taken)) ∙ sym (c .refused2 .ensures _)
+index-1-take-in-2 : tie.Need-index-1-take-in-2 Inv-loop μ-loop Inv-loop2 μ-loop2
+index-1-take-in-2 c = omega arith
 
-said-requires : tie.Need-said-requires
-said-requires c κs = search needs
+mul-take-in-3 : tie.Need-mul-take-in-3 Inv-loop μ-loop Inv-loop2 μ-loop2
+mul-take-in-3 c = omega arith
 
-act-requires : tie.Need-act-requires
-act-requires c κs =
-    let w = c .before .before .before .before .before .before in
-    let e = w .before .before .before in
-    let o = e .before .before in
-    let r = rows o (e .if1 .left) in
-    rows-known _ _ _ _ _ _ _ (clear o (e .if1 .left) .0) (laid o (e .if1 .left)) (held o) (formed (c .before .before .before .before .before)) (r .0) (r .1, r .2, r .3, r .4)
+index-1-take-in-3 : tie.Need-index-1-take-in-3 Inv-loop μ-loop Inv-loop2 μ-loop2
+index-1-take-in-3 c = omega arith
 
-outcome-requires : tie.Need-outcome-requires
-outcome-requires c κs = let e = c .before .before .before .before .before .before .before .before .before .before .before .before .before .before .before in sized (laid (e .before .before) (e .if1 .left)) .most
+mul-take-in-4 : tie.Need-mul-take-in-4 Inv-loop μ-loop Inv-loop2 μ-loop2
+mul-take-in-4 c = omega arith
 
-same-length : tie.Need-same-length
+index-1-take-in-4 : tie.Need-index-1-take-in-4 Inv-loop μ-loop Inv-loop2 μ-loop2
+index-1-take-in-4 c = omega arith
+
+take-in-requires : tie.Need-take-in-requires Inv-loop μ-loop Inv-loop2 μ-loop2
+take-in-requires c κs = let l = c .before .before .before .before .before .before .loop in l .inv .1 .rows .3 .wide (l .j) (omega arith)
+
+add-j : tie.Need-add-j Inv-loop μ-loop Inv-loop2 μ-loop2
+add-j c = omega arith
+
+loop-less : tie.Need-loop-less Inv-loop μ-loop Inv-loop2 μ-loop2
+loop-less c = omega arith
+
+loop-again : tie.Need-loop-again Inv-loop μ-loop Inv-loop2 μ-loop2
+loop-again c =
+    let a = c .before .before .before .before .before .before .before in
+    let h = held (a .before .before .before .before .before) in
+    let e = c .take-in .ensures in
+    (omega arith, taking-more _ _ _ (a .loop .inv .1) (omega arith) h (state-any _ (a .loop .j) _ (h .eight) (omega arith)) _ _ _ _ (e .1) (e .2) (e .0))
+
+-- the rows, once all are taken
+taken : (c : tie.After-loop Inv-loop μ-loop Inv-loop2 μ-loop2) → let l = c .before .loop in let k = c .before .before .before in
+    TakenIn (k .before .before .before .args .fleet) (k .checked .result .layout .vans) (l .routes) (l .sets) (l .levels) (l .figures) (l .idle)
+taken c = taking-all (c .before .loop .inv .1) (omega arith) (held (c .before .before .before .before .before .before))
+
+turn-requires : tie.Need-turn-requires Inv-loop μ-loop Inv-loop2 μ-loop2
+turn-requires c κs =
+    let l = c .before .before .before .before .before in
+    (l .before .before .before .checked .ensures, (l .before .before .before .before .before .before .args .fleet, taken l))
+
+loop2-holds : tie.Need-loop2-holds Inv-loop μ-loop Inv-loop2 μ-loop2
+unfolding stateIn
+loop2-holds c =
+    let k = c .before .before .before .before in
+    let d = k .before .before .before .before .before .before .before .before .before .before .before .before in
+    (omega arith, k .turn .ensures .1 (c .if1 .taken), turned-none 8 _ _ noState (d .args .fleet .vans) (held d .eight) (λ i h. refl))
+
+mul-pack : tie.Need-mul-pack Inv-loop μ-loop Inv-loop2 μ-loop2
+mul-pack c = omega arith
+
+index-1-pack : tie.Need-index-1-pack Inv-loop μ-loop Inv-loop2 μ-loop2
+index-1-pack c = omega arith
+
+mul-pack-2 : tie.Need-mul-pack-2 Inv-loop μ-loop Inv-loop2 μ-loop2
+mul-pack-2 c = omega arith
+
+index-1-pack-2 : tie.Need-index-1-pack-2 Inv-loop μ-loop Inv-loop2 μ-loop2
+index-1-pack-2 c = omega arith
+
+mul-pack-3 : tie.Need-mul-pack-3 Inv-loop μ-loop Inv-loop2 μ-loop2
+mul-pack-3 c = omega arith
+
+index-1-pack-3 : tie.Need-index-1-pack-3 Inv-loop μ-loop Inv-loop2 μ-loop2
+index-1-pack-3 c = omega arith
+
+mul-pack-4 : tie.Need-mul-pack-4 Inv-loop μ-loop Inv-loop2 μ-loop2
+mul-pack-4 c = omega arith
+
+index-1-pack-4 : tie.Need-index-1-pack-4 Inv-loop μ-loop Inv-loop2 μ-loop2
+index-1-pack-4 c = omega arith
+
+pack-requires : tie.Need-pack-requires Inv-loop μ-loop Inv-loop2 μ-loop2
+pack-requires c κs =
+    let i = c .before .before .before .before .before in
+    i .before .before .before .before .before .turn .ensures .0 .wide (i .loop2 .j) (omega arith)
+
+mul-vans : tie.Need-mul-vans Inv-loop μ-loop Inv-loop2 μ-loop2
+mul-vans c = omega arith
+
+array-set-from-vans : tie.Need-array-set-from-vans Inv-loop μ-loop Inv-loop2 μ-loop2
+array-set-from-vans c = omega arith
+
+add-j-2 : tie.Need-add-j-2 Inv-loop μ-loop Inv-loop2 μ-loop2
+add-j-2 c = omega arith
+
+loop2-less : tie.Need-loop2-less Inv-loop μ-loop Inv-loop2 μ-loop2
+loop2-less c = omega arith
+
+loop2-again : tie.Need-loop2-again Inv-loop μ-loop Inv-loop2 μ-loop2
+loop2-again c =
+    let i = c .before .before .before .before .before .before .loop2 .inv in
+    (omega arith, i .1, turned-more _ (i .2) (omega arith) (c .pack .ensures))
+
+same-length : tie.Need-same-length Inv-loop μ-loop Inv-loop2 μ-loop2
 same-length c = search needs
 
-returns-3 : tie.Need-returns-3
-returns-3 c =
-    let x = c .before .before .before .before .before .before in
-    let s = x .before .before .before .before .before in
-    let n = s .before in
-    let e = n .before .before .before .before in
-    let o = e .before .before in
-    let a = o .before .before .before .before .before .before .before .args in
-    let r = rows o (e .if1 .left) in
-    let did = subst (λ (want : RanAll). Did want (x .act .result) (x .act .last .1 .1 .0) (x .act .last .1 .1 .1 .0) (x .act .last .1 .1 .1 .1 .0) (x .act .last .1 .1 .1 .1 .1 .1 .0))
-    (ap₂ (λ (f : Fleet) (step : Step). actAll (vanOf (a .sheet .now)) (dayOf (a .sheet .now)) (vansOf (a .sheet .now)) f (a .trail .now) step) (r .0) (s .said .ensures)) (x .act .ensures) in
-    decided (eqb (x .act .result .answer) 0)
-    (λ q. done-taken _ _ _ (clear o (e .if1 .left) .0) (laid o (e .if1 .left)) (held o) (formed n) _ _ _ _ _ _ _ _ did (eqb-true _ _ q) ∙ sym (rw q at (c .outcome .ensures (x .act .last .1 .1 .1 .1 .1 .1 .0))))
-    (λ q. done-refused _ _ _ (clear o (e .if1 .left) .0) (laid o (e .if1 .left)) (held o) (formed n) _ _ _ _ _ _ _ _ did (eqb-false _ _ q) ∙ sym (rw q at (c .outcome .ensures (x .act .last .1 .1 .1 .1 .1 .1 .0))))
+returns : tie.Need-returns Inv-loop μ-loop Inv-loop2 μ-loop2
+returns c =
+    let i = c .before .loop2 in
+    let z = c .before .before .if1 .taken in
+    let k = c .before .before .before .before .before .before in
+    let l = k .before .before .before .before .before .before in
+    let a = l .before .before .before .before .before .before .args in
+    let v = l .before .before .before .checked .result .layout .vans in
+    let e : i .j ≡ v = omega arith in
+    let row = rowState (k .turn .last .1 .1 .1 .0) (k .turn .last .1 .1 .1 .1 .0) (k .turn .last .1 .1 .1 .1 .1 .0) (k .turn .last .1 .1 .1 .1 .1 .1 .0) in
+    let back : fleetOf (λ j. cond (ltb j v) (row j) (stateIn (a .fleet) j)) ≡ fleetMade (i .vans) =
+    ap (λ (m : ℕ). fleetOf (λ j. cond (ltb j m) (row j) (stateIn (a .fleet) j))) (sym e) ∙ sym (ap fleetMade (turned-all (i .inv .2))) in
+    rw z (rw (eq-eqb _ _ z) at (k .turn .ensures .2 (a .fleet) (taken l)) ∙ ap (λ (f : Fleet). actedAll 0 (k .turn .result .rounds) f (k .turn .last .1 .1 .1 .1 .1 .1 .1 .0)) back)
+
+same-length-2 : tie.Need-same-length-2 Inv-loop μ-loop Inv-loop2 μ-loop2
+same-length-2 c = search needs
+
+returns-2 : tie.Need-returns-2 Inv-loop μ-loop Inv-loop2 μ-loop2
+returns-2 c =
+    let k = c .before .before .before .before in
+    let l = k .before .before .before .before .before .before in
+    rw (ne-eqb _ _ (c .if1 .left)) at (k .turn .ensures .2 (l .before .before .before .before .before .before .args .fleet) (taken l))
 
 pub step-spec : {M : Type 1} → statement M
 step-spec =
     tie.close
     (tie.spec
+    Inv-loop
+    μ-loop
+    Inv-loop2
+    μ-loop2
     checked-requires
-    ask-requires
-    refused-requires
-    returns
-    div-within-room
-    within-room-requires
-    refused-requires-2
-    returns-2
-    said-requires
-    act-requires
-    outcome-requires
+    loop-holds
+    mul-s
+    array-copy-out-s
+    mul-take-in
+    index-1-take-in
+    mul-take-in-2
+    index-1-take-in-2
+    mul-take-in-3
+    index-1-take-in-3
+    mul-take-in-4
+    index-1-take-in-4
+    take-in-requires
+    add-j
+    loop-less
+    loop-again
+    turn-requires
+    loop2-holds
+    mul-pack
+    index-1-pack
+    mul-pack-2
+    index-1-pack-2
+    mul-pack-3
+    index-1-pack-3
+    mul-pack-4
+    index-1-pack-4
+    pack-requires
+    mul-vans
+    array-set-from-vans
+    add-j-2
+    loop2-less
+    loop2-again
     same-length
-    returns-3)
+    returns
+    same-length-2
+    returns-2)

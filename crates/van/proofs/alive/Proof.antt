@@ -4,7 +4,7 @@ use Rattle.van.proofs.alive.Statement.{statement}
 use Rattle.van.proofs.alive.Tie as tie
 
 alive-requires : tie.Need-alive-requires
-alive-requires c κs = search needs
+alive-requires c κs = let p = c .before .pre in (p .0, p .1)
 
 returns : tie.Need-returns
 unfolding routeOf openAt setOf

@@ -1,17 +1,15 @@
 use borrow.Author.Needs.{needs}
 use native.Mathlib.Omega.{arith}
 use Prim.Native.Nat.{_+_, _-_, _≤_}
-use lib.IntN.{pos}
 use Rattle.laws.proofs.Table.{filled-none, filled-more}
 use Rattle.laws.specs.Basic.{Filled}
 use Rattle.sheet.specs.Word.{wordAt}
-use Rattle.day.proofs.RowLaws.{row-clear, entry-low}
-use Rattle.day.proofs.Signed.{entry-fits, entry-back}
+use Rattle.day.proofs.RowLaws.{row-clear}
 use Rattle.day.proofs.tables.read_row.Statement.{statement}
 use Rattle.day.proofs.tables.read_row.Tie as tie
 
 abbrev Inv-loop : tie.InvT-loop
-Inv-loop s at n i row₀ k₀ row k = (k ≤ n) × Filled 64 (λ q. pos (wordAt s (at + q))) (pos 0) k row
+Inv-loop s at n i row₀ k₀ row k = (k ≤ n) × Filled 64 (λ q. wordAt s (at + q)) 0 k row
 
 abbrev μ-loop : tie.MeasureT-loop
 μ-loop s at n i row₀ k₀ row k = n - k
@@ -25,14 +23,11 @@ add-word c = search needs
 word-requires : tie.Need-word-requires Inv-loop μ-loop
 word-requires c κs = search needs
 
-cast-row : tie.Need-cast-row Inv-loop μ-loop
-cast-row c = entry-fits (entry-low _ _ _ _ (c .before .before .before .before .pre .1) (c .before .loop-test .taken)) (c .word .ensures .is)
+mul-row : tie.Need-mul-row Inv-loop μ-loop
+mul-row c = search needs
 
-mul-t11 : tie.Need-mul-t11 Inv-loop μ-loop
-mul-t11 c = search needs
-
-element-set-from-row : tie.Need-element-set-from-row Inv-loop μ-loop
-element-set-from-row c = let l = c .before .before .loop .inv .1 .long in omega arith
+element-write-row : tie.Need-element-write-row Inv-loop μ-loop
+element-write-row c = search needs
 
 add-k : tie.Need-add-k Inv-loop μ-loop
 add-k c = search needs
@@ -41,15 +36,13 @@ loop-less : tie.Need-loop-less Inv-loop μ-loop
 loop-less c = search needs
 
 loop-again : tie.Need-loop-again Inv-loop μ-loop
-loop-again c =
-    let e = entry-back (entry-low _ _ _ _ (c .before .before .before .before .pre .1) (c .before .loop-test .taken)) (c .word .ensures .is) in
-    (omega arith, filled-more _ (c .before .before .loop .inv .1) (omega arith) e)
+loop-again c = (omega arith, filled-more _ (c .before .before .loop .inv .1) (omega arith) (c .word .ensures .is))
 
-mul-row : tie.Need-mul-row Inv-loop μ-loop
-mul-row c = search needs
+mul-row-2 : tie.Need-mul-row-2 Inv-loop μ-loop
+mul-row-2 c = search needs
 
-element-set-of-row : tie.Need-element-set-of-row Inv-loop μ-loop
-element-set-of-row c = let l = c .before .loop .inv .1 .long in omega arith
+element-write-row-2 : tie.Need-element-write-row-2 Inv-loop μ-loop
+element-write-row-2 c = search needs
 
 returns : tie.Need-returns Inv-loop μ-loop
 returns c = row-clear _ _ _ (omega arith) (c .loop-test .left) (c .before .loop .inv .1)
@@ -63,12 +56,11 @@ read-row-spec =
     loop-holds
     add-word
     word-requires
-    cast-row
-    mul-t11
-    element-set-from-row
+    mul-row
+    element-write-row
     add-k
     loop-less
     loop-again
-    mul-row
-    element-set-of-row
+    mul-row-2
+    element-write-row-2
     returns)

@@ -1,18 +1,19 @@
 use native.Mathlib.Omega.{arith}
-use mathlib.Core.Path.{_≡_, refl}
+use mathlib.Core.Path.{_≡_, refl, _∙_}
 use mathlib.Core.Bool.{true}
 use Prim.Native.Nat.{_-_, _≤_}
 use lib.ListN.{length}
 use Rattle.laws.proofs.Below.{below-none, below-stops, below-goes, below-done}
 use Rattle.laws.specs.Basic.{allBelow}
-use Rattle.rules.specs.Day.{shortestRow, triangle}
+use Rattle.day.specs.Row.{bothLines}
 use Rattle.day.specs.Tell.{cell}
 use borrow.Author.Needs.{needs}
+use Rattle.day.proofs.RowLaws.{pairs-all}
 use Rattle.day.proofs.tables.triangle_ok.Statement.{statement}
 use Rattle.day.proofs.tables.triangle_ok.Tie as tie
 
 abbrev Inv-loop : tie.InvT-loop
-Inv-loop s from n row₀ i₀ row i = (i ≤ n) × (length row ≡ 64) × (allBelow i (shortestRow n (cell s from n)) ≡ true)
+Inv-loop s from n row₀ i₀ row i = (i ≤ n) × (length row ≡ 64) × (allBelow i (λ q. allBelow q (bothLines n (cell s from n) q)) ≡ true)
 
 abbrev μ-loop : tie.MeasureT-loop
 μ-loop s from n row₀ i₀ row i = n - i
@@ -24,8 +25,7 @@ row-ok-requires : tie.Need-row-ok-requires Inv-loop μ-loop
 row-ok-requires c κs = search needs
 
 returns : tie.Need-returns Inv-loop μ-loop
-unfolding triangle
-returns c = below-stops _ _ _ (c .before .before .before .loop-test .taken) (c .before .row-ok .ensures .0) (c .if1 .taken)
+returns c = below-stops _ _ _ (c .before .before .before .loop-test .taken) (c .before .row-ok .ensures .0) (c .if1 .taken) ∙ pairs-all _ _
 
 add-i : tie.Need-add-i Inv-loop μ-loop
 add-i c = omega arith
@@ -38,8 +38,7 @@ loop-again c =
     let r = c .before .row-ok .ensures in (omega arith, r .1, below-goes _ _ (c .before .before .before .before .loop .inv .2) (r .0) (c .if1 .left))
 
 returns-2 : tie.Need-returns-2 Inv-loop μ-loop
-unfolding triangle
-returns-2 c = below-done _ _ _ (c .before .loop .inv .0) (c .loop-test .left) (c .before .loop .inv .2)
+returns-2 c = below-done _ _ _ (c .before .loop .inv .0) (c .loop-test .left) (c .before .loop .inv .2) ∙ pairs-all _ _
 
 pub triangle-ok-spec : {M : Type 1} → statement M
 triangle-ok-spec =

@@ -1,124 +1,153 @@
 use mathlib.Core.Path.{_≡_, refl, sym, _∙_}
-use Prim.Native.Nat.{_-_, _*_, _≤_}
+use mathlib.Core.List.{List}
+use Prim.Native.Nat.{ℕ, _-_, _*_, _≤_}
 use native.Mathlib.Omega.{arith}
-use lib.ListN.{length, getD}
+use lib.ListN.{length}
 use Rattle.bits.proofs.Members.{false-true}
-use Rattle.board.specs.Fresh.{noFigures}
-use Rattle.fleet.specs.Rows.{fleetWith, Rows}
+use Rattle.fleet.specs.Rows.{fleetWith, RowsOf, Rows, Figured}
+use Rattle.fleet.specs.declared.Fleet.{Fleet}
 use Rattle.listing.specs.Put.{Put}
 use Rattle.listing.proofs.TextLaws.{step-takes}
 use Rattle.dock.specs.Listing.{comeTo, linesOf, Reached, ToldAll}
-use Rattle.dock.proofs.Reach.{begun, readied, goes-on, line-is, row-records, summing, serving, told-on}
+use Rattle.dock.proofs.VanLaws.{told-none}
+use Rattle.dock.proofs.Reach.{begun, readied, goes-on, line-is, summing, serving, told-on}
 use Rattle.dock.proofs.LineLaws.{come-none, come-next, lines-none, lines-next}
 use borrow.Author.Needs.{needs}
 use Rattle.dock.proofs.lines.put_lines.Statement.{statement}
 use Rattle.dock.proofs.lines.put_lines.Tie as tie
 
 abbrev Inv-loop : tie.InvT-loop
-Inv-loop sheet at routes₀ sets₀ levels₀ trail₀ out₀ told₀ after₀ used₀ i₀ routes sets levels trail out told after used i =
+Inv-loop sheet at jobs routes₀ sets₀ levels₀ figures₀ trail₀ out₀ told₀ used₀ i₀ routes sets levels figures trail out told used i =
     (i ≤ at .steps) × (used ≤ 200 * i) × (length out ≡ length out₀) × (length trail ≡ length trail₀) × Put out₀ 0 (linesOf sheet trail₀ i) used out
-    × (comeTo sheet trail₀ i ≡ (fleetWith routes sets levels after, trail)) × Reached sheet (fleetWith routes sets levels after) trail
-    × ToldAll sheet (fleetWith routes sets levels after) told × Rows routes × Rows sets × Rows levels
+    × (comeTo sheet trail₀ i ≡ (fleetWith routes sets levels figures, trail)) × Reached sheet (fleetWith routes sets levels figures) trail
+    × ToldAll sheet (fleetWith routes sets levels figures) told × RowsOf 3 told × (Rows routes × Rows sets × Rows levels × Figured figures)
 
 abbrev μ-loop : tie.MeasureT-loop
-μ-loop sheet at routes₀ sets₀ levels₀ trail₀ out₀ told₀ after₀ used₀ i₀ routes sets levels trail out told after used i =
+μ-loop sheet at jobs routes₀ sets₀ levels₀ figures₀ trail₀ out₀ told₀ used₀ i₀ routes sets levels figures trail out told used i =
     at .steps - i
 
 tell-vans-requires : tie.Need-tell-vans-requires Inv-loop μ-loop
 tell-vans-requires c κs =
-    let d = c .before .before .before .before .before in
+    let d = c .before .before .before .before .before .before .before in
     let a = d .args in
-    (readied (d .pre .0 .0) (d .pre .0 .1) (a .routes .now) (a .sets .now) (a .levels .now) (a .figures) (begun (a .trail .now) (d .pre .1)), refl)
+    (readied (d .pre .0 .0) (d .pre .0 .1) (a .routes .now) (a .sets .now) (a .levels .now) (a .figures .now) (d .pre .1 .0 .3) (begun (a .trail .now) (d .pre .1 .1)), told-none, d .pre .0 .3)
 
 loop-holds : tie.Need-loop-holds Inv-loop μ-loop
 loop-holds c =
-    let d = c .before .before .before .before .before .before in
+    let d = c .before .before .before .before .before .before .before .before in
     let a = d .args in
-    (omega arith, omega arith, refl, refl, lines-none _ _ _, come-none _ _ (d .pre .1), begun (a .trail .now) (d .pre .1), c .tell-vans .ensures (a .levels .now) (λ j h e same. absurd (false-true (sym e))), d .pre .0 .3, d .pre .0 .4, d .pre .0 .5)
+    let e = d .pre .1 .1 in (
+      omega arith,
+      omega arith,
+      refl,
+      refl,
+      lines-none _ _ _,
+      come-none _ _ e,
+      begun (a .trail .now) e,
+      c .tell-vans .ensures .1 (a .levels .now) (λ j h n same. absurd (false-true (sym n))),
+      c .tell-vans .ensures .0,
+      d .pre .1 .0,
+    )
+
+-- ---- the rows as the step leaves them
+
+abbrev routes-at : tie.After-step-at Inv-loop μ-loop → List (List ℕ)
+routes-at c = c .step-at .last .1 .1 .1 .0
+
+abbrev sets-at : tie.After-step-at Inv-loop μ-loop → List (List ℕ)
+sets-at c = c .step-at .last .1 .1 .1 .1 .0
+
+abbrev levels-at : tie.After-step-at Inv-loop μ-loop → List (List ℕ)
+levels-at c = c .step-at .last .1 .1 .1 .1 .1 .0
+
+abbrev figures-at : tie.After-step-at Inv-loop μ-loop → List (List ℕ)
+figures-at c = c .step-at .last .1 .1 .1 .1 .1 .1 .0
+
+abbrev fleet-at : tie.After-step-at Inv-loop μ-loop → Fleet
+fleet-at c = fleetWith (routes-at c) (sets-at c) (levels-at c) (figures-at c)
+
+-- where the function began
+abbrev start : tie.After-step-at Inv-loop μ-loop → tie.Start Inv-loop μ-loop
+start c = c .before .before .before .before .before .before .before .before .before .before .before .before .before .before .before .before .before
 
 -- the fleet after the step was reached too
-on : (c : tie.After-step-at Inv-loop μ-loop) → let d = c .before .before .before .before .before .before .before .before .before .before .before .before .before .before in
-    Reached (d .args .sheet .now) (fleetWith (c .step-at .last .1 .1 .1 .0) (c .step-at .last .1 .1 .1 .1 .0) (c .step-at .last .1 .1 .1 .1 .1 .0) (c .step-at .result .after)) (c .step-at .last .1 .1 .1 .1 .1 .1 .1 .0)
+on : (c : tie.After-step-at Inv-loop μ-loop) → Reached (start c .args .sheet .now) (fleet-at c) (c .step-at .last .1 .1 .1 .1 .1 .1 .1 .0)
 on c =
-    let l = c .before .before .before .before .before .before .before in
-    goes-on (l .before .before .before .before .before .before .before .pre .0 .0) (l .loop .inv .6) _ _ _ (c .step-at .ensures .0)
+    let l = c .before .before .before .before .before .before .before .before in
+    goes-on (start c .pre .0 .0) (l .loop .inv .6) _ _ _ (c .step-at .ensures .0)
 
 -- and the vans are told
-told : (c : tie.After-tell-vans2 Inv-loop μ-loop) → let p = c .before .before .before .before .before .before in
-    ToldAll (p .before .before .before .before .before .before .before .before .before .before .before .before .before .before .args .sheet .now) (fleetWith (p .step-at .last .1 .1 .1 .0) (p .step-at .last .1 .1 .1 .1 .0) (p .step-at .last .1 .1 .1 .1 .1 .0) (p .step-at .result .after)) (c .tell-vans2 .result)
+told : (c : tie.After-tell-vans2 Inv-loop μ-loop) → let p = c .before .before .before .before .before .before .before in ToldAll (start p .args .sheet .now) (fleet-at p) (c .tell-vans2 .last .1 .1 .1 .1 .1 .1 .1 .0)
 told c =
-    let p = c .before .before .before .before .before .before in
-    let l = p .before .before .before .before .before .before .before in
-    let d = l .before .before .before .before .before .before .before in
+    let p = c .before .before .before .before .before .before .before in
+    let d = start p in
+    let l = p .before .before .before .before .before .before .before .before in
     let v = l .loop in
-    c .tell-vans2 .ensures (p .step-at .last .1 .1 .1 .1 .1 .0)
-    (λ j h e same. told-on (d .pre .0 .0) (d .pre .0 .1) (v .routes) (v .sets) (v .levels) (v .after) (v .inv .6) _ _ _
-    (p .step-at .last .1 .1 .1 .0) (p .step-at .last .1 .1 .1 .1 .0) (p .step-at .last .1 .1 .1 .1 .1 .0) (p .step-at .result .after) (p .step-at .ensures .0) (v .inv .7) j h same)
+    c .tell-vans2 .ensures .1 (levels-at p)
+    (λ j h e same. told-on (d .pre .0 .0) (d .pre .0 .1) (v .routes) (v .sets) (v .levels) (v .figures) (v .inv .9 .3) (v .inv .6) _ _ _
+    (routes-at p) (sets-at p) (levels-at p) (figures-at p) (p .step-at .ensures .0) (v .inv .7) j h same)
 
 step-at-requires : tie.Need-step-at-requires Inv-loop μ-loop
 step-at-requires c κs =
-    let t = c .before .before .before .before in
+    let t = c .before .before .before .before .before in
     let l = t .before .before in
-    let d = l .before .before .before .before .before .before .before in
-    let v = l .loop .inv in
-    ((d .pre .0 .0, d .pre .0 .1, t .if1 .taken, v .8, v .9, v .10), v .6)
+    let d = l .before .before .before .before .before .before .before .before .before in
+    ((d .pre .0 .0, d .pre .0 .1, t .if1 .taken), (l .loop .inv .9, l .loop .inv .6))
 
 tell-vans-requires-2 : tie.Need-tell-vans-requires-2 Inv-loop μ-loop
 tell-vans-requires-2 c κs =
-    let p = c .before .before .before .before .before in
-    let l = p .before .before .before .before .before .before .before in
-    let d = l .before .before .before .before .before .before .before in
-    (readied (d .pre .0 .0) (d .pre .0 .1) (p .step-at .last .1 .1 .1 .0) (p .step-at .last .1 .1 .1 .1 .0) (p .step-at .last .1 .1 .1 .1 .1 .0) (p .step-at .result .after) (on p), l .loop .inv .7 .eight)
+    let p = c .before .before .before .before .before .before in
+    let d = start p in
+    let l = p .before .before .before .before .before .before .before .before in
+    (readied (d .pre .0 .0) (d .pre .0 .1) (routes-at p) (sets-at p) (levels-at p) (figures-at p) (p .step-at .ensures .1 .3) (on p), l .loop .inv .8, d .pre .0 .3)
 
 sum-up-requires : tie.Need-sum-up-requires Inv-loop μ-loop
 sum-up-requires c κs =
-    let p = c .before .before .before .before .before .before in
-    let d = p .before .before .before .before .before .before .before .before .before .before .before .before .before .before in
-    summing (d .pre .0 .0) (d .pre .0 .1) (p .step-at .last .1 .1 .1 .0) (p .step-at .last .1 .1 .1 .1 .0) (p .step-at .last .1 .1 .1 .1 .1 .0) (p .step-at .result .after) (on p) (told c)
+    let tells = c .before in
+    let p = tells .before .before .before .before .before .before .before in
+    let d = start p in
+    summing (d .pre .0 .0) (d .pre .0 .1) (routes-at p) (sets-at p) (levels-at p) (figures-at p) (p .step-at .ensures .1 .3) (on p) (told tells)
 
 served-requires : tie.Need-served-requires Inv-loop μ-loop
 served-requires c κs =
-    let p = c .before .before .before .before .before .before .before .before .before in
-    let d = p .before .before .before .before .before .before .before .before .before .before .before .before .before .before in
-    serving (d .pre .0 .0) (d .pre .0 .1) (p .step-at .last .1 .1 .1 .0) (p .step-at .last .1 .1 .1 .1 .0) (p .step-at .last .1 .1 .1 .1 .1 .0) (p .step-at .result .after) (on p)
+    let p = c .before .before .before .before .before .before .before .before .before .before .before .before in
+    let d = start p in
+    serving (d .pre .0 .0) (d .pre .0 .1) (routes-at p) (sets-at p) (levels-at p) (figures-at p) (p .step-at .ensures .1 .3) (on p)
 
 put-line-requires : tie.Need-put-line-requires Inv-loop μ-loop
 put-line-requires c κs =
-    let t = c .before .before .before .before .before .before .before .before .before .before .before .before .before .before .before .before in
-    let l = t .before .before in
-    let d = l .before .before .before .before .before .before .before in
-    (omega (arith, t .if1 .taken, d .pre .0 .1 .steps, d .pre .0 .1 .fine .k-high), omega (arith, t .if1 .taken, l .loop .inv .1, l .loop .inv .2, d .pre .0 .2))
+    let p = c .before .before .before .before .before .before .before .before .before .before .before .before .before .before in
+    let d = start p in
+    let t = p .before .before .before .before .before .before in
+    let v = t .before .before .loop .inv in
+    (omega (arith, t .if1 .taken, d .pre .0 .1 .steps, d .pre .0 .1 .fine .k-high), omega (arith, t .if1 .taken, v .1, v .2, d .pre .0 .2))
 
 add-i : tie.Need-add-i Inv-loop μ-loop
 add-i c =
-    let t = c .before .before .before .before .before .before .before .before .before .before .before .before .before .before .before .before .before .before .before in
-    let d = t .before .before .before .before .before .before .before .before .before in
-    omega (arith, t .if1 .taken, d .pre .0 .1 .steps, d .pre .0 .1 .fine .k-high)
+    let p = c .before .before .before .before .before .before .before .before .before .before .before .before .before .before .before .before .before in
+    let t = p .before .before .before .before .before .before in
+    omega (arith, t .if1 .taken, start p .pre .0 .1 .steps, start p .pre .0 .1 .fine .k-high)
 
 loop-less : tie.Need-loop-less Inv-loop μ-loop
 loop-less c =
-    let t = c .before .before .before .before .before .before .before .before .before .before .before .before .before .before .before .before .before .before .before in
+    let t = c .before .before .before .before .before .before .before .before .before .before .before .before .before .before .before .before .before .before .before .before .before .before .before in
     omega (arith, t .if1 .taken)
 
 loop-again : tie.Need-loop-again Inv-loop μ-loop
 loop-again c =
     let q = c .before .before in
     let served = q .before .before in
-    let sums = served .before .before .before in
-    let tells = sums .before in
-    let r = tells .before .before .before .before .before in
+    let sums = served .before .before .before .before in
+    let tells = sums .before .before in
+    let r = tells .before .before .before .before .before .before in
     let p = r .before in
-    let t = p .before .before .before .before .before in
+    let t = p .before .before .before .before .before .before in
     let l = t .before .before in
-    let d = l .before .before .before .before .before .before .before in
-    let z = d .pre .0 .0 in
-    let laid = d .pre .0 .1 in
+    let d = start p in
     let v = l .loop .inv in
     let e = p .step-at .ensures .0 in
     let k = step-takes _ _ _ _ _ _ (q .put-line .ensures) in
-    let line = line-is z (on p) (l .loop .i) (p .step-at .result .answer) (p .step-at .result .rounds) (λ j. getD (p .step-at .result .after) j noFigures .records) (laid .vans) (told tells)
-    (sums .sum-up .ensures) (served .served .ensures (p .step-at .last .1 .1 .1 .1 .1 .0))
-    (row-records z laid (p .step-at .last .1 .1 .1 .0) (p .step-at .last .1 .1 .1 .1 .0) (p .step-at .last .1 .1 .1 .1 .1 .0) (p .step-at .result .after) (on p)) in (
+    let line = line-is (d .pre .0 .0) (on p) (told tells) (l .loop .i) (p .step-at .result .answer) (p .step-at .result .rounds) (d .pre .0 .1 .vans) (sums .sum-up .ensures) (served .served .ensures (levels-at p)) in (
       omega (arith, t .if1 .taken),
       omega (arith, k .0, v .1),
       k .1 ∙ v .2,
@@ -127,9 +156,8 @@ loop-again c =
       come-next _ _ _ (v .5) e,
       on p,
       told tells,
-      p .step-at .ensures .1 .0,
-      p .step-at .ensures .1 .1,
-      p .step-at .ensures .1 .2,
+      tells .tell-vans2 .ensures .0,
+      p .step-at .ensures .1,
     )
 
 same-length : tie.Need-same-length Inv-loop μ-loop
@@ -142,9 +170,9 @@ returns : tie.Need-returns Inv-loop μ-loop
 returns c =
     let l = c .before .before in
     let v = l .loop .inv in
-    let d = l .before .before .before .before .before .before .before in
+    let d = l .before .before .before .before .before .before .before .before .before in
     let e : l .loop .i ≡ d .args .at .steps = omega (arith, v .0, c .if1 .left) in
-    (rw e at (v .4), rw e at (v .5), omega (arith, v .1, v .0), v .8)
+    (rw e at (v .4), rw e at (v .5), omega (arith, v .1, v .0), v .9 .0, v .9 .3)
 
 pub put-lines-spec : {M : Type 1} → statement M
 put-lines-spec =

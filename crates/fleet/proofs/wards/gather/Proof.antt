@@ -4,9 +4,8 @@ use mathlib.Core.List.{List, []}
 use Prim.Native.Nat.{ℕ, _+_, _≤_, _-_}
 use lib.ListN.{getD}
 use Rattle.board.specs.Board.{boardOf}
-use Rattle.board.specs.Fresh.{noFigures}
 use Rattle.board.specs.declared.State.{State}
-use Rattle.fleet.specs.Rows.{rowState, fleetWith}
+use Rattle.fleet.specs.Rows.{figuresIn, rowState, fleetWith}
 use Rattle.fleet.specs.Wards.{HasWards, AddsVan}
 use Rattle.fleet.proofs.FleetLaws.{state-of}
 use Rattle.fleet.proofs.WardLaws.{adds-any, wards-none, wards-more}
@@ -14,34 +13,37 @@ use Rattle.fleet.proofs.wards.gather.Statement.{statement}
 use Rattle.fleet.proofs.wards.gather.Tie as tie
 
 abbrev Inv-loop : tie.InvT-loop
-Inv-loop routes sets n v figures all₀ j₀ all j = (j ≤ v) × (v ≤ 8) × ((levels : List (List ℕ)) → HasWards n j (fleetWith routes sets levels figures) all)
+Inv-loop routes sets figures n v all₀ j₀ all j = (j ≤ v) × (v ≤ 8) × ((levels : List (List ℕ)) → HasWards n j (fleetWith routes sets levels figures) all)
 
 abbrev μ-loop : tie.MeasureT-loop
-μ-loop routes sets n v figures all₀ j₀ all j = v - j
+μ-loop routes sets figures n v all₀ j₀ all j = v - j
 
 -- one van more
-more : (c : tie.After-with-van Inv-loop μ-loop) → let d = c .before .before .before .before .before in let a = d .before .args in (levels : List (List ℕ))
-    → HasWards (a .n) (d .loop .j + 1) (fleetWith (a .routes .now) (a .sets .now) levels (a .t3)) (c .with-van .result)
-unfolding noFigures
+more : (c : tie.After-with-van Inv-loop μ-loop) → let d = c .before .before .before .before .before .before in let a = d .before .args in (levels : List (List ℕ))
+    → HasWards (a .n) (d .loop .j + 1) (fleetWith (a .routes .now) (a .sets .now) levels (a .figures .now)) (c .with-van .result)
 more c levels =
-    let d = c .before .before .before .before .before in
+    let g = c .before .before .before in
+    let d = g .before .before .before in
     let a = d .before .args in
     let j = d .loop .j in
-    let s = rowState (a .routes .now) (a .sets .now) levels (a .t3) in
+    let s = rowState (a .routes .now) (a .sets .now) levels (a .figures .now) in
     let w = d .loop .all in
-    let f = getD (a .t3) j noFigures in
-    let adds = adds-any (a .n) w (getD (a .routes .now) j []) (f .stops) (getD (a .sets .now) j []) (f .marks) (f .must) (c .with-van .result) (c .with-van .ensures) in
-    wards-more (a .n) (d .before .pre .2 j (c .before .before .before .before .loop-test .taken) .0) (fleetWith (a .routes .now) (a .sets .now) levels (a .t3)) j w (c .with-van .result) (d .loop .inv .2 levels)
+    let f = figuresIn (getD (a .figures .now) j []) in
+    let adds = adds-any (a .n) w (getD (a .routes .now) j []) (f .stops) (getD (a .sets .now) j []) (f .marks) (f .must) (c .with-van .result) (rw (g .figures-in .ensures) at (c .with-van .ensures)) in
+    wards-more (a .n) (d .before .pre .1 j (g .before .before .loop-test .taken) .0) (fleetWith (a .routes .now) (a .sets .now) levels (a .figures .now)) j w (c .with-van .result) (d .loop .inv .2 levels)
     (subst (λ (x : State). AddsVan (a .n) w (boardOf x) (c .with-van .result)) (sym (state-of s j (omega arith))) adds)
 
 loop-holds : tie.Need-loop-holds Inv-loop μ-loop
-loop-holds c = (omega arith, c .pre .0, λ levels. wards-none (c .args .n) (fleetWith (c .args .routes .now) (c .args .sets .now) levels (c .args .t3)))
+loop-holds c = (omega arith, c .pre .0 .0, λ levels. wards-none (c .args .n) (fleetWith (c .args .routes .now) (c .args .sets .now) levels (c .args .figures .now)))
 
-mul-f : tie.Need-mul-f Inv-loop μ-loop
-mul-f c = omega arith
+mul-figures-in : tie.Need-mul-figures-in Inv-loop μ-loop
+mul-figures-in c = omega arith
 
-array-copy-out-f : tie.Need-array-copy-out-f Inv-loop μ-loop
-array-copy-out-f c = omega arith
+index-1-figures-in : tie.Need-index-1-figures-in Inv-loop μ-loop
+index-1-figures-in c = omega arith
+
+figures-in-requires : tie.Need-figures-in-requires Inv-loop μ-loop
+figures-in-requires c κs = let d = c .before .before in d .before .pre .0 .2 .wide (d .loop .j) (omega arith)
 
 mul-with-van : tie.Need-mul-with-van Inv-loop μ-loop
 mul-with-van c = omega arith
@@ -56,8 +58,10 @@ index-1-with-van-2 : tie.Need-index-1-with-van-2 Inv-loop μ-loop
 index-1-with-van-2 c = omega arith
 
 with-van-requires : tie.Need-with-van-requires Inv-loop μ-loop
-unfolding noFigures
-with-van-requires c κs = let d = c .before .before .before .before in (d .before .pre .1, d .before .pre .2 (d .loop .j) (c .before .before .before .loop-test .taken))
+with-van-requires c κs =
+    let g = c .before .before in
+    let d = g .before .before .before in
+    (d .before .pre .0 .1, rw (g .figures-in .ensures) (d .before .pre .1 (d .loop .j) (g .before .before .loop-test .taken)))
 
 add-j : tie.Need-add-j Inv-loop μ-loop
 add-j c = omega arith
@@ -66,14 +70,14 @@ loop-less : tie.Need-loop-less Inv-loop μ-loop
 loop-less c = omega arith
 
 loop-again : tie.Need-loop-again Inv-loop μ-loop
-loop-again c = let v = c .before .before .before .before .before .loop .inv in (omega arith, v .1, λ levels. more c levels)
+loop-again c = let v = c .before .before .before .before .before .before .loop .inv in (omega arith, v .1, λ levels. more c levels)
 
 returns : tie.Need-returns Inv-loop μ-loop
 returns c =
     let v = c .before .loop .inv in
     let a = c .before .before .args in
     let e : c .before .loop .j ≡ a .v = omega arith in
-    λ levels. subst (λ (i : ℕ). HasWards (a .n) i (fleetWith (a .routes .now) (a .sets .now) levels (a .t3)) (c .before .loop .all)) e (v .2 levels)
+    λ levels. subst (λ (i : ℕ). HasWards (a .n) i (fleetWith (a .routes .now) (a .sets .now) levels (a .figures .now)) (c .before .loop .all)) e (v .2 levels)
 
 pub gather-spec : {M : Type 1} → statement M
 gather-spec =
@@ -82,8 +86,9 @@ gather-spec =
     Inv-loop
     μ-loop
     loop-holds
-    mul-f
-    array-copy-out-f
+    mul-figures-in
+    index-1-figures-in
+    figures-in-requires
     mul-with-van
     index-1-with-van
     mul-with-van-2

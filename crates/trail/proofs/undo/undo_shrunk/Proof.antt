@@ -1,15 +1,16 @@
+use borrow.Author.Needs.{needs}
 use mathlib.Core.Path.{_≡_, refl, sym, _∙_}
 use mathlib.Core.Bool.{true, not, _&&_}
-use Prim.Native.Nat.{_<_}
+use mathlib.Core.List.{List}
+use Prim.Native.Nat.{ℕ, _<_}
+use native.Mathlib.Omega.{arith}
 use borrow.Author.Tests.{not-true, not-false}
 use Rattle.rules.specs.Day.{isInner}
-use Rattle.rules.proofs.Inner.{is-inner}
-use Rattle.board.specs.Board.{board, legsOf, setOf}
-use Rattle.board.specs.Change.{putSet}
+use Rattle.board.specs.Board.{Board}
 use Rattle.trail.specs.Undo.{fitsShrunk}
-use Rattle.trail.proofs.UndoLaws.{undone-no, undone-yes, shrunk-out, shrunk-test}
-use borrow.Author.Needs.{needs}
-use native.Mathlib.Omega.{arith}
+use Rattle.trail.specs.Undoing.{Undoing}
+use Rattle.trail.proofs.UndoLaws.{undone-no, undone-yes, shrunk-out}
+use Rattle.trail.proofs.UndoingLaws.{undoing-shrunk, inner-low, test-shrunk, follows-by}
 use Rattle.trail.proofs.undo.undo_shrunk.Statement.{statement}
 use Rattle.trail.proofs.undo.undo_shrunk.Tie as tie
 
@@ -17,26 +18,25 @@ node : (c : tie.Else1) → isInner (c .before .before .args .n) (c .before .befo
 node c = sym (c .before .inner .ensures) ∙ not-false _ (c .if1 .left)
 
 low : (c : tie.Else1) → c .before .before .args .x < 64
-low c = omega (arith, is-inner _ _ (node c) .1, c .before .before .pre .0 .small)
+low c = inner-low _ _ _ _ _ _ (c .before .before .pre .3) _ (node c)
 
-fits-is : (c : tie.After-grows) → let a = c .before .before .before .before .before .args in
-    fitsShrunk (a .n) (board (a .route .now) (a .stops) (a .sets .now) (a .marks) (a .must)) (a .x) (a .w) ≡ not (c .before .has .result) && c .grows .result
-unfolding legsOf setOf
-fits-is c =
-    let e = c .before .before .before in
-    let p = e .before .before .pre in
-    shrunk-test _ _ _ _ (p .0) (node e) ∙ rw (c .grows .ensures, c .before .has .ensures, p .1) refl
+fits-is : (c : tie.After-grows) (b : Board) (next last : List ℕ) → let a = c .before .before .before .before .before .before .args in
+    Undoing (a .n) b (a .u) next last (a .sets .now) → fitsShrunk (a .n) b (a .x) (a .w) ≡ not (c .before .before .has .result) && c .grows .result
+fits-is c b next last h =
+    let k = c .before .cut-set .ensures in
+    test-shrunk _ _ _ _ _ _ h _ _ (node (c .before .before .before .before)) (k .1) ∙ rw (c .grows .ensures, k .0, c .before .before .has .ensures) refl
 
 inner-requires : tie.Need-inner-requires
 inner-requires c κs = search needs
 
+misfit-requires : tie.Need-misfit-requires
+misfit-requires c κs = search needs
+
 returns : tie.Need-returns
 returns c =
     let t = c .before in
-    undone-no _ _ (shrunk-out _ _ _ _ (sym (t .before .inner .ensures) ∙ not-true _ (t .if1 .taken))) ∙ sym (c .misfit .ensures _ _)
-
-misfit-requires : tie.Need-misfit-requires
-misfit-requires c κs = search needs
+    λ b next last h.
+    follows-by _ _ _ _ _ (undone-no _ _ (shrunk-out _ _ _ _ (sym (t .before .inner .ensures) ∙ not-true _ (t .if1 .taken)))) (c .misfit .ensures _ _ _ _ _ h)
 
 mul-v : tie.Need-mul-v
 mul-v c = omega (arith, low c)
@@ -47,24 +47,31 @@ element-copy-out-v c = low c
 has-requires : tie.Need-has-requires
 has-requires c κs = search needs
 
+cut-set-requires : tie.Need-cut-set-requires
+cut-set-requires c κs = search needs
+
 grows-requires : tie.Need-grows-requires
 grows-requires c κs = search needs
-
-returns-2 : tie.Need-returns-2
-returns-2 c = let t = c .before in undone-no _ _ (fits-is (t .before) ∙ not-true _ (t .if2 .taken)) ∙ sym (c .misfit2 .ensures _ _)
 
 misfit-requires-2 : tie.Need-misfit-requires-2
 misfit-requires-2 c κs = search needs
 
+returns-2 : tie.Need-returns-2
+returns-2 c =
+    let t = c .before in
+    λ b next last h. follows-by _ _ _ _ _ (undone-no _ _ (fits-is (t .before) b next last h ∙ not-true _ (t .if2 .taken))) (c .misfit2 .ensures _ _ _ _ _ h)
+
 mul-sets : tie.Need-mul-sets
-mul-sets c = omega (arith, low (c .before .before .before .before))
+mul-sets c = omega (arith, low (c .before .before .before .before .before))
 
 element-write-sets : tie.Need-element-write-sets
-element-write-sets c = low (c .before .before .before .before)
+element-write-sets c = low (c .before .before .before .before .before)
 
 returns-3 : tie.Need-returns-3
-unfolding putSet
-returns-3 c = undone-yes _ _ (fits-is (c .before) ∙ not-false _ (c .if2 .left))
+returns-3 c =
+    λ b next last h.
+    let e = fits-is (c .before) b next last h ∙ not-false _ (c .if2 .left) in
+    follows-by _ _ _ _ _ (undone-yes _ _ e) (refl, undoing-shrunk _ _ _ _ _ _ h _ _ (c .before .before .before .before .before .before .before .fits .w .fits) e)
 
 pub undo-shrunk-spec : {M : Type 1} → statement M
 undo-shrunk-spec =
@@ -76,6 +83,7 @@ undo-shrunk-spec =
     mul-v
     element-copy-out-v
     has-requires
+    cut-set-requires
     grows-requires
     misfit-requires-2
     returns-2

@@ -6,7 +6,6 @@ use Rattle.rules.specs.Numbers.{mostVans}
 use Rattle.rules.proofs.Inner.{is-inner}
 use Rattle.sheet.specs.Section.{nOf, vansOf}
 use Rattle.day.specs.Tell.{dayOf}
-use Rattle.board.specs.Fresh.{noFigures}
 use Rattle.trail.specs.Refusals.{placeShut}
 use Rattle.trail.proofs.StepLaws.{not-shut}
 use Rattle.fleet.specs.Fleet.{boardIn}
@@ -18,65 +17,70 @@ use Rattle.turns.proofs.bars.place_bar.Statement.{statement}
 use Rattle.turns.proofs.bars.place_bar.Tie as tie
 use Rattle.turns.proofs.bars.place_bar.Reads as reads
 use Rattle.turns.proofs.bars.place_bar.Lts as lts
+use Rattle.fleet.proofs.rows.figures_in.Reads as figures-in-reads
 use Rattle.trail.proofs.refusals.place_shut.Reads as place-shut-reads
 use Rattle.turns.proofs.bars.has_room.Reads as has-room-reads
 use Rattle.turns.proofs.bars.is_claimed.Reads as is-claimed-reads
 
 -- the fleet of the rows
 abbrev fleet : tie.Start → List (List ℕ) → Fleet
-fleet d levels = fleetWith (d .args .routes .now) (d .args .sets .now) levels (d .args .t5)
+fleet d levels = fleetWith (d .args .routes .now) (d .args .sets .now) levels (d .args .figures .now)
 
 -- the named van is one of eight
 low : (d : tie.Start) → d .args .van < mostVans
-low d = omega (arith, d .pre .3, d .pre .0 .laid .fine .vans-high)
+low d = omega (arith, d .pre .2, d .pre .0 .laid .fine .vans-high)
 
 abbrev Asked : Type 0
-Asked = lts.After-place-shut (place-shut-reads.Asked, place-shut-reads.Learnt, is-claimed-reads.Asked, is-claimed-reads.Learnt, has-room-reads.Asked, has-room-reads.Learnt) reads.Pre reads.Post
+Asked = lts.After-place-shut (figures-in-reads.Asked, figures-in-reads.Learnt, place-shut-reads.Asked, place-shut-reads.Learnt, is-claimed-reads.Asked, is-claimed-reads.Learnt, has-room-reads.Asked, has-room-reads.Learnt) reads.Pre reads.Post
 
 -- what was asked of the place
 shut : (k : Asked) (levels : List (List ℕ))
-    → let d = k .before .before .before .before .before in k .place-shut .result ≡ placeShut (nOf (d .args .sheet .now)) (boardIn (fleet d levels) (d .args .van)) (d .args .p) (d .args .x)
-unfolding noFigures
+    → let d = k .before .before .before .before .before .before in k .place-shut .result ≡ placeShut (nOf (d .args .sheet .now)) (boardIn (fleet d levels) (d .args .van)) (d .args .p) (d .args .x)
 shut k levels =
-    let d = k .before .before .before .before .before in
-    shut-row (d .args .routes .now) (d .args .sets .now) levels (d .args .t5) (d .args .van) (d .args .p) (d .args .x) (d .pre .0 .laid .nodes) (low d) (k .place-shut .ensures)
+    let d = k .before .before .before .before .before .before in
+    shut-row (d .args .routes .now) (d .args .sets .now) levels (d .args .figures .now) (d .args .van) (d .args .p) (d .args .x) (d .pre .0 .laid .nodes) (low d) (rw (k .before .before .before .figures-in .ensures) at (k .place-shut .ensures))
 
-mul-f : tie.Need-mul-f
-mul-f c = omega (arith, low (c .before))
+mul-figures-in : tie.Need-mul-figures-in
+mul-figures-in c = omega (arith, low (c .before))
 
-array-copy-out-f : tie.Need-array-copy-out-f
-array-copy-out-f c = low (c .before)
+index-1-figures-in : tie.Need-index-1-figures-in
+index-1-figures-in c = low (c .before)
+
+figures-in-requires : tie.Need-figures-in-requires
+figures-in-requires c κs = let d = c .before .before in d .pre .0 .figured .wide (d .args .van) (low d)
 
 mul-place-shut : tie.Need-mul-place-shut
-mul-place-shut c = omega (arith, low (c .before .before))
+mul-place-shut c = omega (arith, low (c .before .before .before))
 
 index-1-place-shut : tie.Need-index-1-place-shut
-index-1-place-shut c = low (c .before .before)
+index-1-place-shut c = low (c .before .before .before)
 
 mul-place-shut-2 : tie.Need-mul-place-shut-2
-mul-place-shut-2 c = omega (arith, low (c .before .before .before))
+mul-place-shut-2 c = omega (arith, low (c .before .before .before .before))
 
 index-1-place-shut-2 : tie.Need-index-1-place-shut-2
-index-1-place-shut-2 c = low (c .before .before .before)
+index-1-place-shut-2 c = low (c .before .before .before .before)
 
 place-shut-requires : tie.Need-place-shut-requires
-unfolding noFigures
-place-shut-requires c κs = let d = c .before .before .before .before in readable-row (d .args .van) (d .pre .0) (d .pre .3)
+place-shut-requires c κs =
+    let g = c .before .before in
+    let d = g .before .before .before in
+    rw (g .figures-in .ensures) (readable-row (d .args .van) (d .pre .0) (d .pre .2))
 
 returns : tie.Need-returns
 returns c = λ levels t h.
     let k = c .before in
-    let d = k .before .before .before .before .before in
+    let d = k .before .before .before .before .before .before in
     bar-shut (dayOf (d .args .sheet .now)) (vansOf (d .args .sheet .now)) (fleet d levels) t (d .args .van) (d .args .p) (d .args .x) (shut k levels) (c .if1 .taken)
 
 is-claimed-requires : tie.Need-is-claimed-requires
-is-claimed-requires c κs = search needs
+is-claimed-requires c κs = let d = c .before .before .before .before .before .before .before in (d .pre .0, d .pre .2)
 
 returns-2 : tie.Need-returns-2
 returns-2 c = λ levels t h.
     let o = c .before .before in
     let k = o .before in
-    let d = k .before .before .before .before .before in
+    let d = k .before .before .before .before .before .before in
     bar-claimed (dayOf (d .args .sheet .now)) (vansOf (d .args .sheet .now)) (fleet d levels) t (d .args .van) (d .args .p) (d .args .x) (sym (shut k levels) ∙ o .if1 .left)
     (sym (c .before .is-claimed .ensures levels) ∙ c .if2 .taken)
 
@@ -84,10 +88,10 @@ has-room-requires : tie.Need-has-room-requires
 has-room-requires c κs =
     let o = c .before .before in
     let k = o .before in
-    let d = k .before .before .before .before .before in
+    let d = k .before .before .before .before .before .before in
     let l = d .pre .0 .laid in
     let split = not-shut (nOf (d .args .sheet .now)) (boardIn (fleet d (d .args .sets .now)) (d .args .van)) (d .args .p) (d .args .x) (sym (shut k (d .args .sets .now)) ∙ o .if1 .left) in
-    (omega (arith, l .vans, l .fine .vans-high), omega (arith, is-inner (nOf (d .args .sheet .now)) (d .args .x) (split .0 .node) .1, l .fine .n-high), d .pre .1, d .pre .2)
+    (omega (arith, l .vans, l .fine .vans-high), omega (arith, is-inner (nOf (d .args .sheet .now)) (d .args .x) (split .0 .node) .1, l .fine .n-high), d .pre .1, d .pre .0 .figured)
 
 returns-3 : tie.Need-returns-3
 returns-3 c = λ levels t h.
@@ -95,10 +99,10 @@ returns-3 c = λ levels t h.
     let m = r .before in
     let o = m .before .before in
     let k = o .before in
-    let d = k .before .before .before .before .before in
+    let d = k .before .before .before .before .before .before in
     bar-room (dayOf (d .args .sheet .now)) (vansOf (d .args .sheet .now)) (fleet d levels) t (d .args .van) (d .args .p) (d .args .x) (sym (shut k levels) ∙ o .if1 .left)
     (sym (m .before .is-claimed .ensures levels) ∙ m .if2 .left)
-    (sym (c .if3 .taken) ∙ room-vans (d .args .sets .now) (d .args .t5) (d .args .room) (d .args .van) (d .args .x) (d .pre .0 .laid .vans) (r .has-room .ensures) (d .args .routes .now) levels t h)
+    (sym (c .if3 .taken) ∙ room-vans (d .args .sets .now) (d .args .figures .now) (d .args .room) (d .args .van) (d .args .x) (d .pre .0 .laid .vans) (r .has-room .ensures) (d .args .routes .now) levels t h)
 
 returns-4 : tie.Need-returns-4
 returns-4 c = λ levels t h.
@@ -106,17 +110,18 @@ returns-4 c = λ levels t h.
     let m = r .before in
     let o = m .before .before in
     let k = o .before in
-    let d = k .before .before .before .before .before in
+    let d = k .before .before .before .before .before .before in
     bar-room (dayOf (d .args .sheet .now)) (vansOf (d .args .sheet .now)) (fleet d levels) t (d .args .van) (d .args .p) (d .args .x) (sym (shut k levels) ∙ o .if1 .left)
     (sym (m .before .is-claimed .ensures levels) ∙ m .if2 .left)
-    (sym (c .if3 .left) ∙ room-vans (d .args .sets .now) (d .args .t5) (d .args .room) (d .args .van) (d .args .x) (d .pre .0 .laid .vans) (r .has-room .ensures) (d .args .routes .now) levels t h)
+    (sym (c .if3 .left) ∙ room-vans (d .args .sets .now) (d .args .figures .now) (d .args .room) (d .args .van) (d .args .x) (d .pre .0 .laid .vans) (r .has-room .ensures) (d .args .routes .now) levels t h)
 
 pub place-bar-spec : {M : Type 1} → statement M
 place-bar-spec =
     tie.close
     (tie.spec
-    mul-f
-    array-copy-out-f
+    mul-figures-in
+    index-1-figures-in
+    figures-in-requires
     mul-place-shut
     index-1-place-shut
     mul-place-shut-2

@@ -4,7 +4,6 @@ use Prim.Native.Nat.{ℕ, _+_, _-_, _*_, _≤_, _<_}
 use native.Mathlib.Omega.{arith}
 use lib.ListN.{length}
 use Rattle.laws.proofs.Below.{flag-done}
-use Rattle.board.specs.Fresh.{noFigures}
 use Rattle.fleet.specs.Fleet.{shareOf}
 use Rattle.fleet.specs.Rows.{fleetWith}
 use Rattle.fleet.proofs.FleetLaws.{part-fits}
@@ -15,124 +14,120 @@ use Rattle.turns.proofs.each.each.Tie as tie
 use Rattle.turns.proofs.each.each.Reads as reads
 use Rattle.turns.proofs.each.each.Lts as lts
 use Rattle.turns.proofs.each.turn.Reads as turn-reads
+use Rattle.fleet.proofs.rows.figures_in.Reads as figures-in-reads
+use Rattle.fleet.proofs.rows.put_figures.Reads as put-figures-reads
 
 abbrev Inv-loop : tie.InvT-loop
-Inv-loop n v share routes₀ sets₀ levels₀ trail₀ step after₀ fits₀ j₀ routes sets levels trail after fits j =
-    Taken n v step (fleetWith routes₀ sets₀ levels₀ after₀) trail₀ j routes sets levels after trail fits
+Inv-loop n v share routes₀ sets₀ levels₀ figures₀ trail₀ step fits₀ j₀ routes sets levels figures trail fits j =
+    Taken n v step (fleetWith routes₀ sets₀ levels₀ figures₀) trail₀ j routes sets levels figures trail fits
 
 abbrev μ-loop : tie.MeasureT-loop
-μ-loop n v share routes₀ sets₀ levels₀ trail₀ step after₀ fits₀ j₀ routes sets levels trail after fits j = v - j
+μ-loop n v share routes₀ sets₀ levels₀ figures₀ trail₀ step fits₀ j₀ routes sets levels figures trail fits j = v - j
 
 -- van j's words are within the trail
 spot : (v share j : ℕ) (t t′ : List ℕ) → share ≡ shareOf v t → length t′ ≡ length t → j < v → j * share + share ≤ length t′
 spot v share j t t′ e l h = rw (e, l) (part-fits v t j h)
 
 abbrev In-loop : Type 0
-In-loop = lts.In-loop (turn-reads.Asked, turn-reads.Learnt) reads.Pre reads.Post Inv-loop μ-loop
+In-loop = lts.In-loop (figures-in-reads.Asked, figures-in-reads.Learnt, turn-reads.Asked, turn-reads.Learnt, put-figures-reads.Asked, put-figures-reads.Learnt) reads.Pre reads.Post Inv-loop μ-loop
 
 inside : (c : In-loop) → c .before .loop .j * c .before .before .before .args .share + c .before .before .before .args .share ≤ length (c .before .loop .trail)
 inside c =
     let d = c .before .before .before in
     spot (d .args .v) (d .args .share) (c .before .loop .j) (d .args .trail .now) (c .before .loop .trail) (d .pre .0 .2) (c .before .loop .inv .long) (c .loop-test .taken)
 
--- src/each.rt:81:5
-loop-holds : tie.Need-loop-holds Inv-loop μ-loop
-loop-holds c = let p = c .before .pre .0 in taken-none _ _ _ _ _ _ _ _ (p .3) (p .4)
+-- j is a van
+low : (i : In-loop) → i .before .loop .j < 8
+low i = omega (arith, i .loop-test .taken, i .before .before .before .pre .0 .1)
 
--- src/each.rt:82:20
+loop-holds : tie.Need-loop-holds Inv-loop μ-loop
+loop-holds c = taken-none _ _ _ _ _ _ _ _ (c .before .pre .0 .3)
+
 mul-from : tie.Need-mul-from Inv-loop μ-loop
 mul-from c = omega (arith, inside c, c .before .loop .inv .long, c .before .before .before .good)
 
--- src/each.rt:83:19
 add-end : tie.Need-add-end Inv-loop μ-loop
 add-end c = omega (arith, inside c, c .before .loop .inv .long, c .before .before .before .good)
 
--- src/each.rt:84:17
-mul-f : tie.Need-mul-f Inv-loop μ-loop
-mul-f c = omega (arith, c .loop-test .taken, c .before .before .before .pre .0 .1)
+mul-figures-in : tie.Need-mul-figures-in Inv-loop μ-loop
+mul-figures-in c = omega (arith, low c)
 
--- src/each.rt:84:17
-array-copy-out-f : tie.Need-array-copy-out-f Inv-loop μ-loop
-array-copy-out-f c = omega (arith, c .loop-test .taken, c .before .before .before .pre .0 .1)
+index-1-figures-in : tie.Need-index-1-figures-in Inv-loop μ-loop
+index-1-figures-in c = low c
 
--- src/each.rt:88:13
+figures-in-requires : tie.Need-figures-in-requires Inv-loop μ-loop
+figures-in-requires c κs = let i = c .before in i .before .loop .inv .rows .3 .wide (i .before .loop .j) (low i)
+
 mul-turn : tie.Need-mul-turn Inv-loop μ-loop
-mul-turn c = let i = c .before in omega (arith, i .loop-test .taken, i .before .before .before .pre .0 .1)
+mul-turn c = omega (arith, low (c .before .before))
 
--- src/each.rt:88:13
 index-1-turn : tie.Need-index-1-turn Inv-loop μ-loop
-index-1-turn c = let i = c .before in omega (arith, i .loop-test .taken, i .before .before .before .pre .0 .1)
+index-1-turn c = low (c .before .before)
 
--- src/each.rt:89:13
 mul-turn-2 : tie.Need-mul-turn-2 Inv-loop μ-loop
-mul-turn-2 c = let i = c .before .before in omega (arith, i .loop-test .taken, i .before .before .before .pre .0 .1)
+mul-turn-2 c = omega (arith, low (c .before .before .before))
 
--- src/each.rt:89:13
 index-1-turn-2 : tie.Need-index-1-turn-2 Inv-loop μ-loop
-index-1-turn-2 c = let i = c .before .before in omega (arith, i .loop-test .taken, i .before .before .before .pre .0 .1)
+index-1-turn-2 c = low (c .before .before .before)
 
--- src/each.rt:90:13
 mul-turn-3 : tie.Need-mul-turn-3 Inv-loop μ-loop
-mul-turn-3 c = let i = c .before .before .before in omega (arith, i .loop-test .taken, i .before .before .before .pre .0 .1)
+mul-turn-3 c = omega (arith, low (c .before .before .before .before))
 
--- src/each.rt:90:13
 index-1-turn-3 : tie.Need-index-1-turn-3 Inv-loop μ-loop
-index-1-turn-3 c = let i = c .before .before .before in omega (arith, i .loop-test .taken, i .before .before .before .pre .0 .1)
+index-1-turn-3 c = low (c .before .before .before .before)
 
--- src/each.rt:92:13
 mul-turn-4 : tie.Need-mul-turn-4 Inv-loop μ-loop
-mul-turn-4 c = let i = c .before .before .before .before in omega (arith, inside i, i .before .loop .inv .long, i .before .before .before .good)
+mul-turn-4 c = let i = c .before .before .before .before .before in omega (arith, inside i, i .before .loop .inv .long, i .before .before .before .good)
 
--- src/each.rt:92:13
 sub-turn : tie.Need-sub-turn Inv-loop μ-loop
 sub-turn c = omega arith
 
--- src/each.rt:92:13
 part-turn-start : tie.Need-part-turn-start Inv-loop μ-loop
 part-turn-start c = omega arith
 
--- src/each.rt:92:13
 part-turn-end : tie.Need-part-turn-end Inv-loop μ-loop
-part-turn-end c = inside (c .before .before .before .before)
+part-turn-end c = inside (c .before .before .before .before .before)
 
--- src/each.rt:85:17
 turn-requires : tie.Need-turn-requires Inv-loop μ-loop
-unfolding noFigures
 turn-requires c κs =
-    let i = c .before .before .before .before .before in
+    let g = c .before .before .before .before in
+    let i = g .before .before in
     let d = i .before .before .before in
-    taken-asks (d .args .share) (i .before .loop .inv) (d .pre .0 .2) (i .loop-test .taken) (d .pre .0 .1) (d .pre .1 (i .before .loop .j) (i .loop-test .taken))
+    rw (g .figures-in .ensures) (taken-asks (d .args .share) (i .before .loop .inv) (d .pre .0 .2) (i .loop-test .taken) (d .pre .0 .1) (d .pre .1 (i .before .loop .j) (i .loop-test .taken)))
 
--- src/each.rt:96:9
-mul-after : tie.Need-mul-after Inv-loop μ-loop
-mul-after c = let i = c .before .before .before .before .before .before .before .before .before in omega (arith, i .loop-test .taken, i .before .before .before .pre .0 .1)
+-- the loop, once van j has taken its turn
+abbrev turned : tie.After-g Inv-loop μ-loop → In-loop
+turned c = c .before .before .before .before .before .before .before .before .before .before
 
--- src/each.rt:96:9
-array-set-from-after : tie.Need-array-set-from-after Inv-loop μ-loop
-array-set-from-after c = let i = c .before .before .before .before .before .before .before .before .before in omega (arith, i .loop-test .taken, i .before .before .before .pre .0 .1)
+mul-put-figures : tie.Need-mul-put-figures Inv-loop μ-loop
+mul-put-figures c = omega (arith, low (turned c))
 
--- src/each.rt:98:9
+index-1-put-figures : tie.Need-index-1-put-figures Inv-loop μ-loop
+index-1-put-figures c = low (turned c)
+
+put-figures-requires : tie.Need-put-figures-requires Inv-loop μ-loop
+put-figures-requires c κs = let i = turned (c .before) in i .before .loop .inv .rows .3 .wide (i .before .loop .j) (low i)
+
 add-j : tie.Need-add-j Inv-loop μ-loop
-add-j c = let i = c .before .before .before .before .before .before .before .before .before .before in omega (arith, i .loop-test .taken, i .before .before .before .pre .0 .1)
+add-j c = omega (arith, low (turned (c .before .before .before)))
 
--- src/each.rt:81:5
 loop-less : tie.Need-loop-less Inv-loop μ-loop
-loop-less c = let i = c .before .before .before .before .before .before .before .before .before .before in omega (arith, i .loop-test .taken)
+loop-less c = omega (arith, turned (c .before .before .before) .loop-test .taken)
 
--- src/each.rt:81:5
 loop-again : tie.Need-loop-again Inv-loop μ-loop
-unfolding noFigures
 loop-again c =
-    let k = c .before .before .before .before in
-    let i = k .before .before .before .before .before .before in
+    let p = c .before in
+    let r = p .before .before .before .before in
+    let k = r .before in
+    let g = k .before .before .before .before .before in
+    let i = g .before .before in
     let d = i .before .before .before in
-    taken-goes (d .args .share) (i .before .loop .inv) (d .pre .0 .2) (i .loop-test .taken) (d .pre .0 .1) (k .turn .result) (k .turn .ensures) (c .before .before .before .trail .given .0)
+    rw (p .put-figures .ensures)
+    (taken-goes (d .args .share) (i .before .loop .inv) (d .pre .0 .2) (i .loop-test .taken) (d .pre .0 .1) (k .turn .result) (rw (g .figures-in .ensures) at (k .turn .ensures)) (r .trail .given .0))
 
--- src/each.rt:59:1
 same-length : tie.Need-same-length Inv-loop μ-loop
 same-length c = c .before .loop .inv .long
 
--- src/each.rt:59:1
 returns : tie.Need-returns Inv-loop μ-loop
 returns c =
     let d = c .before .before .before in
@@ -148,8 +143,9 @@ each-spec =
     loop-holds
     mul-from
     add-end
-    mul-f
-    array-copy-out-f
+    mul-figures-in
+    index-1-figures-in
+    figures-in-requires
     mul-turn
     index-1-turn
     mul-turn-2
@@ -161,8 +157,9 @@ each-spec =
     part-turn-start
     part-turn-end
     turn-requires
-    mul-after
-    array-set-from-after
+    mul-put-figures
+    index-1-put-figures
+    put-figures-requires
     add-j
     loop-less
     loop-again

@@ -11,7 +11,7 @@ use Rattle.turns.proofs.steps.act.Tie as tie
 
 -- the fleet at entry
 abbrev fleet : tie.Start → Fleet
-fleet d = fleetWith (d .args .routes .now) (d .args .sets .now) (d .args .levels .now) (d .args .figures)
+fleet d = fleetWith (d .args .routes .now) (d .args .sets .now) (d .args .levels .now) (d .args .figures .now)
 
 level-requires : tie.Need-level-requires
 level-requires c κs = search needs
@@ -49,22 +49,22 @@ same-length-4 c = search needs
 returns-4 : tie.Need-returns-4
 returns-4 c =
     let k = c .before .before in
-    let o = k .before .before .before .before .before .before in
+    let o = k .before .before .before .before .before .before .before in
     let d = o .before .before .before .before .before in
     did-as
     (act-van (vanOf (d .args .sheet .now)) (dayOf (d .args .sheet .now)) (vansOf (d .args .sheet .now)) (fleet d) (d .args .trail .now) (d .args .step)
-    (o .before .before .if1 .left) (o .before .if2 .left) (o .if3 .left) (k .before .before .before .before .before .if4 .taken))
+    (o .before .before .if1 .left) (o .before .if2 .left) (o .if3 .left) (k .before .before .before .before .before .before .if4 .taken))
     (k .in-van .ensures)
 
-unmoved-requires : tie.Need-unmoved-requires
-unmoved-requires c κs = search needs
+answered-requires : tie.Need-answered-requires
+answered-requires c κs = search needs
 
 returns-5 : tie.Need-returns-5
 returns-5 c =
     let o = c .before .before in
     let d = o .before .before .before .before .before in
     let a = d .args in
-    did-of (a .routes .now) (a .sets .now) (a .levels .now) (a .trail .now) (c .unmoved .ensures) (known-eight (d .pre))
+    did-of (a .routes .now) (a .sets .now) (a .levels .now) (a .figures .now) (a .trail .now) (c .answered .ensures) (known-eight (d .pre))
     (act-unknown (vanOf (a .sheet .now)) (dayOf (a .sheet .now)) (vansOf (a .sheet .now)) (fleet d) (a .trail .now) (a .step)
     (o .before .before .if1 .left) (o .before .if2 .left) (o .if3 .left) (c .before .if4 .left))
 
@@ -84,5 +84,5 @@ act-spec =
     in-van-requires
     same-length-4
     returns-4
-    unmoved-requires
+    answered-requires
     returns-5)

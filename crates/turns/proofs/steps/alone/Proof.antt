@@ -6,7 +6,6 @@ use Rattle.rules.specs.Numbers.{mostVans}
 use Rattle.rules.specs.declared.Van.{Van}
 use Rattle.sheet.specs.Section.{vansOf}
 use Rattle.day.specs.Tell.{vanOf, dayOf}
-use Rattle.board.specs.Fresh.{noFigures}
 use Rattle.van.specs.Act.{actOf}
 use Rattle.van.proofs.Leaves.{act-leaves}
 use Rattle.fleet.specs.Rows.{rowState, fleetWith}
@@ -47,11 +46,14 @@ add-end c = let d = c .before .before .before in omega (arith, inside d, d .good
 van-requires : tie.Need-van-requires
 van-requires c κs = search needs
 
-mul-f : tie.Need-mul-f
-mul-f c = search needs
+mul-figures-in : tie.Need-mul-figures-in
+mul-figures-in c = search needs
 
-array-copy-out-f : tie.Need-array-copy-out-f
-array-copy-out-f c = search needs
+index-1-figures-in : tie.Need-index-1-figures-in
+index-1-figures-in c = search needs
+
+figures-in-requires : tie.Need-figures-in-requires
+figures-in-requires c κs = let d = c .before .before .before .before .before in d .pre .0 .figured .wide (d .args .step .van) (low d)
 
 mul-act : tie.Need-mul-act
 mul-act c = search needs
@@ -72,7 +74,7 @@ index-1-act-3 : tie.Need-index-1-act-3
 index-1-act-3 c = search needs
 
 mul-act-4 : tie.Need-mul-act-4
-mul-act-4 c = let d = c .before .before .before .before .before .before .before .before in omega (arith, inside d, d .good)
+mul-act-4 c = let d = c .before .before .before .before .before .before .before .before .before in omega (arith, inside d, d .good)
 
 sub-act : tie.Need-sub-act
 sub-act c = search needs
@@ -81,41 +83,50 @@ part-act-start : tie.Need-part-act-start
 part-act-start c = search needs
 
 part-act-end : tie.Need-part-act-end
-part-act-end c = inside (c .before .before .before .before .before .before .before .before)
+part-act-end c = inside (c .before .before .before .before .before .before .before .before .before)
 
 act-requires : tie.Need-act-requires
-unfolding noFigures
 act-requires c κs =
-    let v = c .before .before .before .before .before in
+    let g = c .before .before .before .before in
+    let v = g .before .before in
     let d = v .before .before .before .before in
-    (known-van (d .pre .0) (d .args .step .van) (from d) (from d + share d) (d .pre .2) (spot d), v .van .ensures .2)
+    (rw (g .figures-in .ensures) (known-van (d .pre .0) (d .args .step .van) (from d) (from d + share d) (d .pre .2) (spot d)), v .van .ensures .2)
 
-mul-after : tie.Need-mul-after
-mul-after c = omega (arith, low (c .before .before .before .before .before .before .before .before .before .before .before .before .before))
+-- the beginning, once the van has acted
+abbrev begun : tie.After-g → tie.Start
+begun c = c .before .before .before .before .before .before .before .before .before .before .before .before .before .before
 
-array-set-from-after : tie.Need-array-set-from-after
-array-set-from-after c = low (c .before .before .before .before .before .before .before .before .before .before .before .before .before)
+mul-put-figures : tie.Need-mul-put-figures
+mul-put-figures c = omega (arith, low (begun c))
+
+index-1-put-figures : tie.Need-index-1-put-figures
+index-1-put-figures c = low (begun c)
+
+put-figures-requires : tie.Need-put-figures-requires
+put-figures-requires c κs = let d = begun (c .before) in d .pre .0 .figured .wide (d .args .step .van) (low d)
 
 same-length : tie.Need-same-length
 same-length c = search needs
 
 returns : tie.Need-returns
-unfolding noFigures
 returns c =
-    let k = c .before .before .before in
-    let v = k .before .before .before .before .before .before in
+    let r = c .before .before .before .before in
+    let k = r .before in
+    let g = k .before .before .before .before .before in
+    let v = g .before .before in
     let d = v .before .before .before .before in
     let a = d .args in
     let p = d .pre .0 in
-    did _ (rows-stay (a .routes .now) (a .sets .now) (a .levels .now) (a .figures) (known-eight p) (p .eight) (a .step .van) (low d) _ _ _ (k .act .result .after))
-    (van-alone (vanOf (a .sheet .now)) (dayOf (a .sheet .now)) (vansOf (a .sheet .now)) (fleetWith (a .routes .now) (a .sets .now) (a .levels .now) (a .figures)) (a .trail .now) (a .step) (d .pre .2) (d .pre .1)
-    ∙ alone-did (vansOf (a .sheet .now)) (a .step .van) (from d) (from d + share d) (a .routes .now) (a .sets .now) (a .levels .now) (a .figures) (a .trail .now)
+    rw (c .put-figures .ensures)
+    (did _ (rows-stay (a .routes .now) (a .sets .now) (a .levels .now) (a .figures .now) (known-eight p) (a .step .van) (low d) _ _ _ (k .act .result .after))
+    (van-alone (vanOf (a .sheet .now)) (dayOf (a .sheet .now)) (vansOf (a .sheet .now)) (fleetWith (a .routes .now) (a .sets .now) (a .levels .now) (a .figures .now)) (a .trail .now) (a .step) (d .pre .2) (d .pre .1)
+    ∙ alone-did (vansOf (a .sheet .now)) (a .step .van) (from d) (from d + share d) (a .routes .now) (a .sets .now) (a .levels .now) (a .figures .now) (a .trail .now)
     (λ s u. actOf (vanOf (a .sheet .now) (a .step .van)) (dayOf (a .sheet .now)) s u (a .step .kind) (a .step .first) (a .step .second)) (k .act .result)
-    (d .pre .2) (p .laid .fine .vans-high) (spot d) (known-eight p) (p .eight)
+    (d .pre .2) (p .laid .fine .vans-high) (spot d) (known-eight p)
     (λ s u. act-leaves (vanOf (a .sheet .now) (a .step .van)) (dayOf (a .sheet .now)) s u (a .step .kind) (a .step .first) (a .step .second))
-    (sym (ap (λ (w : Van). actOf w (dayOf (a .sheet .now)) (rowState (a .routes .now) (a .sets .now) (a .levels .now) (a .figures) (a .step .van))
-    (take (from d + share d - from d) (drop (from d) (a .trail .now))) (a .step .kind) (a .step .first) (a .step .second)) (v .van .ensures .0)) ∙ k .act .ensures)
-    (c .before .before .trail .given .0))
+    (sym (ap (λ (w : Van). actOf w (dayOf (a .sheet .now)) (rowState (a .routes .now) (a .sets .now) (a .levels .now) (a .figures .now) (a .step .van))
+    (take (from d + share d - from d) (drop (from d) (a .trail .now))) (a .step .kind) (a .step .first) (a .step .second)) (v .van .ensures .0)) ∙ rw (g .figures-in .ensures) at (k .act .ensures))
+    (r .trail .given .0)))
 
 pub alone-spec : {M : Type 1} → statement M
 alone-spec =
@@ -125,8 +136,9 @@ alone-spec =
     mul-from
     add-end
     van-requires
-    mul-f
-    array-copy-out-f
+    mul-figures-in
+    index-1-figures-in
+    figures-in-requires
     mul-act
     index-1-act
     mul-act-2
@@ -138,7 +150,8 @@ alone-spec =
     part-act-start
     part-act-end
     act-requires
-    mul-after
-    array-set-from-after
+    mul-put-figures
+    index-1-put-figures
+    put-figures-requires
     same-length
     returns)

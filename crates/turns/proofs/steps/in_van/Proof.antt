@@ -9,15 +9,15 @@ use borrow.Author.Needs.{needs}
 use Rattle.turns.proofs.steps.in_van.Statement.{statement}
 use Rattle.turns.proofs.steps.in_van.Tie as tie
 
-unmoved-requires : tie.Need-unmoved-requires
-unmoved-requires c κs = search needs
+answered-requires : tie.Need-answered-requires
+answered-requires c κs = search needs
 
 returns : tie.Need-returns
 returns c =
     let d = c .before .before .before .before .before .before in
     let a = d .args in
-    did-of (a .routes .now) (a .sets .now) (a .levels .now) (a .trail .now) (c .unmoved .ensures) (known-eight (d .pre))
-    (van-out (vanOf (a .sheet .now)) (dayOf (a .sheet .now)) (vansOf (a .sheet .now)) (fleetWith (a .routes .now) (a .sets .now) (a .levels .now) (a .figures)) (a .trail .now) (a .step)
+    did-of (a .routes .now) (a .sets .now) (a .levels .now) (a .figures .now) (a .trail .now) (c .answered .ensures) (known-eight (d .pre))
+    (van-out (vanOf (a .sheet .now)) (dayOf (a .sheet .now)) (vansOf (a .sheet .now)) (fleetWith (a .routes .now) (a .sets .now) (a .levels .now) (a .figures .now)) (a .trail .now) (a .step)
     (omega (arith, c .before .if1 .taken, d .pre .laid .vans)))
 
 place-requires : tie.Need-place-requires
@@ -42,7 +42,7 @@ pub in-van-spec : {M : Type 1} → statement M
 in-van-spec =
     tie.close
     (tie.spec
-    unmoved-requires
+    answered-requires
     returns
     place-requires
     same-length

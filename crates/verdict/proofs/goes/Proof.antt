@@ -1,0 +1,43 @@
+use mathlib.Core.Path.{refl}
+use Prim.Native.Nat.{_+_}
+use native.Mathlib.Omega.{arith}
+use borrow.Author.Needs.{needs}
+use Rattle.verdict.proofs.goes.Statement.{statement}
+use Rattle.verdict.proofs.goes.Tie as tie
+
+mul-clean : tie.Need-mul-clean
+mul-clean c = search needs
+
+element-copy-out-clean : tie.Need-element-copy-out-clean
+element-copy-out-clean c = search needs
+
+add-result : tie.Need-add-result
+add-result c = search needs
+
+mul-result : tie.Need-mul-result
+mul-result c = search needs
+
+element-copy-out-result : tie.Need-element-copy-out-result
+element-copy-out-result c = search needs
+
+add-result-2 : tie.Need-add-result-2
+add-result-2 c = let o = c .before .before .before in omega (arith, o .pre .2 (o .args .x), o .pre .2 (192 + o .args .x))
+
+returns : tie.Need-returns
+returns c = rw (c .before .if1 .taken) refl
+
+returns-2 : tie.Need-returns-2
+returns-2 c = rw (c .if1 .left) (omega arith)
+
+pub goes-spec : {M : Type 1} → statement M
+goes-spec =
+    tie.close
+    (tie.spec
+    mul-clean
+    element-copy-out-clean
+    add-result
+    mul-result
+    element-copy-out-result
+    add-result-2
+    returns
+    returns-2)
