@@ -6,7 +6,8 @@
 set -u
 here=$(cd "$(dirname "$0")" && pwd)
 second=$here/second/target/release/second
-cases=${1:-12000}
+# A comparison ends at the first difference, so only a rule that is seldom met takes so many.
+cases=${1:-40000}
 bench=${2:-$here/../bench}
 work=$(mktemp -d)
 trap 'rm -rf "$work"' EXIT

@@ -64,10 +64,10 @@ static int loads(const Sheet *s, Route *r, i32 aboard)
     return !wrong;
 }
 
-/* E and the metres; is no stop late? */
+/* E and the metres; is no stop late, first and last included? */
 static int starts(const Sheet *s, Route *r)
 {
-    i32 e = s->earliest[0], total = 0, late = 0;
+    i32 e = s->earliest[0], total = 0, late = e > s->last[0];
     u32 p = 0;
     for (u32 i = 1; i <= r->legs; i++) {
         u32 x = r->at[i];
@@ -77,7 +77,7 @@ static int starts(const Sheet *s, Route *r)
         r->leg[p] = leg;
         total += leg;
         e = e + hop > s->earliest[x] ? e + hop : s->earliest[x];
-        late |= e > s->latest[x];
+        late |= e > s->last[x];
         p = x;
     }
     r->metres = total;
@@ -99,7 +99,7 @@ static void look_back(const Sheet *s, u32 van, const State *state, Route *r)
 {
     look_along(s, van, state, r);
     if (r->back) return;
-    i32 l = s->latest[s->n - 1], spare = s->limit[van] - r->metres;
+    i32 l = s->last[s->n - 1], spare = s->limit[van] - r->metres;
     u64 before = 0;
     for (u32 i = 0; i < r->legs; i++) {
         r->before[i] = before;
@@ -111,7 +111,7 @@ static void look_back(const Sheet *s, u32 van, const State *state, Route *r)
         r->next[p] = r->at[i + 1];
         r->by[p] = l;
         r->spare[p] = spare + r->leg[p];
-        l = l - r->hop[p] < s->latest[p] ? l - r->hop[p] : s->latest[p];
+        l = l - r->hop[p] < s->last[p] ? l - r->hop[p] : s->last[p];
     }
     r->back = 1;
 }

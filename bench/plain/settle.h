@@ -22,16 +22,18 @@ static u64 legs_back(const Route *r, u32 to, i32 room)
 
 /* Places of x that keep window and metres. The larger of earliest and arrival is within a bound if
    both are, so nothing need be chosen: what is left below each bound is negative, all of it
-   together too, if one is broken. Not inlined: the loop needs all the registers there are. */
+   together too, if one is broken. Earliest against the last moment is the same for every place. Not
+   inlined: the loop needs all the registers there are. */
 static __attribute__((noinline)) u64 kept_alone(const Sheet *s, const Route *r, u32 x, u64 set)
 {
-    i32 earliest = s->earliest[x], latest = s->latest[x], service = s->service[x];
+    i32 earliest = s->earliest[x], last = s->last[x], service = s->service[x];
     u64 kept = 0;
+    if (earliest > last) return 0;
     for (u64 left = set; left; left &= left - 1) {
         u32 p = lowest(left), k = r->next[p];
         i32 arrival = r->leave[p] + seconds(s, p, x);
         i32 bound = r->by[p] - service - seconds(s, x, k);
-        i32 spare = (latest - arrival) | (bound - arrival) | (bound - earliest);
+        i32 spare = (last - arrival) | (bound - arrival) | (bound - earliest);
         spare |= r->spare[p] - metres(s, p, x) - metres(s, x, k);
         kept |= left & -left & ~(u64)(i64)(spare >> 31);
     }

@@ -5,7 +5,8 @@ enum { CLEAN = 1, SOILED = 2, TRANSFER = 3 };
 typedef struct {
     u32 n, vans;
     i32 capacity[MOST_VANS], limit[MOST_VANS];
-    i32 earliest[MOST_NODES], latest[MOST_NODES], service[MOST_NODES];
+    i32 earliest[MOST_NODES], service[MOST_NODES];
+    i32 last[MOST_NODES];               /* last moment to start: latest less service, may be negative */
     i32 load[TRANSFER + 1][MOST_NODES]; /* by kind of job; 0: none */
     u8 partner[MOST_NODES];             /* 0: none */
     u64 pickups;                        /* nodes that are the first of a transfer */
@@ -65,7 +66,7 @@ static u64 read_nodes(Reader *r, Sheet *s)
         u32 early = word(e + 12 * x), late = word(e + 12 * x + 4), service = word(e + 12 * x + 8);
         bad |= (late > 1000000) | (early > late) | (service > 1000000);
         s->earliest[x] = (i32)early;
-        s->latest[x] = (i32)late;
+        s->last[x] = (i32)(late - service);
         s->service[x] = (i32)service;
     }
     return bad ? 3 : 0;

@@ -15,6 +15,7 @@ use Rattle.day.specs.Tell.{dayOf, cell, jobOf, jobAt, jobIn}
 use Rattle.along.specs.Spots.{loadOf}
 use Rattle.along.proofs.SpotLaws.{node-low}
 use Rattle.along.proofs.TimeLaws.{Low}
+use Rattle.along.proofs.Signed.{mag-below}
 use Rattle.along.specs.Route.{Route}
 
 pub node-at : {k : ℕ} {l : List ℕ} {n : ℕ} → Route k l n → (i : ℕ) → i < n → getD l i 0 < k
@@ -28,7 +29,7 @@ pub low : (s : List ℕ) → Low (dayOf s)
 unfolding cell
 low s = record {
   earliest = λ x. word-low s _;
-  moment = λ x. word-low s _;
+  moment = λ x. mag-below _ (word-low s _) (word-low s _);
   service = λ x. word-low s _;
   seconds = λ x y. word-low s _;
   metres = λ x y. word-low s _;

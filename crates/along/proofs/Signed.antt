@@ -23,6 +23,11 @@ mag-subℕ a b k h g = go (ltb a b)
     go true = omega arith
     go false = omega arith
 
+-- a difference of two below a bound is below it
+pub mag-below : {a k : ℕ} (b : ℕ) → a < k → b < k → mag (pos a -ℤ pos b) < k
+mag-below zero h g = omega arith
+mag-below {a} {k} (suc b) h g = omega (arith, mag-subℕ a (suc b) (k - 1) (omega arith) (omega arith))
+
 -- a difference is no further from 0 than the sum of the two
 pub mag-sub : (z : ℤ) (n : ℕ) → mag (z -ℤ pos n) ≤ mag z + n
 mag-sub (pos a) zero = omega arith

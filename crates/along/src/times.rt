@@ -19,12 +19,12 @@ use day::look::service;
 use rules::Node;
 use sheet::Layout;
 
-// The last moment at which service at x may start.
+// The last moment at which service at x may start: the cages are in when the door is shut.
 pub fn last_moment(s: &[u8], at: Layout, x: usize) -> i64
     requires { ⌜ Laid (now s) at × (x < at .nodes) ⌝ }
     ensures { λ r. ⌜ r ≡ lastMoment (dayOf (now (s .entry))) x ⌝ }
 {
-    latest(s, at, x) as i64
+    latest(s, at, x) as i64 - service(s, at, x) as i64
 }
 
 // The start at x of a van that leaves p at `leave`.

@@ -1,4 +1,4 @@
--- P1 to P12 of document 01, on the bytes of its sheet with one number altered.
+-- P1 to P12 of document 01, on the bytes of its sheet with one number altered; P2, P4 and P12 as 02, No. 3, has them.
 -- P4 to P10, and that P11 is dead, are the planner's own answers: `stepOf`, `countOf` and `judgeOf`, which the contracts of `step`, `open_places`
 -- and `verdict` equate. The others ask for what no entry point answers, and rest on the rules' definitions by which those answers are stated:
 -- * P1, E(3): `startAt`. P2, L(2), P3, L(0), and P11's L(0): `lastAt`. They are the window test's own E and L, `start` and `lastStart`, at a stop of
@@ -72,10 +72,10 @@ kept d v a = filter (λ R. belongs d a R && keeps v d R) (everyRound d)
 pub record Paper : Type 0 where
   -- route 0 2 3: E(3), L(2), L(0)
   pub p1 : startAt (dayOf paper) (0 ∷ 2 ∷ 3 ∷ []) 2 ≡ 35
-  pub p2 : lastAt (dayOf paper) (0 ∷ 2 ∷ 3 ∷ []) 1 ≡ pos 25
+  pub p2 : lastAt (dayOf paper) (0 ∷ 2 ∷ 3 ∷ []) 1 ≡ pos 20
   pub p3 : lastAt (dayOf paper) (0 ∷ 2 ∷ 3 ∷ []) 0 ≡ pos 0
-  -- route 0 2 3: place 0 of node 1 stays; with latest(2) = 24 it is struck; place 2 of node 1 is struck
-  pub p4 : openAt (boardIn (after paper (two paper)) 0) 1 0 ≡ true
+  -- route 0 2 3: place 0 of node 1 is struck, 25 against 20; so it is with latest(2) = 24; place 2 of node 1 is struck
+  pub p4 : openAt (boardIn (after paper (two paper)) 0) 1 0 ≡ false
   pub p5 : openAt (boardIn (after (sheetWith 2 60 24 100) (two (sheetWith 2 60 24 100))) 0) 1 0 ≡ false
   pub p6 : openAt (boardIn (after paper (two paper)) 0) 1 2 ≡ false
   -- fresh, metre limit 30: both places stay; 29: both struck, dead
@@ -93,6 +93,6 @@ pub record Paper : Type 0 where
   -- latest(3) = 10, route 0 3: L(0) = −20, dead
   pub p11 : lastAt (dayOf (sheetWith 2 60 25 10)) (0 ∷ 3 ∷ []) 0 ≡ negsuc 19
   pub p11-dead : alive (sheetWith 2 60 25 10) fresh ≡ false
-  -- fresh: 5 rounds belong, 2 keep the rules, 0 3 and 0 1 2 3
+  -- fresh: 5 rounds belong, 1 keeps the rules, 0 3
   pub p12 : count (belongs (dayOf paper) (planAt fresh 0)) (everyRound (dayOf paper)) ≡ 5
-  pub p12-kept : kept (dayOf paper) (vanOf paper 0) (planAt fresh 0) ≡ (0 ∷ 3 ∷ []) ∷ (0 ∷ 1 ∷ 2 ∷ 3 ∷ []) ∷ []
+  pub p12-kept : kept (dayOf paper) (vanOf paper 0) (planAt fresh 0) ≡ (0 ∷ 3 ∷ []) ∷ []

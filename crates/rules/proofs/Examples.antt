@@ -1,9 +1,10 @@
 -- 01's examples at the edges on the mathematics, to keep the definitions honest. (The table P1 to P12, on the bytes of the sheet, is the planner's.)
 use mathlib.Core.Path.{_≡_, refl}
 use Prim.Native.Nat.{ℕ, _+_, _*_}
-use mathlib.Core.Bool.{true, false, _&&_}
+use mathlib.Core.Bool.{true, false, cond, _&&_}
 use mathlib.Core.List.{List, [], _∷_}
 use lib.ListN.{getD}
+use lib.Dec.{eqb}
 use lib.IntN.{pos, negsuc}
 use Rattle.rules.specs.Day.{Day}
 use Rattle.rules.specs.declared.Van.{Van}
@@ -53,8 +54,11 @@ p3 = refl
 halves : (two .places 1 0 && two .places 1 2) ≡ true
 halves = refl
 
--- 25 against 25
-p4 : round (van 2 60) day (two .route) (two .places) 1 0 ≡ true
+p2 : lastStart day (3 ∷ []) 2 ≡ pos 20
+p2 = refl
+
+-- 25 against 20
+p4 : round (van 2 60) day (two .route) (two .places) 1 0 ≡ false
 unfolding round stays
 p4 = refl
 
@@ -66,6 +70,32 @@ p6 = refl
 past-k : round (van 2 60) (dayWith 100 39) (two .route) (two .places) 1 0 ≡ false
 unfolding round stays
 past-k = refl
+
+-- the door: three nodes with no way between them, of which one is shut before its service can be done
+abbrev shutAt : ℕ → Day
+shutAt x = record {
+  n = 3;
+  earliest = λ i. 0;
+  latest = λ i. cond (eqb i x) 4 100;
+  service = λ i. cond (eqb i x) 5 0;
+  seconds = λ i j. 0;
+  metres = λ i j. 0;
+  jobs = [];
+}
+
+-- a last moment below 0 strikes the ward, though the van is there at 0
+below-zero : round (van 2 60) (shutAt 1) (fresh (shutAt 1) .route) (fresh (shutAt 1) .places) 1 0 ≡ false
+unfolding round stays
+below-zero = refl
+
+-- the first stop keeps the rule too, and the last one with its service
+first-shut : alive (van 2 60) (shutAt 0) (fresh (shutAt 0)) ≡ false
+unfolding alive owed
+first-shut = refl
+
+last-shut : alive (van 2 60) (shutAt 2) (fresh (shutAt 2)) ≡ false
+unfolding alive owed
+last-shut = refl
 
 p7 : rounds (van 2 30) day (fresh day .route) (fresh day .places) ≡ 0
 unfolding roundsIn strikes round stays
@@ -82,12 +112,12 @@ p10 = refl
 p11 : lastStart (dayWith 25 10) (3 ∷ []) 0 ≡ negsuc 19
 p11 = refl
 
--- fresh: 5 rounds belong, 2 keep the rules
+-- fresh: 5 rounds belong, 1 keeps the rules
 p12 : count (belongs day (fresh day)) (everyRound day) ≡ 5
 unfolding everyRound
 p12 = refl
 
-p12k : count (λ R. belongs day (fresh day) R && keeps (van 2 60) day R) (everyRound day) ≡ 2
+p12k : count (λ R. belongs day (fresh day) R && keeps (van 2 60) day R) (everyRound day) ≡ 1
 unfolding everyRound keeps
 p12k = refl
 

@@ -1,5 +1,4 @@
--- Windows: when a start is in time, and L, which is signed, as a test of numbers. A later rule for what is in time moves `in-time-latest`
--- alone.
+-- Windows: when a start is in time, and L, which is signed, as a test of numbers. Of the last moment nothing is asked but that it is a signed number.
 use mathlib.Core.Path.{_≡_, subst, sym}
 use Prim.Native.Nat.{ℕ, zero, suc, _+_, _-_, _≤_, _<_}
 use native.Mathlib.Omega.{arith}

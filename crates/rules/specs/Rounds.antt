@@ -50,8 +50,8 @@ inOrder R = elim [ Clean a w ↦ true | Soiled a w ↦ true | Transfer a b w ↦
 abbrev pub Rule : Type 0
 Rule = Van → Day → List ℕ → Bool
 
--- "start at 0 is its earliest; each later start is the larger of its earliest and (previous start + previous service + seconds); no start
--- is above its latest"
+-- "start at 0 is its earliest; each later start is the larger of its earliest and (previous start + previous service + seconds)"; "start plus
+-- service must not exceed latest, at every node" (02, No. 3)
 abbrev pub windowRule : Rule
 windowRule v d R = onTime d [] R
 

@@ -11,9 +11,10 @@ abbrev pub start : Day → List ℕ → ℕ → ℕ
 start d [] x = d .earliest x
 start d (q ∷ A) x = max (d .earliest x) (start d A q + d .service q + d .seconds q x)
 
--- the last moment at which service at x may start, signed: its latest
+-- the last moment at which service at x may start, signed: the door is shut at its latest, and the cages must be in, so its latest less its
+-- service (02, No. 3)
 abbrev pub lastMoment : Day → ℕ → ℤ
-lastMoment d x = pos (d .latest x)
+lastMoment d x = pos (d .latest x) -ℤ pos (d .service x)
 
 -- a start at x at the time t is not too late
 abbrev pub inTime : Day → ℕ → ℕ → Bool

@@ -44,15 +44,25 @@ module _ (d : Day) (l : List ℕ) (n : ℕ) (most : n ≤ length l) where
       let e : length (take n l) ≡ n = simp length-take (omega arith) in
       on-time-all d (take n l) ∙ ap (λ (q : ℕ). allBelow q (startOk d (take n l))) e
 
-  -- at the first stop, whose earliest is in time
-  pub rode-first : {t : ℕ} → 0 < n → t ≡ d .earliest (getD l 0 0) → inTime d (getD l 0 0) t ≡ true → Rode d l n 0 (getD l 0 0) t 0
-  rode-first {t} h e g =
-      let f = e ∙ start-first d l n h in record {
-        at = refl;
-        start = f;
-        ok = below-next 0 (startOk d (take n l)) (below-none _) (start-told 0 h f ∙ g);
-        metres = length-first d l;
-      }
+  -- where b tells whether the i-th start is in time, and it is not
+  late : (i : ℕ) {t : ℕ} {b : Bool} → i < n → t ≡ startAt d (take n l) i → b ≡ inTime d (getD l i 0) t → (limit : ℕ) → not b ≡ true
+      → false ≡ roadKept limit d (take n l)
+  unfolding roadKept
+  late i {b = b} h e f limit g = rw (windows-told, below-fails n i (startOk d (take n l)) h (start-told i h e ∙ sym f ∙ not-true b g))
+
+  -- at the first stop, where b tells whether its earliest is in time
+  module _ {t : ℕ} {b : Bool} (h : 0 < n) (e : t ≡ d .earliest (getD l 0 0)) (f : b ≡ inTime d (getD l 0 0) t) where
+    pub first-late : (limit : ℕ) → not b ≡ true → false ≡ roadKept limit d (take n l)
+    first-late = late 0 h (e ∙ start-first d l n h) f
+
+    pub rode-first : not b ≡ false → Rode d l n 0 (getD l 0 0) t 0
+    rode-first g =
+        let s = e ∙ start-first d l n h in record {
+          at = refl;
+          start = s;
+          ok = below-next 0 (startOk d (take n l)) (below-none _) (start-told 0 h s ∙ sym f ∙ not-false b g);
+          metres = length-first d l;
+        }
 
   -- the next stop, where it is t, and b tells whether that is in time
   module _ {i p s total t : ℕ} {b : Bool} (r : Rode d l n i p s total) (h : i + 1 < n) (e : t ≡ arrives d s p (getD l (i + 1) 0))
@@ -61,8 +71,7 @@ module _ (d : Day) (l : List ℕ) (n : ℕ) (most : n ≤ length l) where
     start = e ∙ ap (λ (q : ℕ). arrives d s q (getD l (i + 1) 0)) (r .at) ∙ start-turn d l n i h (r .start)
 
     pub rode-late : (limit : ℕ) → not b ≡ true → false ≡ roadKept limit d (take n l)
-    unfolding roadKept
-    rode-late limit g = rw (windows-told, below-fails n (i + 1) (startOk d (take n l)) h (start-told (i + 1) h start ∙ sym f ∙ not-true b g))
+    rode-late = late (i + 1) h start f
 
     pub rode-next : {m : ℕ} → not b ≡ false → m ≡ d .metres p (getD l (i + 1) 0) → Rode d l n (i + 1) (getD l (i + 1) 0) t (total + m)
     rode-next {m} g k = record {

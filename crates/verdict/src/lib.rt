@@ -88,8 +88,8 @@ fn is_open(sets: &[u64; Node::MOST], x: usize) -> bool
     bits::count(places(sets, x)) != 0
 }
 
-// Windows and metres in one pass along the route: no start is too late, and the legs are together within the limit. The first start need not
-// be asked: it is its node's earliest, which is in time on every sheet.
+// Windows and metres in one pass along the route: no start is too late, the first and the last one among them, and the legs are together within
+// the limit.
 fn on_the_road(
     s: &[u8],
     at: Layout,
@@ -102,6 +102,9 @@ fn on_the_road(
 {
     let mut p = route[0];
     let mut t = day::look::earliest(s, at, p);
+    if !in_time(t, last_moment(s, at, p)) {
+        return false;
+    }
     let mut total = 0;
     let mut i = 0;
     while i + 1 < stops {

@@ -11,7 +11,7 @@ pub struct Facts {
     pub path: Vec<usize>,
     /// Start time at each stop.
     pub e: Vec<i64>,
-    /// Latest start at each stop that leaves the rest in time.
+    /// Last start at each stop that leaves it and the rest in time; may be below 0.
     pub l: Vec<i64>,
     /// Load aboard on the leg that leaves each stop but the last.
     pub h: Vec<i64>,
@@ -25,7 +25,7 @@ impl Facts {
             capacity: sheet.van(van).capacity,
             limit: sheet.van(van).limit,
             e: starts(sheet, &path),
-            l: latest_starts(sheet, &path),
+            l: last_starts(sheet, &path),
             h: (0..path.len() - 1).map(|leg| aboard(sheet, &path, leg)).collect(),
             metres: path.windows(2).map(|w| sheet.metres(w[0], w[1])).sum(),
             path,
@@ -51,16 +51,19 @@ pub fn starts(sheet: &Sheet, path: &[usize]) -> Vec<i64> {
     e
 }
 
-pub fn latest_starts(sheet: &Sheet, path: &[usize]) -> Vec<i64> {
+pub fn last_starts(sheet: &Sheet, path: &[usize]) -> Vec<i64> {
     let last = path.len() - 1;
     let mut l = vec![0; path.len()];
-    l[last] = sheet.nodes[path[last]].latest;
+    l[last] = sheet.last_moment(path[last]);
     for i in (0..last).rev() {
         let (here, next) = (path[i], path[i + 1]);
         let by_next = l[i + 1] - sheet.nodes[here].service - sheet.seconds(here, next);
-        l[i] = by_next.min(sheet.nodes[here].latest);
+        l[i] = by_next.min(sheet.last_moment(here));
         if slips::on(slips::L_UNSIGNED) && by_next < 0 {
-            l[i] = sheet.nodes[here].latest;
+            l[i] = sheet.last_moment(here);
+        }
+        if slips::on(slips::L_TAKES_SERVICE_OFF_THE_NEXT_ONLY) {
+            l[i] = by_next.min(sheet.nodes[here].latest);
         }
     }
     l

@@ -18,7 +18,7 @@ pub fn falls(sheet: &Sheet, van: usize, state: &State, x: usize, i: usize) -> bo
         })
 }
 
-/// Minutes from stop i to stop j without any waiting.
+/// Seconds from stop i to stop j without any waiting.
 fn drive(sheet: &Sheet, path: &[usize], i: usize, j: usize) -> i64 {
     (i..j).map(|s| sheet.nodes[path[s]].service + sheet.seconds(path[s], path[s + 1])).sum()
 }
@@ -29,10 +29,13 @@ fn start(sheet: &Sheet, path: &[usize], j: usize) -> i64 {
 }
 
 /// x stands at `at`: is it late itself, or does its start, driven on without waiting, make a
-/// later stop late?
+/// later stop late? Late is a stop whose service is not over when its door is shut.
 fn late(sheet: &Sheet, with: &[usize], at: usize) -> bool {
     let begin = start(sheet, with, at);
-    (at..with.len()).any(|j| begin + drive(sheet, with, at, j) > sheet.nodes[with[j]].latest)
+    (at..with.len()).any(|j| {
+        let stop = &sheet.nodes[with[j]];
+        begin + drive(sheet, with, at, j) + stop.service > stop.latest
+    })
 }
 
 /// Loads of the route's own whole jobs and of this one job, along the list `with`, on the legs

@@ -4,6 +4,7 @@
 pub mod check;
 pub mod choices;
 pub mod compare;
+pub mod doors;
 pub mod effect;
 pub mod face;
 pub mod facts;

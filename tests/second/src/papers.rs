@@ -1,4 +1,5 @@
-//! 01's own examples: the listing, P1 to P12, and the examples that are run only.
+//! 01's own examples, with the numbers that 02 (No. 3) gives them: the listing, P1 to P12, and the
+//! examples that are run only.
 
 use crate::face;
 use crate::facts::Facts;
@@ -20,10 +21,10 @@ pub const LISTING: &str = "\
 step 1 answer 0 open 2 records 0 rounds 0 alive 1
 step 2 answer 0 open 2 records 0 rounds 0 alive 1
 step 3 answer 0 open 2 records 1 rounds 0 alive 1
-step 4 answer 0 open 1 records 2 rounds 1 alive 1
-step 5 answer 15 open 1 records 2 rounds 0 alive 1
-step 6 answer 0 open 0 records 3 rounds 0 alive 1
-step 7 answer 0 open 0 records 3 rounds 0 alive 1
+step 4 answer 0 open 0 records 2 rounds 1 alive 0
+step 5 answer 15 open 0 records 2 rounds 0 alive 0
+step 6 answer 15 open 0 records 2 rounds 0 alive 0
+step 7 answer 0 open 0 records 2 rounds 0 alive 0
 step 8 answer 0 open 2 records 0 rounds 0 alive 1
 route 0 3
 ";
@@ -76,9 +77,9 @@ pub fn table() -> Vec<(&'static str, bool)> {
     vec![
         ("listing", listing(&bytes_with(&[])) == LISTING),
         ("P1", route_facts(&[]).e == [0, 20, 35]),
-        ("P2", route_facts(&[]).l[1] == 25),
+        ("P2", route_facts(&[]).l[1] == 20),
         ("P3", route_facts(&[]).l[0] == 0),
-        ("P4", one_left_after_two_placed(&[]) & 0b001 == 0b001),
+        ("P4", one_left_after_two_placed(&[]) & 0b001 == 0),
         ("P5", one_left_after_two_placed(&[(LATEST_2, 24)]) & 0b001 == 0),
         ("P6", one_left_after_two_placed(&[]) & 0b100 == 0),
         ("P7", fresh_settled(&[(LIMIT, 30)]) == (1, 1, 0, true)),
@@ -86,7 +87,7 @@ pub fn table() -> Vec<(&'static str, bool)> {
         ("P9", fresh_settled(&[(CAPACITY, 1)]) == (0, 0, 1, true)),
         ("P10", fresh_settled(&[(LATEST_2, 19)]) == (0, 0, 2, true)),
         ("P11", Facts::of(&p11, 0, &State::fresh(4)).l[0] == -20 && !van_alive(&p11, 0, &State::fresh(4))),
-        ("P12", rounds.len() == 5 && kept == [vec![0, 3], vec![0, 1, 2, 3]]),
+        ("P12", rounds.len() == 5 && kept == [vec![0, 3]]),
     ]
 }
 

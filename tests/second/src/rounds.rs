@@ -1,4 +1,5 @@
-//! Brute force: every round of a small state, and the rules a round keeps, straight from 01.
+//! Brute force: every round of a small state, and the rules a round keeps, straight from 01 and,
+//! for the door, 02.
 
 use crate::sheet::Sheet;
 use crate::state::State;
@@ -69,6 +70,7 @@ pub fn keeps_rules(sheet: &Sheet, van: usize, round: &[usize]) -> bool {
         && in_load(sheet, van, round)
 }
 
+/// No start above the last moment, first and last stop included.
 pub fn in_time(sheet: &Sheet, round: &[usize]) -> bool {
     let mut time = sheet.nodes[0].earliest;
     for (i, &here) in round.iter().enumerate() {
@@ -79,7 +81,7 @@ pub fn in_time(sheet: &Sheet, round: &[usize]) -> bool {
                 time = sheet.nodes[here].earliest;
             }
         }
-        if time > sheet.nodes[here].latest {
+        if time > sheet.last_moment(here) {
             return false;
         }
     }

@@ -4,6 +4,7 @@ use crate::slips;
 
 pub struct Node {
     pub earliest: i64,
+    /// The door is shut then: the service must be over.
     pub latest: i64,
     pub service: i64,
 }
@@ -48,6 +49,15 @@ impl Sheet {
     }
     pub fn metres(&self, from: usize, to: usize) -> i64 {
         self.metres[from * self.n() + to]
+    }
+    /// The last moment to start at a node: latest less service. Below 0 where the service alone
+    /// takes longer than that.
+    pub fn last_moment(&self, node: usize) -> i64 {
+        let last = self.nodes[node].latest - self.nodes[node].service;
+        if slips::on(slips::LAST_MOMENT_CUT_AT_0) {
+            return last.max(0);
+        }
+        last
     }
     /// The other node of the transfer that x has an end of.
     pub fn partner(&self, x: usize) -> Option<usize> {

@@ -1,7 +1,7 @@
-//! Wrong variants on purpose. The slips that 01 names, those that a fleet invites, and a few
-//! more, can be switched on in `listing`, `probe` and `check` by SECOND_BREAK, so that one can
-//! see the comparison and the checks fail. Nothing else reads the switch: the side that judges
-//! is never broken.
+//! Wrong variants on purpose. The slips that 01 names, those that a fleet and a shut door invite,
+//! and a few more, can be switched on in `listing`, `probe` and `check` by SECOND_BREAK, so that
+//! one can see the comparison and the checks fail. Nothing else reads the switch: the side that
+//! judges is never broken.
 
 use std::sync::atomic::{AtomicU64, Ordering};
 
@@ -32,7 +32,12 @@ pub const ROOM_OF_THE_NAMED_VAN_ONLY: u64 = 24;
 pub const PARTS_OF_WHOLE_RECORDS: u64 = 25;
 pub const A_RECORD_IN_EVERY_OTHER_VAN: u64 = 26;
 pub const STATES_THAT_ARE_NO_VAN_NOT_ASKED: u64 = 27;
-pub const LAST: u64 = 27;
+pub const L_TAKES_SERVICE_OFF_THE_NEXT_ONLY: u64 = 28;
+pub const WINDOW_ASKS_THE_START_ALONE: u64 = 29;
+pub const LAST_MOMENT_CUT_AT_0: u64 = 30;
+pub const FIRST_STOP_NOT_ASKED: u64 = 31;
+pub const END_WITHOUT_ITS_SERVICE: u64 = 32;
+pub const LAST: u64 = 32;
 
 static SLIP: AtomicU64 = AtomicU64::new(0);
 

@@ -20,7 +20,12 @@ pub fn window(sheet: &Sheet, facts: &Facts, x: usize, i: usize) -> bool {
     let (p, k) = (facts.path[i], facts.path[i + 1]);
     let arrival = facts.e[i] + sheet.nodes[p].service + sheet.seconds(p, x);
     let start = arrival.max(sheet.nodes[x].earliest);
-    start > sheet.nodes[x].latest || start + sheet.nodes[x].service + sheet.seconds(x, k) > facts.l[i + 1]
+    let last = if slips::on(slips::WINDOW_ASKS_THE_START_ALONE) {
+        sheet.nodes[x].latest
+    } else {
+        sheet.last_moment(x)
+    };
+    start > last || start + sheet.nodes[x].service + sheet.seconds(x, k) > facts.l[i + 1]
 }
 
 pub fn metres(sheet: &Sheet, facts: &Facts, x: usize, i: usize) -> bool {

@@ -32,12 +32,23 @@ pub fn alive(sheet: &Sheet, fleet: &Fleet) -> bool {
 pub fn van_alive(sheet: &Sheet, van: usize, state: &State) -> bool {
     let facts = Facts::of(sheet, van, state);
     let stranded = (1..sheet.n() - 1).any(|x| state.sets[x] == 0 && owed(sheet, state, x));
-    let late = (0..facts.path.len()).any(|i| facts.e[i] > sheet.nodes[facts.path[i]].latest);
     let far = facts.metres > facts.limit;
     let heavy = facts.h.iter().any(|&load| load > facts.capacity);
     let turned = sheet.jobs.iter().any(|job| {
         let ends = (facts.position(job.a), facts.position(job.b));
         job.kind == 3 && matches!(ends, (Some(a), Some(b)) if a > b)
     });
-    !(stranded || late || far || heavy || turned)
+    !(stranded || late(sheet, &facts) || far || heavy || turned)
+}
+
+/// E's check: some start of the route is above the last moment there, first and last included.
+fn late(sheet: &Sheet, facts: &Facts) -> bool {
+    let first = if slips::on(slips::FIRST_STOP_NOT_ASKED) { 1 } else { 0 };
+    (first..facts.path.len()).any(|i| {
+        let node = facts.path[i];
+        if slips::on(slips::END_WITHOUT_ITS_SERVICE) && node == sheet.n() - 1 {
+            return facts.e[i] > sheet.nodes[node].latest;
+        }
+        facts.e[i] > sheet.last_moment(node)
+    })
 }

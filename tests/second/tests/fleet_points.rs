@@ -1,5 +1,6 @@
 //! Readings of the request for a fleet (02, No. 1) that are easy to get wrong, 1-a to 1-t, each
-//! worked by hand on 01's sheet with two vans: wards 1 and 2, a transfer of 2 from 1 to 2.
+//! worked by hand on 01's sheet with two vans: wards 1 and 2, a transfer of 2 from 1 to 2. The door
+//! of ward 2 is shut at 30, not at 25, so that 25 is the last moment there and 0 1 2 3 can be driven.
 
 use second::choices::{all_keep_rules, choices};
 use second::face::{open, open_places, verdict};
@@ -18,8 +19,12 @@ const fn in_van(van: u64, kind: u64) -> u64 {
     256 * van + kind
 }
 
+fn text_of(limits: &str) -> String {
+    SHEET.replacen("2 2 60", limits, 1).replacen("0 25 5", "0 30 5", 1)
+}
+
 fn sheet_of(limits: &str) -> Vec<u8> {
-    to_bytes(&SHEET.replacen("2 2 60", limits, 1)).unwrap()
+    to_bytes(&text_of(limits)).unwrap()
 }
 
 fn two_vans() -> Vec<u8> {
@@ -217,7 +222,7 @@ fn k_whose_trail_needs_room() {
 #[test]
 fn l_the_listing_shows_sums_and_a_route_a_van() {
     let steps = "6, 8 1 0, 257 0 2, 261 0 0, 1 0 1, 5 0 0, 257 0 1";
-    let text = SHEET.replacen("2 2 60", "4 2 60 2 60", 1);
+    let text = text_of("4 2 60 2 60");
     let (day, _) = text.rsplit_once('|').unwrap();
     let listed = "\
         step 1 answer 0 open 4 records 1 rounds 0 alive 1\n\

@@ -1,17 +1,11 @@
-use mathlib.Core.Path.{_≡_}
-use mathlib.Core.Bool.{true}
 use Prim.Native.Nat.{_+_, _-_, _<_}
 use native.Mathlib.Omega.{arith}
-use lib.ListN.{getD, take}
-use borrow.Author.Tests.{le-leb}
-use Rattle.rules.specs.Time.{inTime}
+use lib.ListN.{take}
 use Rattle.day.specs.Tell.{dayOf}
-use Rattle.day.proofs.Range.{ranges}
 use Rattle.along.proofs.TimeLaws.{start-low, length-low}
 use Rattle.along.proofs.RouteLaws.{node-at, low}
 use Rattle.along.proofs.Signed.{in-time-told}
-use Rattle.along.proofs.ReadyLaws.{nodes-are}
-use Rattle.verdict.proofs.Road.{Rode, rode-first, rode-late, rode-next, rode-all}
+use Rattle.verdict.proofs.Road.{Rode, first-late, rode-first, rode-late, rode-next, rode-all}
 use Rattle.verdict.proofs.on_the_road.Statement.{statement}
 use Rattle.verdict.proofs.on_the_road.Tie as tie
 
@@ -27,15 +21,29 @@ element-copy-out-p c = omega (arith, c .before .pre .1 .long)
 earliest-requires : tie.Need-earliest-requires Inv-loop μ-loop
 earliest-requires c κs = let p = c .before .before .pre in (p .0, node-at (p .1) 0 (omega arith))
 
+last-moment-requires : tie.Need-last-moment-requires Inv-loop μ-loop
+last-moment-requires c κs = let p = c .before .before .before .pre in (p .0, node-at (p .1) 0 (omega arith))
+
+in-time-requires : tie.Need-in-time-requires Inv-loop μ-loop
+in-time-requires c κs = omega (arith, c .before .earliest .ensures .low)
+
+returns : tie.Need-returns Inv-loop μ-loop
+returns c =
+    let o = c .before .before .before in
+    let a = o .before .before .before .args in
+    let d = dayOf (a .s .now) in
+    first-late d (a .route .now) (a .stops) (omega arith) (omega arith) (o .earliest .ensures .is)
+    (in-time-told d (low (a .s .now)) _ _ (c .before .before .last-moment .ensures) (c .before .in-time .ensures)) (a .limit) (c .if1 .taken)
+
 loop-holds : tie.Need-loop-holds Inv-loop μ-loop
 loop-holds c =
-    let a = c .before .before .before .args in
-    let p = c .before .before .before .pre in
-    let d = dayOf (a .s .now) in
-    let z = getD (a .route .now) 0 0 in
-    let h : inTime d z (c .earliest .result) ≡ true =
-    le-leb (c .earliest .result) (d .latest z) (omega (arith, c .earliest .ensures .is, ranges (a .s .now) (p .0 .fine) .earliest z (omega (arith, node-at (p .1) 0 (omega arith), nodes-are (p .0))))) in
-    (omega arith, rode-first d (a .route .now) (a .stops) (omega arith) (omega arith) (c .earliest .ensures .is) h)
+    let o = c .before .before .before in
+    let a = o .before .before .before .args in
+    let d = dayOf (a .s .now) in (
+      omega arith,
+      rode-first d (a .route .now) (a .stops) (omega arith) (omega arith) (o .earliest .ensures .is)
+          (in-time-told d (low (a .s .now)) _ _ (c .before .before .last-moment .ensures) (c .before .in-time .ensures)) (c .if1 .left),
+    )
 
 add-loop : tie.Need-add-loop Inv-loop μ-loop
 add-loop c = omega arith
@@ -51,8 +59,8 @@ element-copy-out-x c = omega arith
 
 arrive-requires : tie.Need-arrive-requires Inv-loop μ-loop
 arrive-requires c κs =
-    let a = c .before .before .before .before .before .before .args in
-    let p = c .before .before .before .before .before .before .pre in
+    let a = c .before .before .before .before .before .before .before .before .before .args in
+    let p = c .before .before .before .before .before .before .before .before .before .pre in
     let l = c .before .before .loop in
     let d = dayOf (a .s .now) in (
       p .0,
@@ -61,36 +69,37 @@ arrive-requires c κs =
       omega (arith, l .inv .1 .start, start-low d (low (a .s .now)) (take (a .stops) (a .route .now)) (l .i) (omega arith)),
     )
 
-last-moment-requires : tie.Need-last-moment-requires Inv-loop μ-loop
-last-moment-requires c κs =
-    let p = c .before .before .before .before .before .before .before .pre in
+last-moment-requires-2 : tie.Need-last-moment-requires-2 Inv-loop μ-loop
+last-moment-requires-2 c κs =
+    let p = c .before .before .before .before .before .before .before .before .before .before .pre in
     (p .0, node-at (p .1) (c .before .before .before .loop .i + 1) (omega arith))
 
-in-time-requires : tie.Need-in-time-requires Inv-loop μ-loop
-in-time-requires c κs =
-    let a = c .before .before .before .before .before .before .before .before .args in
+in-time-requires-2 : tie.Need-in-time-requires-2 Inv-loop μ-loop
+in-time-requires-2 c κs =
+    let a = c .before .before .before .before .before .before .before .before .before .before .before .args in
     let l = c .before .before .before .before .loop in
     omega (arith, c .before .arrive .ensures .1, l .inv .1 .start, start-low (dayOf (a .s .now)) (low (a .s .now)) (take (a .stops) (a .route .now)) (l .i) (omega arith))
 
-returns : tie.Need-returns Inv-loop μ-loop
-returns c =
+returns-2 : tie.Need-returns-2 Inv-loop μ-loop
+returns-2 c =
     let o = c .before .before .before in
-    let a = o .before .before .before .before .before .before .before .args in
+    let a = o .before .before .before .before .before .before .before .before .before .before .args in
+    let r = o .before .before .before .before .before .before .before .before .before .before .pre .1 in
     let l = o .before .before .before .loop in
     let d = dayOf (a .s .now) in
-    rode-late d (a .route .now) (a .stops) (omega arith) (l .inv .1) (omega arith) (o .arrive .ensures .0)
-    (in-time-told d (low (a .s .now)) _ _ (c .before .before .last-moment .ensures) (c .before .in-time .ensures)) (a .limit) (c .if1 .taken)
+    rode-late d (a .route .now) (a .stops) (omega (arith, r .most, r .long)) (l .inv .1) (omega arith) (o .arrive .ensures .0)
+    (in-time-told d (low (a .s .now)) _ _ (c .before .before .last-moment2 .ensures) (c .before .in-time2 .ensures)) (a .limit) (c .if2 .taken)
 
 metres-requires : tie.Need-metres-requires Inv-loop μ-loop
 metres-requires c κs =
     let l = c .before .before .before .before .before .before in
-    let p = l .before .before .before .before .pre in
+    let p = l .before .before .before .before .before .before .before .pre in
     (p .0, omega (arith, l .loop .inv .1 .at, node-at (p .1) (l .loop .i) (omega arith)), node-at (p .1) (l .loop .i + 1) (omega arith))
 
 add-total : tie.Need-add-total Inv-loop μ-loop
 add-total c =
     let l = c .before .before .before .before .before .before .before in
-    let a = l .before .before .before .before .args in
+    let a = l .before .before .before .before .before .before .before .args in
     omega (
       arith,
       l .loop .inv .1 .metres,
@@ -105,17 +114,18 @@ loop-again : tie.Need-loop-again Inv-loop μ-loop
 loop-again c =
     let o = c .before .before .before .before in
     let l = o .before .before .before in
-    let a = l .before .before .before .before .args in
+    let a = l .before .before .before .before .before .before .before .args in
+    let r = l .before .before .before .before .before .before .before .pre .1 in
     let d = dayOf (a .s .now) in
-    let e = in-time-told d (low (a .s .now)) _ _ (c .before .before .before .last-moment .ensures) (c .before .before .in-time .ensures) in (
+    let e = in-time-told d (low (a .s .now)) _ _ (c .before .before .before .last-moment2 .ensures) (c .before .before .in-time2 .ensures) in (
       omega arith,
-      rode-next d (a .route .now) (a .stops) (omega arith) (l .loop .inv .1) (omega arith) (o .arrive .ensures .0) e (c .before .if1 .left)
+      rode-next d (a .route .now) (a .stops) (omega (arith, r .most, r .long)) (l .loop .inv .1) (omega arith) (o .arrive .ensures .0) e (c .before .if2 .left)
           (c .metres .ensures .is),
     )
 
-returns-2 : tie.Need-returns-2 Inv-loop μ-loop
-returns-2 c =
-    let a = c .before .before .before .before .before .args in
+returns-3 : tie.Need-returns-3 Inv-loop μ-loop
+returns-3 c =
+    let a = c .before .before .before .before .before .before .before .before .args in
     rode-all (dayOf (a .s .now)) (a .route .now) (a .stops) (omega arith) (c .before .loop .inv .1) (omega arith) (a .limit)
 
 pub on-the-road-spec : {M : Type 1} → statement M
@@ -126,17 +136,20 @@ on-the-road-spec =
     μ-loop
     element-copy-out-p
     earliest-requires
+    last-moment-requires
+    in-time-requires
+    returns
     loop-holds
     add-loop
     add-i
     mul-x
     element-copy-out-x
     arrive-requires
-    last-moment-requires
-    in-time-requires
-    returns
+    last-moment-requires-2
+    in-time-requires-2
+    returns-2
     metres-requires
     add-total
     loop-less
     loop-again
-    returns-2)
+    returns-3)

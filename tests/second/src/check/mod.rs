@@ -8,6 +8,7 @@ mod settling;
 mod trouble;
 mod verdicts;
 
+use crate::doors;
 use crate::fleet::Fleet;
 use crate::gen::{damage, edges, fleets, parts, sheets};
 use crate::rng::Rng;
@@ -28,7 +29,7 @@ pub struct Scene {
 pub fn expected() -> Tally {
     let mut names: Vec<String> = vec![];
     let groups = [kept::NAMES, settling::NAMES, verdicts::NAMES, back::NAMES, alike::NAMES, refusals::NAMES];
-    for group in groups {
+    for group in groups.into_iter().chain([doors::NAMES]) {
         names.extend(group.iter().map(|name| name.to_string()));
     }
     for number in (1..=5).chain(11..=22) {

@@ -3,6 +3,7 @@
 use super::trouble::hold;
 use super::{Scene, Trouble};
 use crate::choices::{all_keep_rules, choices, Choice};
+use crate::doors;
 use crate::facts::Facts;
 use crate::fleet::Fleet;
 use crate::gen::parts;
@@ -43,7 +44,9 @@ pub fn check(scene: &Scene, tally: &mut Tally) -> Result<(), Trouble> {
         }
         super::verdicts::check(scene, &out.fleet, tally)?;
         note_reasons(scene, van, tally);
+        doors::note_settled(tally, &scene.sheet, &scene.fleet.vans[van]);
     }
+    doors::note_judged(tally, &scene.sheet, &scene.fleet);
     super::verdicts::check(scene, &scene.fleet, tally)
 }
 

@@ -1,7 +1,9 @@
 //! What a comparison must have met, by name.
 
 use super::{back_coverage, fleet_coverage};
-use crate::probe::{Case, OPEN, PLACES, SECTION, STEP};
+use crate::doors;
+use crate::fleet::Fleet;
+use crate::probe::{Case, OPEN, PLACES, SECTION, STEP, VERDICT};
 use crate::sheet::{read, triangle_broken, Sheet};
 use crate::step::Step;
 use crate::tally::Tally;
@@ -67,7 +69,7 @@ pub fn of_probes() -> Tally {
     for vans in 1..=8 {
         names.push(format!("step: accepted with {vans} vans"));
     }
-    let groups = [MORE, fleet_coverage::NAMES, back_coverage::NAMES];
+    let groups = [MORE, fleet_coverage::NAMES, back_coverage::NAMES, doors::NAMES];
     names.extend(groups.concat().iter().map(|name| name.to_string()));
     Tally::expecting(names)
 }
@@ -100,8 +102,17 @@ pub fn note_probe(tally: &mut Tally, case: &Case) {
             note_accepted(tally, &sheet, answer);
             fleet_coverage::note_step(tally, &sheet, case, answer);
             back_coverage::note(tally, &sheet, case, answer, &after);
+            let step = Step::of(case.words);
+            if (step.kind, answer) == (5, 0) {
+                doors::note_settled(tally, &sheet, &case.fleet.vans[step.van as usize]);
+            }
         }
-        _ => fleet_coverage::note_verdict(tally, &sheet, case),
+        _ => {
+            fleet_coverage::note_verdict(tally, &sheet, case);
+            if case.question == VERDICT {
+                doors::note_judged(tally, &sheet, &case.fleet);
+            }
+        }
     }
 }
 
@@ -185,10 +196,11 @@ pub fn of_listings() -> Tally {
     ] {
         names.push(more.to_string());
     }
+    names.extend(doors::NAMES.iter().map(|name| name.to_string()));
     Tally::expecting(names)
 }
 
-/// Reads the counts off the expected listing itself.
+/// Reads the counts off the expected listing itself, but for the doors, which are the sheet's.
 pub fn note_listing(tally: &mut Tally, bytes: &[u8], expected: &str) {
     if bytes.len() > crate::sheet::PROGRAM_BYTES {
         tally.add("above 60,104 bytes");
@@ -202,6 +214,13 @@ pub fn note_listing(tally: &mut Tally, bytes: &[u8], expected: &str) {
         tally.add(format!("{} vans", sheet.v()));
         if sheet.n() == 64 || sheet.n() == 2 {
             tally.add(format!("{} nodes", sheet.n()));
+        }
+        if expected.starts_with("step") {
+            let fresh = Fleet::fresh(sheet.n(), sheet.v());
+            if sheet.steps.iter().any(|&words| Step::of(words).kind == 5) {
+                doors::note_settled(tally, &sheet, &fresh.vans[0]);
+            }
+            doors::note_judged(tally, &sheet, &fresh);
         }
     }
     if bytes.is_empty() {

@@ -1,6 +1,7 @@
 //! Sheets bent so that a test of settling, or the verdict, is met exactly or missed by one. At
 //! random that is rare, and a "not above" taken for a "below" would slip through.
 
+use super::doors;
 use super::draft::Draft;
 use super::steps::open_place;
 use crate::facts::Facts;
@@ -21,9 +22,10 @@ pub fn loosen(rng: &mut Rng, draft: &mut Draft) {
     }
 }
 
-fn latest(draft: &mut Draft, node: usize, value: i64) {
-    let low = i64::from(draft.nodes[node][0]);
-    draft.nodes[node][1] = value.clamp(low, 1_000_000) as u32;
+/// Shuts the door of a node so that this is its last moment, as far as the form allows it.
+fn last_moment(draft: &mut Draft, node: usize, value: i64) {
+    let [earliest, _, service] = draft.nodes[node].map(i64::from);
+    draft.nodes[node][1] = (value + service).clamp(earliest, 1_000_000) as u32;
 }
 
 /// Bends one number for one open place (or one stop) of a van's state.
@@ -43,20 +45,29 @@ fn sharpen_place(rng: &mut Rng, draft: &mut Draft, van: usize, facts: &Facts, x:
     let start = (facts.e[i] + sheet.nodes[p].service + sheet.seconds(p, x)).max(sheet.nodes[x].earliest);
     let arrival = start + sheet.nodes[x].service + sheet.seconds(x, k);
     let last = sheet.n() - 1;
-    match rng.below(9) {
-        0 => latest(draft, x, start - off),
-        // The end so early that the latest starts before it fall below 0.
+    match rng.below(11) {
+        0 => last_moment(draft, x, start - off),
+        // The end so early that the last starts before it fall below 0.
         8 => {
             draft.nodes[last][0] = 0;
-            latest(draft, last, rng.between(0, 20));
+            last_moment(draft, last, rng.between(-5, 20));
         }
-        1 => latest(draft, k, arrival - off),
+        // A last moment below 0, of x or of the stop behind it; with a start of 0 it decides alone.
+        9 => {
+            if rng.one_in(2) {
+                doors::still(draft);
+            }
+            let node = *rng.pick(&[x, k]);
+            doors::before_its_service(rng, draft, node);
+        }
+        10 => doors::within_its_service(rng, draft, x),
+        1 => last_moment(draft, k, arrival - off),
         2 => {
             let on: i64 = facts.path[i + 1..]
                 .windows(2)
                 .map(|w| sheet.nodes[w[0]].service + sheet.seconds(w[0], w[1]))
                 .sum();
-            latest(draft, last, arrival + on - off);
+            last_moment(draft, last, arrival + on - off);
         }
         3 => {
             let total = facts.metres + sheet.metres(p, x) + sheet.metres(x, k) - sheet.metres(p, k);
@@ -76,8 +87,11 @@ fn sharpen_route(rng: &mut Rng, draft: &mut Draft, van: usize, facts: &Facts) {
     let off = rng.between(0, 1);
     match rng.below(3) {
         0 => {
-            let i = rng.below(facts.path.len());
-            latest(draft, facts.path[i], facts.e[i] - off);
+            // The ends as often as any stop: they are asked with their service too.
+            let last = facts.path.len() - 1;
+            let any = rng.below(last + 1);
+            let i = *rng.pick(&[0, last, any, any]);
+            last_moment(draft, facts.path[i], facts.e[i] - off);
         }
         1 => draft.limits[van][1] = (facts.metres - off).clamp(0, 1_000_000) as u32,
         _ => draft.limits[van][0] = (rng.pick(&facts.h) - off).clamp(0, 1000) as u32,

@@ -1,5 +1,6 @@
 //! A whole day, metric by construction: a town of straight streets, the dock at both ends, the
-//! nodes numbered along a sweep, windows around that sweep, and every node with all its jobs.
+//! nodes numbered along a sweep, windows around that sweep, each shut once a service begun in it
+//! can be over, and every node with all its jobs.
 
 use super::draft::Draft;
 use super::steps;
@@ -65,7 +66,8 @@ pub fn day(rng: &mut Rng, n: usize, v: usize) -> Draft {
         }
         let late = if x == n - 1 { 1_800 } else { rng.between(300, 6_000) };
         let early = if x == 0 { 0 } else { rng.between(0, 4_000) };
-        nodes.push([(time - early).max(0) as u32, (time + late) as u32, service as u32]);
+        let latest = (time + late + service).min(1_000_000);
+        nodes.push([(time - early).max(0) as u32, latest as u32, service as u32]);
         time += service;
     }
     let total: u32 = jobs.iter().filter(|j| j[0] == 1).map(|j| j[3]).sum();

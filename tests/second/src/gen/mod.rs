@@ -3,6 +3,7 @@
 
 pub mod back;
 pub mod damage;
+pub mod doors;
 pub mod draft;
 pub mod edges;
 pub mod fleets;

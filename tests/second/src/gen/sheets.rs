@@ -1,6 +1,7 @@
 //! Whole sheets that opening accepts: metric, with windows, metres and loads that are tight
 //! around some tour, so that the tests of settling have something to strike.
 
+use super::doors;
 use super::draft::Draft;
 use super::steps;
 use super::tables;
@@ -21,7 +22,8 @@ fn clip(value: i64) -> u32 {
     value.clamp(0, 1_000_000) as u32
 }
 
-/// Windows around the times of the tour; nodes off it get windows around any time.
+/// Windows around the times of the tour, shut when the service can be over; nodes off it get
+/// windows around any time.
 fn windows(rng: &mut Rng, n: usize, path: &[usize], seconds: &[i64]) -> Vec<[u32; 3]> {
     let most_service = *rng.pick(&[0, 3, 6, 20]);
     let slack = *rng.pick(&[0, 2, 8, 30, 200, 3_000_000]);
@@ -41,7 +43,8 @@ fn windows(rng: &mut Rng, n: usize, path: &[usize], seconds: &[i64]) -> Vec<[u32
         .map(|x| {
             let at = if times[x] >= 0 { times[x] } else { rng.between(0, end.max(1)) };
             let earliest = if open_early && x > 0 { 0 } else { clip(at - rng.between(0, slack)) };
-            [earliest, clip(at + rng.between(0, slack)).max(earliest), clip(services[x])]
+            let latest = clip(at + services[x] + rng.between(0, slack)).max(earliest);
+            [earliest, latest, clip(services[x])]
         })
         .collect()
 }
@@ -69,7 +72,8 @@ fn jobs(rng: &mut Rng, n: usize, most_load: i64) -> Vec<[u32; 4]> {
     list
 }
 
-/// A sheet of v vans without steps. Each van has limits of its own around the same tour.
+/// A sheet of v vans without steps. Each van has limits of its own around the same tour, and now
+/// and then a door is shut too early for anyone.
 pub fn plain(rng: &mut Rng, n: usize, v: usize) -> Draft {
     let seconds = tables::any(rng, n);
     let metres = if rng.one_in(3) { seconds.clone() } else { tables::any(rng, n) };
@@ -81,7 +85,7 @@ pub fn plain(rng: &mut Rng, n: usize, v: usize) -> Draft {
         let capacity = rng.between(0, (most_load * (n as i64 / 2 + 2)).min(1000));
         [capacity as u32, clip(length + rng.between(-3, most_more))]
     };
-    Draft {
+    let mut draft = Draft {
         limits: (0..v).map(|_| pair()).collect(),
         nodes: windows(rng, n, &path, &seconds),
         jobs: jobs(rng, n, most_load),
@@ -89,7 +93,9 @@ pub fn plain(rng: &mut Rng, n: usize, v: usize) -> Draft {
         metres: metres.iter().map(|&v| clip(v)).collect(),
         steps: vec![],
         false_counts: vec![],
-    }
+    };
+    doors::shut_some(rng, &mut draft);
+    draft
 }
 
 pub fn any_size(rng: &mut Rng) -> usize {
