@@ -100,7 +100,8 @@ fn put_lines(
     trail: &mut [u64],
     out: &mut [u8],
 ) -> usize
-    requires { ⌜ (callRefusal (now sheet) ≡ 0) × Laid (now sheet) at × (200 * at .steps ≤ length (now out)) × ByNode (jobIn (now sheet)) (at .jobs) (now jobs) ⌝ }
+    requires { ⌜ (callRefusal (now sheet) ≡ 0) × Laid (now sheet) at × (200 * at .steps ≤ length (now out))
+        × ByNode (jobIn (now sheet)) (at .jobs) (now jobs) ⌝ }
     requires { ⌜ Rows (now routes) × Rows (now sets) × Rows (now levels) × Figured (now figures) ⌝ }
     requires { ⌜ fleetWith (now routes) (now sets) (now levels) (now figures) ≡ freshOf (now sheet) ⌝ }
     ensures { λ r. ⌜ Put (now (out .entry)) 0 (linesOf (now (sheet .entry)) (now (trail .entry)) (at .steps)) r (now (out .exit))

@@ -44,7 +44,8 @@ fn tell<'a>(
     f: Figures,
     row: &mut [usize; Told::COUNT],
 )
-    requires { ⌜ Ready (now sheet) at (now route) (f .stops) (now sets) (f .marks) × (length (now row) ≡ 3) × ByNode (jobIn (now sheet)) (at .jobs) (now jobs) ⌝ }
+    requires { ⌜ Ready (now sheet) at (now route) (f .stops) (now sets) (f .marks) × (length (now row) ≡ 3)
+        × ByNode (jobIn (now sheet)) (at .jobs) (now jobs) ⌝ }
     ensures { λ _. ⌜ ((levels : List ℕ) → now (row .exit) ≡ placesOf (now (sets .entry)) 64 ∷ f .records
         ∷ cond (alive van (dayOf (now (sheet .entry))) (planIn (stateWith (now (route .entry)) (now (sets .entry)) levels f))) 1 0 ∷ []) ⌝ }
 {

@@ -109,7 +109,8 @@ pub fn vans_ok<'a>(
 // No van has more records than its part of the trail has room for.
 pub fn within_room(figures: &[[u64; Figures::COUNT]; Fleet::VANS], v: usize, room: usize) -> bool
     requires { ⌜ (v ≤ mostVans) × Figured (now figures) ⌝ }
-    ensures { λ r. ⌜ ((routes sets levels : List (List ℕ)) → r ≡ allBelow v (λ j. leb (stateIn (fleetWith routes sets levels (now (figures .entry))) j .records) room)) ⌝ }
+    ensures { λ r. ⌜ ((routes sets levels : List (List ℕ))
+        → r ≡ allBelow v (λ j. leb (stateIn (fleetWith routes sets levels (now (figures .entry))) j .records) room)) ⌝ }
 {
     let mut j = 0;
     while j < v {

@@ -50,7 +50,8 @@ pub fn unpack(
     row: &mut [u64; Figures::COUNT],
 )
     requires { ⌜ length (now row) ≡ 5 ⌝ }
-    ensures { λ _. ⌜ (stateWith (now (route .exit)) (now (sets .exit)) (now (levels .exit)) (figuresIn (now (row .exit))) ≡ s) × (length (now (row .exit)) ≡ 5) ⌝ }
+    ensures { λ _. ⌜ (stateWith (now (route .exit)) (now (sets .exit)) (now (levels .exit)) (figuresIn (now (row .exit))) ≡ s)
+        × (length (now (row .exit)) ≡ 5) ⌝ }
 {
     let stops = s.route;
     let places = s.sets;

@@ -281,7 +281,8 @@ pub fn undo_many(
     trail: &[u64],
 ) -> Undone
     requires { ⌜ Sound n (board (now route) (f .stops) (now sets) (f .marks) (f .must)) × (base ≤ f .records) × (f .records ≤ roomOf (now trail)) ⌝ }
-    ensures { λ r. ⌜ undoMany (f .records - base) n (board (now (route .entry)) (f .stops) (now (sets .entry)) (f .marks) (f .must)) (f .records) (now (trail .entry))
+    ensures { λ r. ⌜ undoMany (f .records - base) n (board (now (route .entry)) (f .stops) (now (sets .entry)) (f .marks) (f .must))
+        (f .records) (now (trail .entry))
         ≡ undid r (now (route .exit)) (now (sets .exit)) ⌝ }
 {
     let stops = f.stops;

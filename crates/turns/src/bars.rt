@@ -88,8 +88,10 @@ pub fn place_bar<'a>(
     x: usize,
 ) -> usize
     requires { ⌜ ReadyAll (now sheet) at (now routes) (now sets) (now figures) × Rows (now sets) × (van < vansOf (now sheet)) ⌝ }
-    ensures { λ r. ⌜ ((levels : List (List ℕ)) (t : List ℕ) → ((j : ℕ) → j < vansOf (now (sheet .entry)) → roomOf (trailIn (vansOf (now (sheet .entry))) t j) ≡ room)
-        → r ≡ placeBar (dayOf (now (sheet .entry))) (vansOf (now (sheet .entry))) (fleetWith (now (routes .entry)) (now (sets .entry)) levels (now (figures .entry))) t van p x) ⌝ }
+    ensures { λ r. ⌜ ((levels : List (List ℕ)) (t : List ℕ)
+        → ((j : ℕ) → j < vansOf (now (sheet .entry)) → roomOf (trailIn (vansOf (now (sheet .entry))) t j) ≡ room)
+        → r ≡ placeBar (dayOf (now (sheet .entry))) (vansOf (now (sheet .entry)))
+        (fleetWith (now (routes .entry)) (now (sets .entry)) levels (now (figures .entry))) t van p x) ⌝ }
 {
     let f = figures_in(&figures[van]);
     let shut = place_shut(&routes[van], &sets[van], f, at.nodes, p, x);

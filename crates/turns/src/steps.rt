@@ -42,7 +42,8 @@ fn place(
     trail: &mut [u64],
     step: Step,
 ) -> Outcomes
-    requires { ⌜ KnownRows (now sheet) at (now routes) (now sets) (now levels) (now figures) (now trail) × (step .kind ≡ kinds.PLACE) × (step .van < vansOf (now sheet)) ⌝ }
+    requires { ⌜ KnownRows (now sheet) at (now routes) (now sets) (now levels) (now figures) (now trail)
+        × (step .kind ≡ kinds.PLACE) × (step .van < vansOf (now sheet)) ⌝ }
     ensures { λ r. ⌜ Did (vanAct (vanOf (now (sheet .entry))) (dayOf (now (sheet .entry))) (vansOf (now (sheet .entry)))
         (fleetWith (now (routes .entry)) (now (sets .entry)) (now (levels .entry)) (now (figures .entry))) (now (trail .entry)) step)
         r (now (routes .exit)) (now (sets .exit)) (now (levels .exit)) (now (figures .exit)) (now (trail .exit)) ⌝ }
@@ -79,7 +80,8 @@ fn alone(
     trail: &mut [u64],
     step: Step,
 ) -> Outcomes
-    requires { ⌜ KnownRows (now sheet) at (now routes) (now sets) (now levels) (now figures) (now trail) × (step .kind ≡ kinds.PLACE → ⊥) × (step .van < vansOf (now sheet)) ⌝ }
+    requires { ⌜ KnownRows (now sheet) at (now routes) (now sets) (now levels) (now figures) (now trail)
+        × (step .kind ≡ kinds.PLACE → ⊥) × (step .van < vansOf (now sheet)) ⌝ }
     ensures { λ r. ⌜ Did (vanAct (vanOf (now (sheet .entry))) (dayOf (now (sheet .entry))) (vansOf (now (sheet .entry)))
         (fleetWith (now (routes .entry)) (now (sets .entry)) (now (levels .entry)) (now (figures .entry))) (now (trail .entry)) step)
         r (now (routes .exit)) (now (sets .exit)) (now (levels .exit)) (now (figures .exit)) (now (trail .exit)) ⌝ }
