@@ -21,7 +21,7 @@
    are made from the fresh fleet by step 1 alone, never settled. (With n/2 = 1 the next ward is 0,
    after 2^64 - 1, in the first van.)
    Each time starts from the same fleet (a copy), with a trail of v x 2 x 4,030 words, and through
-   the calls a user has: bytes of the sheet in, so 1 to 4 are judged each time.
+   the calls a user has: bytes of the sheet in, so 1 to 4 and 6 are judged each time.
    Before each time the number of the time, modulo 1,000, is written into seconds(0, 0): a
    diagonal is never used, so nothing changes, but no compiler may do the work once for all.
 

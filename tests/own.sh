@@ -63,7 +63,7 @@ else
     echo 'FAILED  plain C does not compile'
     failed=$((failed + 1))
 fi
-for slip in $(seq 1 32); do
+for slip in $(seq 1 41); do
     told "wrong variant $slip is told" ' [1-9][0-9]* differences$' \
         "$bin/second" compare --kind probe --seed "$seed" --stop 1 -- env SECOND_BREAK="$slip" \
         "$bin/second" probe

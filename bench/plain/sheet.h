@@ -1,10 +1,12 @@
-/* Reading a sheet: refusals 1 to 4, with all that the steps need laid out by node. */
+/* Reading a sheet: refusals 1 to 4 and 6, with all that the steps need laid out by node. */
 
 enum { CLEAN = 1, SOILED = 2, TRANSFER = 3 };
 
 typedef struct {
     u32 n, vans;
     i32 capacity[MOST_VANS], limit[MOST_VANS];
+    i32 largest;                        /* capacity, over all vans */
+    i32 heaviest;                       /* load, over all jobs; 0: no job */
     i32 earliest[MOST_NODES], service[MOST_NODES];
     i32 last[MOST_NODES];               /* last moment to start: latest less service, may be negative */
     i32 load[TRANSFER + 1][MOST_NODES]; /* by kind of job; 0: none */
@@ -47,10 +49,12 @@ static u64 read_limits(Reader *r, Sheet *s)
     u64 no = entries(r, 2, 2 * MOST_VANS, 1, &e, &count);
     if (no) return no;
     s->vans = count / 2;
+    s->largest = 0;
     for (u32 v = 0; v < s->vans; v++) {
         u32 capacity = word(e + 8 * v), limit = word(e + 8 * v + 4);
         bad |= (capacity > 1000) | (limit > 1000000);
         s->capacity[v] = (i32)capacity;
+        if ((i32)capacity > s->largest) s->largest = (i32)capacity;
         s->limit[v] = (i32)limit;
     }
     return bad ? 3 : 0;
@@ -81,6 +85,7 @@ static u64 read_job(Sheet *s, const u8 *e, u64 has[4], int *twice)
     if (kind < CLEAN || kind > TRANSFER || outside(s, a) || load < 1 || load > 1000) return 3;
     u64 nodes = bit(a);
     s->load[kind][a] = (i32)load;
+    if ((i32)load > s->heaviest) s->heaviest = (i32)load;
     if (kind == TRANSFER) {
         if (outside(s, b) || a == b) return 3;
         nodes |= bit(b);
@@ -104,6 +109,7 @@ static u64 read_jobs(Reader *r, Sheet *s, int *twice)
         s->partner[x] = 0;
     }
     s->pickups = 0;
+    s->heaviest = 0;
     for (u32 j = 0; j < s->job_count; j++) {
         no = read_job(s, s->jobs + 16 * j, has, twice);
         if (no) return no;
@@ -152,5 +158,6 @@ static u64 read_sheet(const u8 *bytes, u64 length, Sheet *s)
     if ((no = read_table(&r, s, &s->metres))) return no;
     if ((no = entries(&r, 0, MOST_STEPS, 3, &s->steps, &s->step_count))) return no;
     if (r.at != r.words) return 1;
-    return twice ? 4 : 0;
+    if (twice) return 4;
+    return s->heaviest > s->largest ? 6 : 0;
 }

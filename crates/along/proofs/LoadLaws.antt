@@ -12,17 +12,18 @@ use lib.ListN.{getD, set, take, drop, length, replicate, length-set}
 use lib.Seq.{getD-set-same, getD-set-other}
 use borrow.Author.Tests.{lt-ltb, le-ltb, lt-leb, le-leb, ltb-true, ltb-false, leb-true, leb-false}
 use Rattle.laws.proofs.Logic.{decided}
-use Rattle.laws.specs.Basic.{mem, allBelow, sumBelow, tab, Filled}
+use Rattle.laws.specs.Basic.{mem, allBelow, sumBelow, peak, tab, Filled}
 use Rattle.laws.proofs.Sum.{sum-next, sum-same, sum-most}
+use Rattle.laws.proofs.Peak.{peak-next, peak-same}
 use Rattle.laws.proofs.Table.{filled-none, filled-more}
-use Rattle.rules.specs.Load.{aboard, sum}
+use Rattle.rules.specs.Load.{loadOf, aboard, sum}
 use Rattle.rules.specs.Rounds.{Distinct}
 use Rattle.rules.specs.Along.{behind}
 use Rattle.rules.specs.declared.Job.{Job}
 use Rattle.rules.specs.declared.Job.the-variants.{Clean, Soiled, Transfer}
-use Rattle.along.specs.Spots.{Spots, loadOf}
+use Rattle.along.specs.Spots.{Spots}
 use Rattle.along.proofs.SpotLaws.{same-entries, rides, aboard-is}
-use Rattle.along.specs.Loads.{more, stowFirst, stowOn, stowOff, running, Flows, peak}
+use Rattle.along.specs.Loads.{more, stowFirst, stowOn, stowOff, running, Flows}
 
 -- ---- the jobs one after the other, and all of them
 
@@ -168,29 +169,6 @@ module _ (a on off : List ℕ) (i : ℕ) (few : i < 64) (wide : length on ≡ 64
   stow-is (Clean x w) = brings-clean x w
   stow-is (Soiled x w) = brings-soiled x w
   stow-is (Transfer x y w) = brings-transfer x y w
-
--- ---- the greatest so far
-
-pub peak-next : (f : ℕ → ℕ) (i : ℕ) → peak f (i + 1) ≡ max (peak f i) (f i)
-unfolding peak
-peak-next f i = rw (add-one i)
-
--- none of the first n is above it
-pub peak-most : (f : ℕ → ℕ) (n i : ℕ) → i < n → f i ≤ peak f n
-unfolding peak
-peak-most f zero i a = absurd (omega arith)
-peak-most f (suc n) i a =
-    ⊎-elim (λ e. let z : f i ≡ f n = ap f e in omega arith) (λ l. omega (arith, peak-most f n i l)) (eq-or-lt-of-le (le-of-suc-le-suc a))
-
-pub peak-low : (f : ℕ → ℕ) (n b : ℕ) → 0 < b → ((i : ℕ) → i < n → f i < b) → peak f n < b
-unfolding peak
-peak-low f zero b z p = z
-peak-low f (suc n) b z p = omega (arith, peak-low f n b z (λ i a. p i (omega arith)), p n (omega arith))
-
-pub peak-same : (f g : ℕ → ℕ) (n : ℕ) → ((i : ℕ) → i < n → f i ≡ g i) → peak f n ≡ peak g n
-unfolding peak
-peak-same f g zero e = refl
-peak-same f g (suc n) e = λ u. max (peak-same f g n (λ i h. e i (omega arith)) u) (e n (omega arith) u)
 
 -- ---- what is aboard, leg by leg
 

@@ -12,7 +12,7 @@ use Rattle.sheet.specs.Word.{size, wordAt}
 use Rattle.sheet.proofs.PlaceLaws.{word-low}
 use Rattle.sheet.specs.Section.{jobsAt}
 use Rattle.day.specs.Tell.{dayOf, cell, jobOf, jobAt, jobIn}
-use Rattle.along.specs.Spots.{loadOf}
+use Rattle.rules.specs.Load.{loadOf}
 use Rattle.along.proofs.SpotLaws.{node-low}
 use Rattle.along.proofs.TimeLaws.{Low}
 use Rattle.along.proofs.Signed.{mag-below}

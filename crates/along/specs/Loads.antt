@@ -1,17 +1,17 @@
 -- H by what comes aboard and what goes off at each stop.
 use mathlib.Core.Path.{_≡_}
-use Prim.Native.Nat.{ℕ, zero, suc, max, _+_, _-_, _<_, _≤_}
+use Prim.Native.Nat.{ℕ, _+_, _-_, _<_, _≤_}
 use mathlib.Core.Bool.{cond, _&&_}
 use mathlib.Core.List.{List}
 use lib.Dec.{ltb}
 use lib.ListN.{getD, set, length}
-use Rattle.laws.specs.Basic.{sumBelow}
+use Rattle.laws.specs.Basic.{sumBelow, peak}
 use Rattle.rules.specs.Day.{Day}
+use Rattle.rules.specs.Load.{loadOf}
 use Rattle.rules.specs.Along.{loadAt}
 use Rattle.rules.specs.declared.Job.{Job}
 use Rattle.rules.specs.declared.Job.the-variants.{Clean, Soiled, Transfer}
 use Rattle.along.specs.declared.loads.Peaks.{Peaks}
-use Rattle.along.specs.Spots.{loadOf}
 
 -- ---- what comes aboard and what goes off
 
@@ -48,11 +48,6 @@ pub record Flows (first : ℕ) (on off : List ℕ) (stops : ℕ) : Type 0 where
   pub few : stops ≤ 64
   pub low : (i : ℕ) → i + 1 < stops → first + sumBelow (i + 1) (λ k. getD on k 0) < 4611686018427387904
   pub covers : (i : ℕ) → i + 1 < stops → sumBelow (i + 1) (λ k. getD off k 0) ≤ first + sumBelow (i + 1) (λ k. getD on k 0)
-
--- the greatest of the first n numbers f
-unfoldable pub peak : (ℕ → ℕ) → ℕ → ℕ
-peak f zero = 0
-peak f (suc i) = max (peak f i) (f i)
 
 -- the most of H on the first n legs of the route m, and the most that one of the first j jobs g loads
 pub record Peaked (d : Day) (m : List ℕ) (n : ℕ) (g : ℕ → Job) (j : ℕ) (p : Peaks) : Type 0 where

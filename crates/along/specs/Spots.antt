@@ -1,12 +1,10 @@
--- Where each node stands on a route of n stops in an array, and how that tells which jobs are aboard on a leg.
+-- Where each node stands on a route of n stops in an array.
 use mathlib.Core.Path.{_≡_}
 use Prim.Native.Nat.{ℕ, zero, suc}
 use mathlib.Core.Bool.{cond}
 use mathlib.Core.List.{List}
 use lib.Dec.{eqb}
 use lib.ListN.{getD, length}
-use Rattle.rules.specs.declared.Job.{Job}
-use Rattle.rules.specs.declared.Job.the-variants.{Clean, Soiled, Transfer}
 
 -- the stop of the first n at which x stands; 64 where it stands at none
 unfoldable pub spot : List ℕ → ℕ → ℕ → ℕ
@@ -18,11 +16,3 @@ spot l (suc n) x = cond (eqb (getD l n 0) x) n (spot l n x)
 pub record Spots (l : List ℕ) (n : ℕ) (a : List ℕ) : Type 0 where
   pub long : length a ≡ 64
   pub at : (x : ℕ) → getD a x 64 ≡ spot l n x
-
--- ---- the legs that a job is aboard on
-
--- how much a job's load is
-abbrev pub loadOf : Job → ℕ
-loadOf (Clean a w) = w
-loadOf (Soiled a w) = w
-loadOf (Transfer a b w) = w

@@ -2,14 +2,15 @@
 ghost use mathlib.Core.Path.{_≡_};
 ghost use Prim.Native.Nat.{ℕ, _-_, _<_};
 ghost use lib.ListN.{take, getD, length, replicate};
-ghost use Rattle.laws.specs.Basic.{Filled};
+ghost use Rattle.laws.specs.Basic.{peak, Filled};
+ghost use Rattle.rules.specs.Load.{loadOf};
 ghost use Rattle.rules.specs.Along.{loadAt};
 ghost use Rattle.sheet.specs.Place.{Laid};
 ghost use Rattle.day.specs.Tell.{jobIn, dayOf};
 ghost use Rattle.day.specs.Seen.{Placed};
 ghost use Rattle.along.specs.Route.{Route};
-ghost use Rattle.along.specs.Spots.{Spots, loadOf};
-ghost use Rattle.along.specs.Loads.{stowFirst, stowOn, stowOff, running, Flows, peak, Peaked};
+ghost use Rattle.along.specs.Spots.{Spots};
+ghost use Rattle.along.specs.Loads.{stowFirst, stowOn, stowOff, running, Flows, Peaked};
 use rules::Job;
 use rules::Node;
 use sheet::Layout;
@@ -84,21 +85,6 @@ pub fn run(
     most
 }
 
-// How much a job loads.
-fn load_of(job: Job) -> usize
-    ensures { λ r. ⌜ r ≡ loadOf job ⌝ }
-{
-    match job {
-        Job::Clean { node: _, load } => load,
-        Job::Soiled { node: _, load } => load,
-        Job::Transfer {
-            from: _,
-            to: _,
-            load,
-        } => load,
-    }
-}
-
 // H: the load aboard on each leg of the route, where `spots` has each node's stop, into an array of zeros; and the peaks.
 pub fn loads(
     s: &[u8],
@@ -120,7 +106,7 @@ pub fn loads(
     while j < m {
         let job = day::jobs::job(s, at, j);
         first += stow(job, spots, h, &mut off);
-        let load = load_of(job);
+        let load = job.load();
         heaviest = if heaviest < load { load } else { heaviest };
         j += 1;
     }

@@ -2,10 +2,10 @@
 ghost use mathlib.Core.Path.{_≡_};
 ghost use Prim.Native.Nat.{ℕ, _+_, _<_};
 ghost use lib.ListN.{getD, length, replicate};
+ghost use Rattle.rules.specs.Load.{loadOf};
 ghost use Rattle.sheet.specs.Place.{Laid};
 ghost use Rattle.day.specs.Tell.{jobIn};
 ghost use Rattle.day.specs.Seen.{Placed};
-ghost use Rattle.along.specs.Spots.{loadOf};
 ghost use Rattle.along.specs.Nodes.{Entered, ByNode, Mates};
 use rules::Job;
 use sheet::Layout;

@@ -47,7 +47,7 @@ module _ (s : List ℕ) (h : callRefusal s ≡ 0) where
   pair k j a b =
       not-true (clash (jobIn s k) (jobIn s j))
       (below-at k j (λ j. not (clash (jobIn s k) (jobIn s j)))
-      (below-at (mOf s) k (apartAt (jobIn s)) (unless-zero _ _ (or-else-zero _ _ h .1)) a) b)
+      (below-at (mOf s) k (apartAt (jobIn s)) (unless-zero _ _ (or-else-zero _ _ (or-else-zero _ _ h .1) .0)) a) b)
 
   differ : (k j : ℕ) {a b w c d v : ℕ} → k < mOf s → j < k → jobIn s k ≡ Transfer a b w → jobIn s j ≡ Transfer c d v
       → (a ≢ c) × (a ≢ d) × (b ≢ c) × (b ≢ d)

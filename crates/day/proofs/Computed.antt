@@ -2,12 +2,12 @@
 use Prim.Native.Nat.{ℕ}
 use mathlib.Core.Path.{_≡_, refl}
 use mathlib.Core.List.{List, [], _∷_}
-use Rattle.laws.specs.Basic.{allBelow, orElse}
+use Rattle.laws.specs.Basic.{allBelow, orElse, peak}
 use Rattle.sheet.specs.Word.{wordAt}
 use Rattle.sheet.specs.Section.{headRefusal, limitsRefusal, nodesRefusal, jobsRefusal, tableRefusal, stepsRefusal, laterRefusal, readRefusal}
 use Rattle.rules.specs.Day.{isInner, shortestLine, shortestRow, triangle}
 use Rattle.rules.specs.declared.Job.the-variants.{Transfer}
-use Rattle.day.specs.Refuse.{callRefusal, openRefusal, clash, apart}
+use Rattle.day.specs.Refuse.{callRefusal, openRefusal, clash, apart, canRide}
 use Rattle.day.specs.Section.{spanOf, sectionOf}
 use Rattle.day.specs.Tell.{vanOf, dayOf, cell, jobAt, jobIn}
 use Rattle.day.specs.Example.{_▸_, nodesWith, paperJobs, tableWith, stepsWith, sheetOf, sheetWith}
@@ -15,61 +15,69 @@ use Rattle.day.specs.Example.{_▸_, nodesWith, paperJobs, tableWith, st
 abbrev paper : List ℕ
 paper = sheetWith 2 60 25 100
 
--- two clean jobs, the second at node x; seconds from node 3 to node 0
-abbrev cleanAgain : ℕ → ℕ → List ℕ
-cleanAgain x back = sheetOf 2 60 25 100 (2 ▸ 1 ▸ 1 ▸ 0 ▸ 2 ▸ 1 ▸ x ▸ 0 ▸ 2 ▸ tableWith back (tableWith 30 (stepsWith 8)))
+-- two clean jobs of load 2, the second at node x; the capacity, and the seconds from node 3 to node 0
+abbrev cleanAgain : ℕ → ℕ → ℕ → List ℕ
+cleanAgain capacity x back = sheetOf capacity 60 25 100 (2 ▸ 1 ▸ 1 ▸ 0 ▸ 2 ▸ 1 ▸ x ▸ 0 ▸ 2 ▸ tableWith back (tableWith 30 (stepsWith 8)))
 
--- the paper's sheet with another number of seconds from node 3 to node 0, and another count of steps
-abbrev altered : ℕ → ℕ → List ℕ
-altered back steps = sheetOf 2 60 25 100 (paperJobs (tableWith back (tableWith 30 (stepsWith steps))))
+-- the paper's sheet with another capacity, another number of seconds from node 3 to node 0, and another count of steps
+abbrev altered : ℕ → ℕ → ℕ → List ℕ
+altered capacity back steps = sheetOf capacity 60 25 100 (paperJobs (tableWith back (tableWith 30 (stepsWith steps))))
 
--- the paper's sheet with a second van, of this capacity
-abbrev twoVans : ℕ → List ℕ
-twoVans capacity = 4 ▸ 2 ▸ 60 ▸ capacity ▸ 50 ▸ nodesWith 25 100 (paperJobs (tableWith 30 (tableWith 30 (stepsWith 8))))
+-- the paper's sheet with two vans, of these capacities
+abbrev twoVans : ℕ → ℕ → List ℕ
+twoVans first second = 4 ▸ first ▸ 60 ▸ second ▸ 50 ▸ nodesWith 25 100 (paperJobs (tableWith 30 (tableWith 30 (stepsWith 8))))
 
 record Computed : Type 0 where
   pub accepted : openRefusal paper ≡ 0
-  pub left-over : openRefusal (altered 30 7) ≡ 1
-  pub short : openRefusal (altered 30 9) ≡ 1
-  pub many-steps : openRefusal (altered 30 2001) ≡ 2
-  pub heavy : openRefusal (sheetWith 1001 60 25 100) ≡ 3
-  pub two-nodes : openRefusal (cleanAgain 2 30) ≡ 0
-  pub one-node : openRefusal (cleanAgain 1 30) ≡ 4
-  pub roundabout : openRefusal (altered 31 8) ≡ 5
+  pub left-over : openRefusal (altered 2 30 7) ≡ 1
+  pub short : openRefusal (altered 2 30 9) ≡ 1
+  pub many-steps : openRefusal (altered 2 30 2001) ≡ 2
+  pub large : openRefusal (sheetWith 1001 60 25 100) ≡ 3
+  pub two-nodes : openRefusal (cleanAgain 2 2 30) ≡ 0
+  pub one-node : openRefusal (cleanAgain 2 1 30) ≡ 4
+  pub roundabout : openRefusal (altered 2 31 8) ≡ 5
   -- the length before all else; a count's range before shortness, shortness before values, values before the next section; 4 before 5
   pub empty : openRefusal [] ≡ 1
   pub odd : openRefusal (3 ▸ 0 ∷ []) ≡ 1
   pub count-first : openRefusal (3 ▸ []) ≡ 2
   pub short-next : openRefusal (2 ▸ 9999 ▸ []) ≡ 1
   pub then-values : openRefusal (2 ▸ 9999 ▸ 0 ▸ []) ≡ 3
-  pub both : openRefusal (cleanAgain 1 31) ≡ 4
+  pub both : openRefusal (cleanAgain 2 1 31) ≡ 4
   -- "twice the number of vans, 2 to 16, pair by pair"
   pub no-van : openRefusal (0 ▸ []) ≡ 2
   pub half-a-van : openRefusal (5 ▸ []) ≡ 2
   pub eight-vans : openRefusal (16 ▸ []) ≡ 1
   pub nine-vans : openRefusal (18 ▸ []) ≡ 2
-  pub two-vans : openRefusal (twoVans 1) ≡ 0
-  pub heavy-second : openRefusal (twoVans 1001) ≡ 3
+  pub two-vans : openRefusal (twoVans 2 1) ≡ 0
+  pub large-second : openRefusal (twoVans 2 1001) ≡ 3
+  -- load 2 above capacity 1: after 4, before 5, and the largest capacity counts, wherever it stands; just 2 is not above
+  pub heavy : openRefusal (altered 1 30 8) ≡ 6
+  pub heavy-twice : openRefusal (cleanAgain 1 1 30) ≡ 4
+  pub heavy-roundabout : openRefusal (altered 1 31 8) ≡ 6
+  pub heavy-for-both : openRefusal (twoVans 1 1) ≡ 6
+  pub second-carries : openRefusal (twoVans 1 2) ≡ 0
+  pub heavy-call : callRefusal (altered 1 30 8) ≡ 6
   -- what the sheet says
   pub van : vanOf paper 0 ≡ record { capacity = 2; limit = 60 }
-  pub second-van : vanOf (twoVans 1) 1 ≡ record { capacity = 1; limit = 50 }
+  pub second-van : vanOf (twoVans 2 1) 1 ≡ record { capacity = 1; limit = 50 }
   pub job : jobIn paper 0 ≡ Transfer 1 2 2
   pub latest : dayOf paper .latest 2 ≡ 25
   pub seconds : dayOf paper .seconds 3 1 ≡ 20
-  pub section1 : sectionOf (twoVans 1) 1 ≡ 2 ▸ 60 ▸ 1 ▸ 50 ▸ []
+  pub section1 : sectionOf (twoVans 2 1) 1 ≡ 2 ▸ 60 ▸ 1 ▸ 50 ▸ []
   pub section3 : sectionOf paper 3 ≡ 3 ▸ 1 ▸ 2 ▸ 2 ▸ []
   pub section7 : sectionOf paper 7 ≡ []
   pub refused3 : sectionOf (sheetWith 1001 60 25 100) 3 ≡ []
-  pub refused5 : sectionOf (altered 31 8) 3 ≡ 3 ▸ 1 ▸ 2 ▸ 2 ▸ []
+  pub refused6 : sectionOf (altered 1 30 8) 3 ≡ []
+  pub refused5 : sectionOf (altered 2 31 8) 3 ≡ 3 ▸ 1 ▸ 2 ▸ 2 ▸ []
 
 computed : Computed
-unfolding wordAt allBelow orElse headRefusal limitsRefusal nodesRefusal jobsRefusal tableRefusal stepsRefusal laterRefusal readRefusal isInner jobAt clash apart cell shortestLine shortestRow triangle callRefusal openRefusal spanOf sectionOf
+unfolding wordAt allBelow orElse peak headRefusal limitsRefusal nodesRefusal jobsRefusal tableRefusal stepsRefusal laterRefusal readRefusal isInner jobAt clash apart canRide cell shortestLine shortestRow triangle callRefusal openRefusal spanOf sectionOf
 computed = record {
   accepted = refl;
   left-over = refl;
   short = refl;
   many-steps = refl;
-  heavy = refl;
+  large = refl;
   two-nodes = refl;
   one-node = refl;
   roundabout = refl;
@@ -84,7 +92,13 @@ computed = record {
   eight-vans = refl;
   nine-vans = refl;
   two-vans = refl;
-  heavy-second = refl;
+  large-second = refl;
+  heavy = refl;
+  heavy-twice = refl;
+  heavy-roundabout = refl;
+  heavy-for-both = refl;
+  second-carries = refl;
+  heavy-call = refl;
   van = refl;
   second-van = refl;
   job = refl;
@@ -94,5 +108,6 @@ computed = record {
   section3 = refl;
   section7 = refl;
   refused3 = refl;
+  refused6 = refl;
   refused5 = refl;
 }

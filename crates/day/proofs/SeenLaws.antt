@@ -1,11 +1,11 @@
--- The one pass that finds two jobs that clash is the test for all pairs.
-use Prim.Native.Nat.{ℕ, _+_, _<_}
+-- The one pass over the jobs finds two that clash exactly if the test for all pairs does.
+use Prim.Native.Nat.{ℕ, _+_, _<_, _≤_}
 use mathlib.Core.Path.{_≡_, refl, sym, ap, ap₂, _∙_}
 use mathlib.Core.Bool.{Bool, true, false, not, _&&_, _||_, and-true}
 use lib.Dec.{eqb}
 use borrow.Author.Tests.{eqb-true, eqb-false}
 use Rattle.laws.proofs.Logic.{decided}
-use Rattle.laws.proofs.Below.{below-none, below-next, below-fails, below-both, flag-goes}
+use Rattle.laws.proofs.Below.{below-none, below-both, flag-goes, flag-done}
 use Rattle.laws.specs.Basic.{allBelow}
 use Rattle.bits.specs.Places.{has, with}
 use Rattle.bits.proofs.Members.{has-none, with-same, with-other}
@@ -35,6 +35,10 @@ seen-none g p q r = record { clean = rw p (none cleanAt g); soiled = rw q (none 
 not-or : (a b : Bool) → not (a || b) ≡ (not a && not b)
 not-or true b = refl
 not-or false b = refl
+
+not-or-is : (a b : Bool) {c : Bool} → not b ≡ c → not (a || b) ≡ (not a && c)
+not-or-is true b e = refl
+not-or-is false b e = e
 
 has-with : (w p x : ℕ) → p < 64 → has (with w p) x ≡ (has w x || eqb p x)
 has-with w p x l =
@@ -84,33 +88,30 @@ seen-next g i s (Transfer a b w) e h m = record {
   ends = two endAt g i (s .ends) a b (h .0) (h .1) (m .ends) (λ x. ap (endAt x) e);
 }
 
--- the words tell whether the next job clashes with one before it
-pub seen-apart : (g : ℕ → Job) (i : ℕ) (s : Seen) (q : Job) → g i ≡ q → Placed q → SeenBelow g i s → not (seeing s q .twice) ≡ apartAt g i
+-- the words tell whether one of the jobs, up to this one, clashes with one before it
+pub seen-apart : (g : ℕ → Job) (i : ℕ) (s : Seen) (q : Job) → g i ≡ q → Placed q → SeenBelow g i s → not (seeing s q .twice) ≡ (not (s .twice) && apartAt g i)
 unfolding clash
-seen-apart g i s (Clean a w) e h m = rw e (m .clean a h)
-seen-apart g i s (Soiled a w) e h m = rw e (m .soiled a h)
+seen-apart g i s (Clean a w) e h m = not-or-is (s .twice) (has (s .clean) a) (rw e (m .clean a h))
+seen-apart g i s (Soiled a w) e h m = not-or-is (s .twice) (has (s .soiled) a) (rw e (m .soiled a h))
 seen-apart g i s (Transfer a b w) e h m =
-    rw e (not-or (has (s .ends) a) (has (s .ends) b) ∙ ap₂ (λ (x y : Bool). x && y) (m .ends a (h .0)) (m .ends b (h .1))
-    ∙ sym (below-both i (λ j. not (endAt a (g j))) (λ j. not (endAt b (g j))) (λ j. not (endAt a (g j) || endAt b (g j))) (λ j. not-or (endAt a (g j)) (endAt b (g j)))))
+    not-or-is (s .twice) (has (s .ends) a || has (s .ends) b)
+    (rw e (not-or (has (s .ends) a) (has (s .ends) b) ∙ ap₂ (λ (x y : Bool). x && y) (m .ends a (h .0)) (m .ends b (h .1))
+    ∙ sym (below-both i (λ j. not (endAt a (g j))) (λ j. not (endAt b (g j))) (λ j. not (endAt a (g j) || endAt b (g j))) (λ j. not-or (endAt a (g j)) (endAt b (g j))))))
 
--- ---- the pass: the first i jobs are apart, and the words hold their nodes
+-- ---- the pass: whether the first i jobs are apart, and the words hold their nodes
 pub record Passed (g : ℕ → Job) (i : ℕ) (s : Seen) : Type 0 where
-  pub apart : allBelow i (apartAt g) ≡ true
+  pub apart : allBelow i (apartAt g) ≡ not (s .twice)
   pub seen : SeenBelow g i s
 
-pub pass-none : (g : ℕ → Job) {s : Seen} → s .clean ≡ 0 → s .soiled ≡ 0 → s .ends ≡ 0 → Passed g 0 s
-pass-none g p q r = record { apart = below-none _; seen = seen-none g p q r }
+pub pass-none : (g : ℕ → Job) {s : Seen} → s .clean ≡ 0 → s .soiled ≡ 0 → s .ends ≡ 0 → s .twice ≡ false → Passed g 0 s
+pass-none g p q r t = record { apart = below-none _ ∙ sym (ap not t); seen = seen-none g p q r }
 
-module _ (g : ℕ → Job) (i : ℕ) {s : Seen} (p : Passed g i s) {q : Job} (e : q ≡ g i) (h : Placed q) {r : Seen} (t : r ≡ seeing s q) where
-  apart-is : not (r .twice) ≡ apartAt g i
-  apart-is = ap (λ (r : Seen). not (r .twice)) t ∙ seen-apart g i s q (sym e) h (p .seen)
+pub pass-goes : (g : ℕ → Job) (i : ℕ) {s : Seen} → Passed g i s → {q : Job} → q ≡ g i → Placed q → {r : Seen} → r ≡ seeing s q → Passed g (i + 1) r
+pass-goes g i {s} p {q} e h t = record {
+  apart = flag-goes i (apartAt g) (p .apart) refl ∙ sym (ap (λ (r : Seen). not (r .twice)) t ∙ seen-apart g i s q (sym e) h (p .seen));
+  seen = rw t (seen-next g i s q (sym e) h (p .seen));
+}
 
-  pub pass-stops : (m : ℕ) → i < m → r .twice ≡ true → false ≡ apart g m
-  unfolding apart
-  pass-stops m l y = sym (below-fails m i (apartAt g) l (sym apart-is ∙ ap not y))
-
-  pub pass-goes : r .twice ≡ false → Passed g (i + 1) r
-  pass-goes y = record {
-    apart = below-next i (apartAt g) (p .apart) (sym apart-is ∙ ap not y);
-    seen = rw t (seen-next g i s q (sym e) h (p .seen));
-  }
+pub pass-done : (g : ℕ → Job) (m i : ℕ) {s : Seen} → i ≤ m → m ≤ i → Passed g i s → not (s .twice) ≡ apart g m
+unfolding apart
+pass-done g m i a b p = flag-done m i (apartAt g) a b (p .apart)

@@ -27,6 +27,14 @@ nodesWith latest2 latest3 r = 4 ▸ 0 ▸ 0 ▸ 0 ▸ 0 ▸ 100 ▸ 5 ▸ 0 ▸ 
 abbrev pub sheetOf : ℕ → ℕ → ℕ → ℕ → List ℕ → List ℕ
 sheetOf capacity limit latest2 latest3 r = 2 ▸ capacity ▸ limit ▸ nodesWith latest2 latest3 r
 
--- the numbers that P1 to P12 alter: capacity, metre limit, latest of node 2, latest of node 3. The paper's are 2, 60, 25, 100
+-- the jobs of P9, each within capacity 2, and together too much: soiled at 1 of load 2, soiled at 2 of load 1
+abbrev pub tightJobs : List ℕ → List ℕ
+tightJobs r = 2 ▸ 2 ▸ 1 ▸ 0 ▸ 2 ▸ 2 ▸ 2 ▸ 0 ▸ 1 ▸ r
+
+-- the sheet of P9: those jobs, and the latest of node 2 is 100
+abbrev pub tightSheet : List ℕ
+tightSheet = sheetOf 2 60 100 100 (tightJobs (tableWith 30 (tableWith 30 (stepsWith 8))))
+
+-- the numbers that the others of P1 to P12 alter: capacity, metre limit, latest of node 2, latest of node 3. The paper's are 2, 60, 25, 100
 abbrev pub sheetWith : ℕ → ℕ → ℕ → ℕ → List ℕ
 sheetWith capacity limit latest2 latest3 = sheetOf capacity limit latest2 latest3 (paperJobs (tableWith 30 (tableWith 30 (stepsWith 8))))

@@ -1,15 +1,16 @@
--- What a call on a sheet and its opening check: "then leftovers, 4, 5".
+-- What a call on a sheet and its opening check: "then leftovers, 4, 5", and 6 "after 4 and before 5".
 use Prim.Native.Nat.{ℕ}
 use mathlib.Core.Bool.{_&&_, Bool, false, not, _||_}
 use mathlib.Core.List.{List}
-use lib.Dec.{eqb}
+use lib.Dec.{leb, eqb}
 use Rattle.laws.specs.Basic.{orElse, unless, allBelow}
 use Rattle.rules.specs.Numbers.{refusal}
 use Rattle.rules.specs.Day.{triangle}
+use Rattle.rules.specs.Load.{loadOf}
 use Rattle.rules.specs.declared.Job.{Job}
 use Rattle.rules.specs.declared.Job.the-variants.{Clean, Soiled, Transfer}
 use Rattle.sheet.specs.Section.{readRefusal, nOf, mOf}
-use Rattle.day.specs.Tell.{secondsOf, metresOf, jobIn}
+use Rattle.day.specs.Tell.{secondsOf, metresOf, jobIn, largestOf}
 
 -- a clean job at x
 abbrev pub cleanAt : ℕ → Job → Bool
@@ -37,9 +38,16 @@ apartAt g i = allBelow i (λ j. not (clash (g i) (g j)))
 unfoldable pub apart : (ℕ → Job) → ℕ → Bool
 apart g m = allBelow m (apartAt g)
 
--- what every call on a sheet checks, or 0: the sections, then "a node with two jobs of one kind, or two transfer ends"
+-- none of the first m jobs is too heavy by itself: no "job load above the capacity"
+unfoldable pub canRide : (ℕ → Job) → ℕ → ℕ → Bool
+canRide g m capacity = allBelow m (λ i. leb (loadOf (g i)) capacity)
+
+-- what every call on a sheet checks, or 0: the sections, "a node with two jobs of one kind, or two transfer ends", a load that can never ride
 unfoldable pub callRefusal : List ℕ → ℕ
-callRefusal s = orElse (readRefusal s) (unless (apart (jobIn s) (mOf s)) refusal.TWICE)
+callRefusal s =
+    orElse (readRefusal s)
+    (orElse (unless (apart (jobIn s) (mOf s)) refusal.TWICE)
+    (unless (canRide (jobIn s) (mOf s) (largestOf s)) refusal.HEAVY))
 
 -- what opening checks, or 0: the same, then "for some three different i, j, k: seconds or metres (i, k) above (i, j) + (j, k)"
 unfoldable pub openRefusal : List ℕ → ℕ

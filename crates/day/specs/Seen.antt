@@ -1,16 +1,24 @@
--- One pass that finds two jobs that clash: the nodes met so far as three words.
-use Prim.Native.Nat.{_<_}
+-- One pass over the jobs, which finds two that clash and the heaviest load: the nodes met so far as three words.
+use Prim.Native.Nat.{ℕ, _<_}
 use mathlib.Core.Bool.{_||_}
+use Rattle.laws.specs.Basic.{peak}
 use Rattle.bits.specs.Places.{has, with}
+use Rattle.rules.specs.Load.{loadOf}
 use Rattle.rules.specs.declared.Job.{Job}
 use Rattle.rules.specs.declared.Job.the-variants.{Clean, Soiled, Transfer}
+use Rattle.day.specs.Refuse.{apart}
 use Rattle.day.specs.declared.jobs.Seen.{Seen}
+use Rattle.day.specs.declared.jobs.Looked.{Looked}
 
--- the job's nodes met too, and whether one of them had a job of this kind, or a transfer end, before
+-- the job's nodes met too, and whether one of them, or of an earlier job's, had a job of this kind, or a transfer end, before
 abbrev pub seeing : Seen → Job → Seen
-seeing s (Clean a w) = record { clean = with (s .clean) a; soiled = s .soiled; ends = s .ends; twice = has (s .clean) a }
-seeing s (Soiled a w) = record { clean = s .clean; soiled = with (s .soiled) a; ends = s .ends; twice = has (s .soiled) a }
-seeing s (Transfer a b w) = record { clean = s .clean; soiled = s .soiled; ends = with (with (s .ends) a) b; twice = has (s .ends) a || has (s .ends) b }
+seeing s (Clean a w) = record { clean = with (s .clean) a; soiled = s .soiled; ends = s .ends; twice = s .twice || has (s .clean) a }
+seeing s (Soiled a w) = record { clean = s .clean; soiled = with (s .soiled) a; ends = s .ends; twice = s .twice || has (s .soiled) a }
+seeing s (Transfer a b w) = record { clean = s .clean; soiled = s .soiled; ends = with (with (s .ends) a) b; twice = s .twice || (has (s .ends) a || has (s .ends) b) }
+
+-- what the pass over the first m jobs g finds
+abbrev pub lookedOver : (ℕ → Job) → ℕ → Looked
+lookedOver g m = record { apart = apart g m; heaviest = peak (λ i. loadOf (g i)) m }
 
 -- the nodes of a job have a place in a word
 abbrev pub Placed : Job → Type 0

@@ -4,9 +4,9 @@ use mathlib.Core.Path.{_≡_}
 use mathlib.Core.List.{List, [], _∷_}
 use mathlib.Core.Bool.{Bool, cond, _&&_, not}
 use lib.Dec.{leb, eqb}
-use Rattle.laws.specs.Basic.{tab}
+use Rattle.laws.specs.Basic.{peak, tab}
 use Rattle.sheet.specs.Word.{size, wordAt}
-use Rattle.sheet.specs.Section.{nOf, mOf, vansAt, nodesAt, stepsAt, secondsAt, metresAt, jobsAt}
+use Rattle.sheet.specs.Section.{vansOf, nOf, mOf, vansAt, nodesAt, stepsAt, secondsAt, metresAt, jobsAt}
 use Rattle.rules.specs.Numbers.{stepSaid}
 use Rattle.rules.specs.Day.{Day, isInner}
 use Rattle.rules.specs.declared.Van.{Van}
@@ -66,6 +66,10 @@ vanAt i = vansAt + 1 + size.van * i
 -- the i-th van: "capacity, metre limit", "pair by pair"
 abbrev pub vanOf : List ℕ → ℕ → Van
 vanOf s i = record { capacity = wordAt s (vanAt i); limit = wordAt s (vanAt i + 1) }
+
+-- "the largest capacity" of the sheet's vans
+abbrev pub largestOf : List ℕ → ℕ
+largestOf s = peak (λ i. vanOf s i .capacity) (vansOf s)
 
 -- the first word of the x-th node
 abbrev pub nodeAt : List ℕ → ℕ → ℕ

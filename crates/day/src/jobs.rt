@@ -1,11 +1,10 @@
-// The jobs of a sheet, and whether two of them are one too many for a node.
+// The jobs of a sheet, whether two of them are one too many for a node, and how heavy they are.
 ghost use mathlib.Core.Path.{_≡_};
 ghost use Prim.Native.Nat.{_+_, _*_, _<_, _≤_};
 ghost use Rattle.sheet.specs.Word.{size, words};
 ghost use Rattle.sheet.specs.Place.{Laid};
 ghost use Rattle.day.specs.Tell.{jobAt, jobIn};
-ghost use Rattle.day.specs.Refuse.{apart};
-ghost use Rattle.day.specs.Seen.{Placed, seeing};
+ghost use Rattle.day.specs.Seen.{Placed, seeing, lookedOver};
 use rules::Job;
 use sheet::Layout;
 use sheet::word;
@@ -48,7 +47,7 @@ pub fn job(s: &[u8], l: Layout, i: usize) -> Job
     job_at(s, from, i)
 }
 
-// The nodes at which a clean job, a soiled job or a transfer end was met, each a word, and whether the last job met one of them again.
+// The nodes at which a clean job, a soiled job or a transfer end was met, each a word, and whether one of them was met again.
 pub struct Seen {
     pub clean: u64,
     pub soiled: u64,
@@ -66,27 +65,33 @@ fn see(seen: Seen, job: Job) -> Seen
             clean: bits::put(seen.clean, node),
             soiled: seen.soiled,
             ends: seen.ends,
-            twice: bits::holds(seen.clean, node),
+            twice: seen.twice | bits::holds(seen.clean, node),
         },
         Job::Soiled { node, load: _ } => Seen {
             clean: seen.clean,
             soiled: bits::put(seen.soiled, node),
             ends: seen.ends,
-            twice: bits::holds(seen.soiled, node),
+            twice: seen.twice | bits::holds(seen.soiled, node),
         },
         Job::Transfer { from, to, load: _ } => Seen {
             clean: seen.clean,
             soiled: seen.soiled,
             ends: bits::put(bits::put(seen.ends, from), to),
-            twice: bits::holds(seen.ends, from) | bits::holds(seen.ends, to),
+            twice: seen.twice | (bits::holds(seen.ends, from) | bits::holds(seen.ends, to)),
         },
     }
 }
 
-// No node has two jobs of one kind, or two transfer ends: one pass.
-pub fn all_apart(s: &[u8], l: Layout) -> bool
+// What all jobs together are held to: whether no node has two jobs of one kind, or two transfer ends, and the most that one job loads.
+pub struct Looked {
+    pub apart: bool,
+    pub heaviest: usize,
+}
+
+// One look at each job finds both, with no exit inside: what is refused first is for the caller to say.
+pub fn look_over(s: &[u8], l: Layout) -> Looked
     requires { ⌜ Laid (now s) l ⌝ }
-    ensures { λ r. ⌜ r ≡ apart (jobIn (now (s .entry))) (l .jobs) ⌝ }
+    ensures { λ r. ⌜ r ≡ lookedOver (jobIn (now (s .entry))) (l .jobs) ⌝ }
 {
     let mut seen = Seen {
         clean: 0,
@@ -94,14 +99,18 @@ pub fn all_apart(s: &[u8], l: Layout) -> bool
         ends: 0,
         twice: false,
     };
+    let mut heaviest = 0;
     let m = l.jobs;
     let mut i = 0;
     while i < m {
-        seen = see(seen, job(s, l, i));
-        if seen.twice {
-            return false;
-        }
+        let one = job(s, l, i);
+        seen = see(seen, one);
+        let load = one.load();
+        heaviest = if heaviest < load { load } else { heaviest };
         i += 1;
     }
-    true
+    Looked {
+        apart: !seen.twice,
+        heaviest: heaviest,
+    }
 }

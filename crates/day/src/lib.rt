@@ -20,8 +20,13 @@ pub fn checked(s: &[u8]) -> Found
     if read.answer != 0 {
         return read;
     }
-    let ok = jobs::all_apart(s, read.layout);
-    read.judged(ok, Refusal::TWICE)
+    let jobs = jobs::look_over(s, read.layout);
+    let apart = read.judged(jobs.apart, Refusal::TWICE);
+    if apart.answer != 0 {
+        return apart;
+    }
+    let most = look::largest(s, apart.layout);
+    apart.judged(jobs.heaviest <= most, Refusal::HEAVY)
 }
 
 // What opening checks.

@@ -3,7 +3,7 @@ ghost use mathlib.Core.Path.{_≡_};
 ghost use Prim.Native.Nat.{_+_, _*_, _<_, _≤_};
 ghost use Rattle.sheet.specs.Word.{size, words, wordAt, Reads};
 ghost use Rattle.sheet.specs.Place.{Laid};
-ghost use Rattle.day.specs.Tell.{cell, vanOf, dayOf, stepWord, stepIn, Told};
+ghost use Rattle.day.specs.Tell.{cell, vanOf, largestOf, dayOf, stepWord, stepIn, Told};
 ghost use Rattle.day.specs.Row.{Table};
 use rules::Step;
 use rules::Van;
@@ -20,6 +20,23 @@ pub fn van(s: &[u8], l: Layout, i: usize) -> Van
         capacity: word(s, from) as usize,
         limit: word(s, from + 1) as usize,
     }
+}
+
+// The largest capacity of the sheet's vans.
+pub fn largest(s: &[u8], l: Layout) -> usize
+    requires { ⌜ Laid (now s) l ⌝ }
+    ensures { λ r. ⌜ r ≡ largestOf (now (s .entry)) ⌝ }
+{
+    let mut most = 0;
+    let v = l.vans;
+    let mut i = 0;
+    while i < v {
+        let one = van(s, l, i);
+        let capacity = one.capacity;
+        most = if most < capacity { capacity } else { most };
+        i += 1;
+    }
+    most
 }
 
 // Word k of the i-th entry of a section whose entries begin at word `from` and have `width` words.

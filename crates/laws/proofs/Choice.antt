@@ -16,6 +16,11 @@ pub or-else-next : (a b : ℕ) → a ≡ 0 → orElse a b ≡ b
 unfolding orElse
 or-else-next a b h = rw h refl
 
+pub or-else-assoc : (a b c : ℕ) → orElse a (orElse b c) ≡ orElse (orElse a b) c
+unfolding orElse
+or-else-assoc zero b c = refl
+or-else-assoc (suc a) b c = refl
+
 -- no refusal of two: neither refuses
 pub or-else-zero : (a b : ℕ) → orElse a b ≡ 0 → (a ≡ 0) × (b ≡ 0)
 unfolding orElse

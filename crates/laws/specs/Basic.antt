@@ -1,5 +1,5 @@
 -- The few functions on lists and numbers that the definitions of all crates are made of; then two words for contracts.
-use Prim.Native.Nat.{ℕ, zero, suc, _+_, _*_, _<_}
+use Prim.Native.Nat.{ℕ, zero, suc, max, _+_, _*_, _<_}
 use mathlib.Core.Bool.{Bool, true, false, _&&_, _||_}
 use mathlib.Core.List.{List, [], _∷_, _++_}
 use mathlib.Core.Path.{_≡_}
@@ -50,6 +50,11 @@ anyBelow (suc n) f = anyBelow n f || f n
 unfoldable pub sumBelow : ℕ → (ℕ → ℕ) → ℕ
 sumBelow zero f = 0
 sumBelow (suc n) f = sumBelow n f + f n
+
+-- the greatest of f 0, f 1, .. f (n - 1); 0 where there is none
+unfoldable pub peak : (ℕ → ℕ) → ℕ → ℕ
+peak f zero = 0
+peak f (suc n) = max (peak f n) (f n)
 
 -- f 0, f 1, .. f (n - 1)
 unfoldable pub tab : {A : Type 0} → ℕ → (ℕ → A) → List A

@@ -1,7 +1,7 @@
 -- The table P1 to P12 holds: each line is computed.
 use mathlib.Core.Path.{refl}
 use lib.Count.{ones, onesIn}
-use Rattle.laws.specs.Basic.{allBelow, anyBelow, orElse, sumBelow, tab, partAt, joined}
+use Rattle.laws.specs.Basic.{allBelow, anyBelow, orElse, sumBelow, peak, tab, partAt, joined}
 use Rattle.bits.specs.Places.{digit, has, with, within}
 use Rattle.rules.specs.Rounds.{keeps}
 use Rattle.rules.specs.Day.{isInner}
@@ -12,7 +12,7 @@ use Rattle.rules.specs.Settle.{round, strikes, settleIn, roundsIn}
 use Rattle.sheet.specs.Word.{wordAt}
 use Rattle.sheet.specs.Section.{headRefusal, limitsRefusal, nodesRefusal, jobsRefusal, tableRefusal, stepsRefusal, laterRefusal, readRefusal}
 use Rattle.day.specs.Tell.{cell, jobAt}
-use Rattle.day.specs.Refuse.{callRefusal, clash, apart}
+use Rattle.day.specs.Refuse.{callRefusal, clash, apart, canRide}
 use Rattle.along.specs.Sets.{wordFrom, setsOf}
 use Rattle.board.specs.Route.{wordOf, indexOf, insertIn}
 use Rattle.board.specs.Change.{heir, placedAfter}
@@ -34,5 +34,5 @@ use Rattle.trail.specs.Steps as trail
 use Rattle.van.specs.Act.{actOf}
 
 paper-cases : Paper
-unfolding allBelow anyBelow orElse sumBelow tab partAt joined wordAt headRefusal limitsRefusal nodesRefusal jobsRefusal tableRefusal stepsRefusal laterRefusal readRefusal jobAt clash apart cell callRefusal digit has with within stays round strikes settleIn roundsIn keeps owed rules.alive everyRound wordOf indexOf insertIn routeOf onRoute legsOf setOf openAt isInner legNode placesOf ones onesIn heir placedAfter noState freshState freshSets freshSet stopOk setOk onlyInner markOk mustOk boardOk levelOk levelsOk inForm formWith roomOf shrunk noteBelow noteOne pushed placeShut placeRefusal excludeRefusal trail.placeStep trail.recorded trail.settleStep trail.unlessRefused setsOf wordFrom stepOf actOf stepRefusal askRefusal countOf judgeOf stateIn freshFleet shareOf trailIn hasWard clearOf sharesNone vanFits idle inFormAll formWithAll placesAll unlessBarred together alone turnOf claimed roomy placeBar vanAct actAll aliveAll
-paper-cases = record { p1 = refl; p2 = refl; p3 = refl; p4 = refl; p5 = refl; p6 = refl; p7 = refl; p8 = refl; p8-dead = refl; p9 = refl; p9-rounds = refl; p9-alive = refl; p10 = refl; p10-none = refl; p10-alive = refl; p11 = refl; p11-dead = refl; p12 = refl; p12-kept = refl }
+unfolding allBelow anyBelow orElse sumBelow peak tab partAt joined wordAt headRefusal limitsRefusal nodesRefusal jobsRefusal tableRefusal stepsRefusal laterRefusal readRefusal jobAt clash apart canRide cell callRefusal digit has with within stays round strikes settleIn roundsIn keeps owed rules.alive everyRound wordOf indexOf insertIn routeOf onRoute legsOf setOf openAt isInner legNode placesOf ones onesIn heir placedAfter noState freshState freshSets freshSet stopOk setOk onlyInner markOk mustOk boardOk levelOk levelsOk inForm formWith roomOf shrunk noteBelow noteOne pushed placeShut placeRefusal excludeRefusal trail.placeStep trail.recorded trail.settleStep trail.unlessRefused setsOf wordFrom stepOf actOf stepRefusal askRefusal countOf judgeOf stateIn freshFleet shareOf trailIn hasWard clearOf sharesNone vanFits idle inFormAll formWithAll placesAll unlessBarred together alone turnOf claimed roomy placeBar vanAct actAll aliveAll
+paper-cases = record { p1 = refl; p2 = refl; p3 = refl; p4 = refl; p5 = refl; p6 = refl; p7 = refl; p8 = refl; p8-dead = refl; p9-open = refl; p9 = refl; p9-rounds = refl; p9-alive = refl; p10 = refl; p10-none = refl; p10-alive = refl; p11 = refl; p11-dead = refl; p12 = refl; p12-kept = refl }

@@ -1,4 +1,4 @@
--- What the five entry points answer, for every input (01, Refusal numbers; 02, No. 1).
+-- What the five entry points answer, for every input (01, Refusal numbers; 02, No. 1 and 5).
 use Prim.Native.Nat.{ℕ}
 use mathlib.Core.Path.{_≡_}
 use mathlib.Core.Bool.{false, cond}
@@ -29,7 +29,7 @@ freshOf sheet = freshFleet (nOf sheet) (vansOf sheet)
 unfoldable pub openOf : List ℕ → Opened
 openOf sheet = record { answer = openRefusal sheet; fleet = cond (eqb (openRefusal sheet) 0) (freshOf sheet) noFleet }
 
--- "Asking for the open places in all or the verdict checks 1 to 4 and 19 and returns the number"
+-- "Asking for the open places in all or the verdict checks 1 to 4", now 6 too, "and 19 and returns the number": what every call checks, then 19
 unfoldable pub askRefusal : List ℕ → Fleet → ℕ
 askRefusal sheet f = orElse (callRefusal sheet) (unless (inFormAll (nOf sheet) (vansOf sheet) f) refusal.FORM)
 
@@ -45,7 +45,7 @@ plansOf sheet f = plansIn (vansOf sheet) f
 unfoldable pub judgeOf : List ℕ → Fleet → Judged
 judgeOf sheet f = record { answer = askRefusal sheet f; alive = cond (eqb (askRefusal sheet f) 0) (aliveAll (vanOf sheet) (dayOf sheet) (plansOf sheet f)) false }
 
--- "A step call re-reads the sheet for 1 to 4, not 5; then 19"
+-- "A step call re-reads the sheet for 1 to 4", now 6 too, "not 5; then 19": what every call checks, then 19
 unfoldable pub stepRefusal : List ℕ → Fleet → List ℕ → ℕ
 stepRefusal sheet f t = orElse (callRefusal sheet) (unless (formWithAll (nOf sheet) (vansOf sheet) f t) refusal.FORM)
 

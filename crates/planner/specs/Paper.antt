@@ -1,4 +1,4 @@
--- P1 to P12 of document 01, on the bytes of its sheet with one number altered; P2, P4 and P12 as 02, No. 3, has them.
+-- P1 to P12 of document 01, on the bytes of its sheet with one number altered; P2, P4 and P12 as 02, No. 3, has them, P9 on the sheet of 02, No. 5.
 -- P4 to P10, and that P11 is dead, are the planner's own answers: `stepOf`, `countOf` and `judgeOf`, which the contracts of `step`, `open_places`
 -- and `verdict` equate. The others ask for what no entry point answers, and rest on the rules' definitions by which those answers are stated:
 -- * P1, E(3): `startAt`. P2, L(2), P3, L(0), and P11's L(0): `lastAt`. They are the window test's own E and L, `start` and `lastStart`, at a stop of
@@ -14,7 +14,7 @@ use mathlib.Core.List.{List, [], _∷_}
 use lib.ListN.{replicate}
 use lib.IntN.{pos, negsuc}
 use Rattle.day.specs.Tell.{dayOf, vanOf}
-use Rattle.day.specs.Example.{sheetWith}
+use Rattle.day.specs.Example.{sheetWith, tightSheet}
 use Rattle.rules.specs.Numbers.{kinds}
 use Rattle.rules.specs.Along.{startAt, lastAt}
 use Rattle.rules.specs.Rounds.{keeps}
@@ -36,9 +36,9 @@ none = replicate 8 0
 abbrev fresh : Fleet
 fresh = freshFleet 4 1
 
--- the fleet with node 2 placed after 0
-abbrev two : List ℕ → Fleet
-two sheet = stepOf sheet fresh none kinds.PLACE 0 2 .0 .fleet
+-- the fleet with one node placed after 0
+abbrev placed : ℕ → List ℕ → Fleet
+placed x sheet = stepOf sheet fresh none kinds.PLACE 0 x .0 .fleet
 
 -- the fleet after settling
 abbrev after : List ℕ → Fleet → Fleet
@@ -75,17 +75,18 @@ pub record Paper : Type 0 where
   pub p2 : lastAt (dayOf paper) (0 ∷ 2 ∷ 3 ∷ []) 1 ≡ pos 20
   pub p3 : lastAt (dayOf paper) (0 ∷ 2 ∷ 3 ∷ []) 0 ≡ pos 0
   -- route 0 2 3: place 0 of node 1 is struck, 25 against 20; so it is with latest(2) = 24; place 2 of node 1 is struck
-  pub p4 : openAt (boardIn (after paper (two paper)) 0) 1 0 ≡ false
-  pub p5 : openAt (boardIn (after (sheetWith 2 60 24 100) (two (sheetWith 2 60 24 100))) 0) 1 0 ≡ false
-  pub p6 : openAt (boardIn (after paper (two paper)) 0) 1 2 ≡ false
+  pub p4 : openAt (boardIn (after paper (placed 2 paper)) 0) 1 0 ≡ false
+  pub p5 : openAt (boardIn (after (sheetWith 2 60 24 100) (placed 2 (sheetWith 2 60 24 100))) 0) 1 0 ≡ false
+  pub p6 : openAt (boardIn (after paper (placed 2 paper)) 0) 1 2 ≡ false
   -- fresh, metre limit 30: both places stay; 29: both struck, dead
   pub p7 : places (sheetWith 2 30 25 100) (after (sheetWith 2 30 25 100) fresh) ≡ 2
   pub p8 : places (sheetWith 2 29 25 100) (after (sheetWith 2 29 25 100) fresh) ≡ 0
   pub p8-dead : alive (sheetWith 2 29 25 100) (after (sheetWith 2 29 25 100) fresh) ≡ false
-  -- capacity 1: both struck in 1 round, alive
-  pub p9 : places (sheetWith 1 60 25 100) (after (sheetWith 1 60 25 100) fresh) ≡ 0
-  pub p9-rounds : rounds (sheetWith 1 60 25 100) fresh ≡ 1
-  pub p9-alive : alive (sheetWith 1 60 25 100) (after (sheetWith 1 60 25 100) fresh) ≡ true
+  -- soiled at 1 and 2, of loads 2 and 1, capacity 2, 1 placed: both places of node 2 are open, and both struck in 1 round, alive
+  pub p9-open : places tightSheet (placed 1 tightSheet) ≡ 2
+  pub p9 : places tightSheet (after tightSheet (placed 1 tightSheet)) ≡ 0
+  pub p9-rounds : rounds tightSheet (placed 1 tightSheet) ≡ 1
+  pub p9-alive : alive tightSheet (after tightSheet (placed 1 tightSheet)) ≡ true
   -- latest(2) = 19: 2 rounds, none open, alive
   pub p10 : rounds (sheetWith 2 60 19 100) fresh ≡ 2
   pub p10-none : places (sheetWith 2 60 19 100) (after (sheetWith 2 60 19 100) fresh) ≡ 0

@@ -1,4 +1,4 @@
--- What is aboard on a leg (01's H), and whether more fits.
+-- How much a job loads, what is aboard on a leg (01's H), and whether more fits.
 use Prim.Native.Nat.{ℕ, _+_}
 use mathlib.Core.Bool.{Bool, false, cond, _&&_, _||_}
 use mathlib.Core.List.{List, [], _∷_}
@@ -9,6 +9,12 @@ use Rattle.rules.specs.declared.Van.{Van}
 use Rattle.rules.specs.Leg.{OfLeg}
 use Rattle.rules.specs.declared.Job.{Job}
 use Rattle.rules.specs.declared.Job.the-variants.{Clean, Soiled, Transfer}
+
+-- how much a job loads
+abbrev pub loadOf : Job → ℕ
+loadOf (Clean a w) = w
+loadOf (Soiled a w) = w
+loadOf (Transfer a b w) = w
 
 -- of a job on the leg (A, B): clean from the start to its node, soiled from its node to the end, a transfer from its first node to its
 -- second; a transfer in the wrong order, or with a node off the route, counts 0

@@ -3,13 +3,14 @@ use Prim.Native.Nat.{ℕ, _/_, _%_}
 use Rattle.rules.specs.declared.Step.{Step}
 
 -- why a sheet or a step is refused: the numbers of 01's table, and of 02
-abbrev pub refusal : record { SHORT : ℕ; COUNT : ℕ; VALUE : ℕ; TWICE : ℕ; TRIANGLE : ℕ; KIND : ℕ; NODE : ℕ; PLACED : ℕ; UNPLACED : ℕ; SHUT : ℕ; OWED : ℕ; ROOM : ℕ; DEPTH : ℕ; FORM : ℕ; MISFIT : ℕ; VAN : ℕ; CLAIMED : ℕ }
+abbrev pub refusal : record { SHORT : ℕ; COUNT : ℕ; VALUE : ℕ; TWICE : ℕ; TRIANGLE : ℕ; HEAVY : ℕ; KIND : ℕ; NODE : ℕ; PLACED : ℕ; UNPLACED : ℕ; SHUT : ℕ; OWED : ℕ; ROOM : ℕ; DEPTH : ℕ; FORM : ℕ; MISFIT : ℕ; VAN : ℕ; CLAIMED : ℕ }
 refusal = record {
   SHORT = 1;  -- "byte length not a multiple of 4, a count missing, a section short, words left over"
   COUNT = 2;  -- "a count out of its range"
   VALUE = 3;  -- "a word in sections 1 to 3, or a table entry, against its rule; job node or kind wrong"
   TWICE = 4;  -- "a node with two jobs of one kind, or two transfer ends"
   TRIANGLE = 5;  -- "for some three different i, j, k: seconds or metres (i, k) above (i, j) + (j, k)"
+  HEAVY = 6;  -- "a job load above the capacity", and "for a fleet the largest capacity counts"
   KIND = 11;  -- "unknown step kind"
   NODE = 12;  -- "x not in 1 to n−2, or p not in 0 to n−2"
   PLACED = 13;  -- "x on the route (steps 1 to 4)"

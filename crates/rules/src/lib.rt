@@ -3,6 +3,7 @@
 // type that it belongs to.
 ghost use mathlib.Core.Path.{_≡_};
 ghost use Rattle.rules.specs.Numbers.{stepSaid};
+ghost use Rattle.rules.specs.Load.{loadOf};
 
 // A job is one of three things, each with its own data: aboard from the start to a node, from a node to the end,
 // or from one node to another.
@@ -15,6 +16,21 @@ pub enum Job {
 impl Job {
     // The most jobs that a sheet has.
     pub const MOST: usize = 155;
+
+    // How much it loads.
+    pub fn load(self) -> usize
+        ensures { λ r. ⌜ r ≡ loadOf self ⌝ }
+    {
+        match self {
+            Job::Clean { node: _, load } => load,
+            Job::Soiled { node: _, load } => load,
+            Job::Transfer {
+                from: _,
+                to: _,
+                load,
+            } => load,
+        }
+    }
 }
 
 // What one van can carry, and how far it may drive.
@@ -94,6 +110,8 @@ impl Refusal {
     pub const TWICE: usize = 4;
 
     pub const TRIANGLE: usize = 5;
+
+    pub const HEAVY: usize = 6;
 
     // Of a step.
     pub const KIND: usize = 11;

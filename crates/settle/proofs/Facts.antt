@@ -9,8 +9,10 @@ use lib.IntN.{ℤ}
 use lib.ListN.{getD, take, length}
 use lib.Seq.{getD-take}
 use Rattle.laws.proofs.Logic.{and-true}
+use Rattle.laws.proofs.Peak.{peak-low, peak-most}
 use Rattle.rules.specs.declared.Van.{Van}
 use Rattle.rules.specs.Day.{isInner}
+use Rattle.rules.specs.Load.{loadOf}
 use Rattle.rules.specs.Along.{loadAt}
 use Rattle.rules.specs.Settle.{round, settle}
 use Rattle.rules.proofs.AlongLaws.{leg-index}
@@ -26,9 +28,9 @@ use Rattle.day.specs.Seen.{Placed}
 use Rattle.day.proofs.Fit.{placed-read, fine-job}
 use Rattle.day.specs.Tell.{dayOf, jobIn, loadOk, jobFine}
 use Rattle.along.proofs.RouteLaws.{job-low}
-use Rattle.along.specs.Spots.{Spots, loadOf}
+use Rattle.along.specs.Spots.{Spots}
 use Rattle.along.proofs.SpotLaws.{spot-in, spot-found}
-use Rattle.along.proofs.LoadLaws.{load-at-low, peak-low, peak-most}
+use Rattle.along.proofs.LoadLaws.{load-at-low}
 use Rattle.along.specs.Walks.{Legs}
 use Rattle.along.specs.Sets.{placesIn, setsOf}
 use Rattle.along.proofs.SetLaws.{length-sets, places-sets}

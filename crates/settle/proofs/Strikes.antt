@@ -12,15 +12,15 @@ use lib.Seq.{ext-getD, getD-set-same, getD-set-other}
 use borrow.Author.Tests.{eqb-true, eqb-false, eq-eqb}
 use Rattle.laws.proofs.Logic.{decided, T-ext, T→true, true→T, and-i, and-l, and-r, or-false}
 use Rattle.laws.proofs.Below.{below-make}
+use Rattle.laws.specs.Basic.{peak}
+use Rattle.laws.proofs.Peak.{peak-most}
+use Rattle.rules.specs.Load.{loadOf}
 use Rattle.rules.specs.declared.Job.{Job}
 use Rattle.rules.specs.declared.Job.the-variants.{Clean, Soiled, Transfer}
 use Rattle.sheet.specs.Section.{mOf}
 use Rattle.day.specs.Tell.{jobIn}
 use Rattle.day.specs.Refuse.{callRefusal, endAt, clash}
 use Rattle.day.proofs.Asked.{pair}
-use Rattle.along.specs.Spots.{loadOf}
-use Rattle.along.specs.Loads.{peak}
-use Rattle.along.proofs.LoadLaws.{peak-most}
 use Rattle.along.specs.Walks.{Kept, Legs, ridesUp, ridesDown}
 use Rattle.along.proofs.WalkLaws.{kept-all}
 use Rattle.along.proofs.Rides.{start-roomy, end-roomy}

@@ -1,5 +1,5 @@
-//! The second program: the planner of 01 once more, in the plainest way, from 01 and the
-//! request for a fleet (02, No. 1) alone.
+//! The second program: the planner of 01 once more, in the plainest way, from 01 and the requests
+//! that have landed (02, No. 1, 3 and 5) alone.
 
 pub mod check;
 pub mod choices;
@@ -10,6 +10,7 @@ pub mod face;
 pub mod facts;
 pub mod fleet;
 pub mod gen;
+pub mod heavy;
 pub mod insertion;
 pub mod listing;
 pub mod options;

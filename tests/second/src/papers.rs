@@ -1,5 +1,5 @@
-//! 01's own examples, with the numbers that 02 (No. 3) gives them: the listing, P1 to P12, and the
-//! examples that are run only.
+//! 01's own examples, with the numbers that 02 (No. 3 and 5) gives them: the listing, P1 to P12, and
+//! the examples that are run only.
 
 use crate::face;
 use crate::facts::Facts;
@@ -84,7 +84,7 @@ pub fn table() -> Vec<(&'static str, bool)> {
         ("P6", one_left_after_two_placed(&[]) & 0b100 == 0),
         ("P7", fresh_settled(&[(LIMIT, 30)]) == (1, 1, 0, true)),
         ("P8", p8()),
-        ("P9", fresh_settled(&[(CAPACITY, 1)]) == (0, 0, 1, true)),
+        ("P9", p9()),
         ("P10", fresh_settled(&[(LATEST_2, 19)]) == (0, 0, 2, true)),
         ("P11", Facts::of(&p11, 0, &State::fresh(4)).l[0] == -20 && !van_alive(&p11, 0, &State::fresh(4))),
         ("P12", rounds.len() == 5 && kept == [vec![0, 3]]),
@@ -97,7 +97,20 @@ fn p8() -> bool {
     one == 0 && two == 0 && !alive
 }
 
-/// The examples that 01 marks as run only.
+/// Two soiled jobs that are too much together: with 1's load of 2 aboard from 1 to the end, 2's
+/// load of 1 fits neither before 1 nor behind it.
+fn p9() -> bool {
+    let text = SHEET.replacen("1, 3 1 2 2", "2, 2 1 0 2, 2 2 0 1", 1).replacen("0 25 5", "0 100 5", 1);
+    let bytes = to_bytes(&text).expect("01's own text");
+    let placed = step(&bytes, &face::open(&bytes).1, &[0; 32], [1, 0, 1]);
+    let settled = step(&bytes, &placed.fleet, &placed.trail, [5, 0, 0]);
+    let both_open = placed.fleet.vans[0].sets[2] == 0b011;
+    both_open
+        && (settled.rounds, settled.fleet.vans[0].sets[2]) == (1, 0)
+        && face::verdict(&bytes, &settled.fleet) == (0, 1)
+}
+
+/// The examples that 01 marks as run only, and capacity 1, which was P9 before 02 (No. 5).
 pub fn run_only() -> Vec<(&'static str, bool)> {
     let two = to_bytes("2 0 0 | 2, 0 0 0, 0 9 0 | 0 | 4, 0 1 1 0 | 4, 0 0 0 0 | 3, 5 0 0, 1 0 1, 3 1 0")
         .expect("text");
@@ -106,10 +119,12 @@ pub fn run_only() -> Vec<(&'static str, bool)> {
         step 3 answer 12 open 0 records 0 rounds 0 alive 1\nroute 0 1\n";
     let bytes = bytes_with(&[]);
     let fresh = Fleet::fresh(4, 1);
+    let too_small = bytes_with(&[(CAPACITY, 1)]);
     vec![
         ("empty input", face::open(&[]).0 == 1 && listing(&[]) == "refused 1\n"),
         ("65 nodes", face::open(&bytes_with(&[(3, 65)])).0 == 2),
         ("2 nodes", listing(&two) == listed),
+        ("capacity 1", face::open(&too_small).0 == 6 && listing(&too_small) == "refused 6\n"),
         (
             "room 0",
             step(&bytes, &fresh, &[], [1, 0, 2]).answer == 17

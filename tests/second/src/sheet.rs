@@ -1,4 +1,4 @@
-//! The day sheet as numbers, and refusals 1 to 4.
+//! The day sheet as numbers, and refusals 1 to 4 and 6.
 
 use crate::slips;
 
@@ -43,6 +43,20 @@ impl Sheet {
     }
     pub fn van(&self, van: usize) -> &Van {
         &self.vans[if slips::on(slips::LIMITS_OF_THE_FIRST_VAN) { 0 } else { van }]
+    }
+    /// What the van that takes most can take.
+    pub fn largest_capacity(&self) -> i64 {
+        let capacities = self.vans.iter().map(|van| van.capacity);
+        let asked = if slips::on(slips::CAPACITY_OF_THE_FIRST_VAN_FOR_6) {
+            capacities.take(1).max()
+        } else if slips::on(slips::SMALLEST_CAPACITY_FOR_6) {
+            capacities.min()
+        } else if slips::on(slips::CAPACITIES_TOGETHER_FOR_6) {
+            Some(capacities.sum())
+        } else {
+            capacities.max()
+        };
+        asked.expect("a sheet has a van")
     }
     pub fn seconds(&self, from: usize, to: usize) -> i64 {
         self.seconds[from * self.n() + to]
@@ -135,8 +149,37 @@ fn table(w: &[i64]) -> Result<Vec<i64>, u64> {
     w.iter().map(|&v| within(v, 0, MILLION)).collect()
 }
 
-/// A sheet that 1 to 4 let pass; the triangles (5) are judged elsewhere, by opening alone.
+/// A sheet that 1 to 4 and 6 let pass; the triangles (5) are judged elsewhere, by opening alone.
 pub fn read(bytes: &[u8]) -> Result<Sheet, u64> {
+    let sheet = read_unweighed(bytes)?;
+    if never_rides(&sheet) {
+        return Err(6);
+    }
+    Ok(sheet)
+}
+
+/// The same for a call that, by this slip, would not ask 6.
+pub fn read_unless(slip: u64, bytes: &[u8]) -> Result<Sheet, u64> {
+    if slips::on(slip) {
+        return read_unweighed(bytes);
+    }
+    read(bytes)
+}
+
+/// A sheet that 1 to 4 let pass.
+pub fn read_unweighed(bytes: &[u8]) -> Result<Sheet, u64> {
+    let sheet = read_values(bytes)?;
+    if slips::on(slips::SIX_BEFORE_4) && never_rides(&sheet) {
+        return Err(6);
+    }
+    if doubled(&sheet.jobs) {
+        return Err(4);
+    }
+    Ok(sheet)
+}
+
+/// A sheet that 1 to 3 let pass.
+pub fn read_values(bytes: &[u8]) -> Result<Sheet, u64> {
     if bytes.len() % 4 != 0 {
         return Err(1);
     }
@@ -157,9 +200,6 @@ pub fn read(bytes: &[u8]) -> Result<Sheet, u64> {
         w[of_steps.0..of_steps.1].chunks(3).map(|c| [c[0] as u64, c[1] as u64, c[2] as u64]).collect();
     if at != w.len() {
         return Err(1);
-    }
-    if doubled(&jobs) {
-        return Err(4);
     }
     let spans = vec![limits, of_nodes, of_jobs, of_seconds, of_metres, of_steps];
     Ok(Sheet { vans, nodes, jobs, seconds, metres, steps, spans })
@@ -183,6 +223,16 @@ fn doubled(jobs: &[Job]) -> bool {
         }
     }
     false
+}
+
+/// Refusal 6: some job, taken alone, is above what any van can take.
+pub fn never_rides(sheet: &Sheet) -> bool {
+    let most = sheet.largest_capacity();
+    if slips::on(slips::LOADS_TOGETHER_FOR_6) {
+        return sheet.jobs.iter().map(|job| job.load).sum::<i64>() > most;
+    }
+    let just_full = slips::on(slips::AT_LEAST_FOR_ABOVE_IN_6);
+    sheet.jobs.iter().any(|job| job.load > most || (just_full && job.load == most))
 }
 
 /// Refusal 5: some three different nodes where the way round is shorter than the way itself.
@@ -211,7 +261,7 @@ pub fn stretch(bytes: &[u8], number: u64) -> &[u8] {
     if !(1..=6).contains(&number) {
         return &[];
     }
-    match read(bytes) {
+    match read_unless(slips::SECTION_DOES_NOT_ASK_6, bytes) {
         Ok(sheet) => {
             let (begin, end) = sheet.spans[number as usize - 1];
             &bytes[4 * begin..4 * end]

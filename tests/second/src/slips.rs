@@ -1,7 +1,7 @@
-//! Wrong variants on purpose. The slips that 01 names, those that a fleet and a shut door invite,
-//! and a few more, can be switched on in `listing`, `probe` and `check` by SECOND_BREAK, so that
-//! one can see the comparison and the checks fail. Nothing else reads the switch: the side that
-//! judges is never broken.
+//! Wrong variants on purpose. The slips that 01 names, those that a fleet, a shut door and loads
+//! that can never ride invite, and a few more, can be switched on in `listing`, `probe` and `check`
+//! by SECOND_BREAK, so that one can see the comparison and the checks fail. Nothing else reads the
+//! switch: the side that judges is never broken.
 
 use std::sync::atomic::{AtomicU64, Ordering};
 
@@ -37,7 +37,16 @@ pub const WINDOW_ASKS_THE_START_ALONE: u64 = 29;
 pub const LAST_MOMENT_CUT_AT_0: u64 = 30;
 pub const FIRST_STOP_NOT_ASKED: u64 = 31;
 pub const END_WITHOUT_ITS_SERVICE: u64 = 32;
-pub const LAST: u64 = 32;
+pub const SIX_BEFORE_4: u64 = 33;
+pub const SIX_AFTER_5: u64 = 34;
+pub const CAPACITY_OF_THE_FIRST_VAN_FOR_6: u64 = 35;
+pub const SMALLEST_CAPACITY_FOR_6: u64 = 36;
+pub const AT_LEAST_FOR_ABOVE_IN_6: u64 = 37;
+pub const ONLY_OPENING_ASKS_6: u64 = 38;
+pub const SECTION_DOES_NOT_ASK_6: u64 = 39;
+pub const LOADS_TOGETHER_FOR_6: u64 = 40;
+pub const CAPACITIES_TOGETHER_FOR_6: u64 = 41;
+pub const LAST: u64 = 41;
 
 static SLIP: AtomicU64 = AtomicU64::new(0);
 

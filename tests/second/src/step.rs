@@ -30,7 +30,7 @@ impl Step {
 }
 
 pub fn step(bytes: &[u8], fleet: &Fleet, trail: &[u64], words: [u64; 3]) -> Outcome {
-    match sheet::read(bytes) {
+    match sheet::read_unless(slips::ONLY_OPENING_ASKS_6, bytes) {
         Ok(sheet) if slips::on(slips::FIVE_ON_A_STEP) && sheet::triangle_broken(&sheet) => {
             refused(5, fleet, trail)
         }

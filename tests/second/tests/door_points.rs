@@ -2,6 +2,9 @@
 //! on 01's ways (0 to 1 is 10, 0 to 2 is 20, 0 to 3 is 30, 1 to 2 is 10, 1 to 3 is 20, 2 to 3 is 10)
 //! with nodes of its own and, where nothing else is said, no jobs: so the windows alone decide.
 
+mod runs;
+
+use runs::run_on;
 use second::face::{open, verdict};
 use second::facts::Facts;
 use second::fleet::Fleet;
@@ -9,7 +12,7 @@ use second::papers::SHEET;
 use second::rounds::keeps_rules;
 use second::sheet::read;
 use second::state::State;
-use second::step::{step, Outcome};
+use second::step::Outcome;
 use second::text::to_bytes;
 
 const NODES: &str = "0 0 0, 0 100 5, 0 25 5, 0 100 0";
@@ -24,11 +27,7 @@ fn sheet_of(nodes: &str) -> Vec<u8> {
 }
 
 fn run(bytes: &[u8], steps: &[[u64; 3]]) -> Outcome {
-    let mut out = Outcome { answer: 0, rounds: 0, fleet: open(bytes).1, trail: vec![0; 64] };
-    for &words in steps {
-        out = step(bytes, &out.fleet, &out.trail, words);
-    }
-    out
+    run_on(bytes, 64, steps)
 }
 
 /// The fresh state settled: open sets of 1 and 2, rounds, verdict.

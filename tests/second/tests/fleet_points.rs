@@ -2,6 +2,9 @@
 //! worked by hand on 01's sheet with two vans: wards 1 and 2, a transfer of 2 from 1 to 2. The door
 //! of ward 2 is shut at 30, not at 25, so that 25 is the last moment there and 0 1 2 3 can be driven.
 
+mod runs;
+
+use runs::run_on;
 use second::choices::{all_keep_rules, choices};
 use second::face::{open, open_places, verdict};
 use second::fleet::Fleet;
@@ -29,14 +32,6 @@ fn sheet_of(limits: &str) -> Vec<u8> {
 
 fn two_vans() -> Vec<u8> {
     sheet_of("4 2 60 2 60")
-}
-
-fn run_on(bytes: &[u8], trail: usize, steps: &[[u64; 3]]) -> Outcome {
-    let mut out = Outcome { answer: 0, rounds: 0, fleet: open(bytes).1, trail: vec![0; trail] };
-    for &words in steps {
-        out = step(bytes, &out.fleet, &out.trail, words);
-    }
-    out
 }
 
 fn run(steps: &[[u64; 3]]) -> Outcome {

@@ -1,5 +1,8 @@
 //! Readings of 01 that are easy to get wrong, one small example each.
 
+mod runs;
+
+use runs::run_on;
 use second::face::{open, open_places, verdict};
 use second::fleet::Fleet;
 use second::gen::draft::to_bytes as words_to_bytes;
@@ -24,11 +27,7 @@ fn with_jobs(jobs: &str) -> Vec<u8> {
 }
 
 fn run(bytes: &[u8], steps: &[[u64; 3]]) -> Outcome {
-    let mut out = Outcome { answer: 0, rounds: 0, fleet: open(bytes).1, trail: vec![0; 64] };
-    for &words in steps {
-        out = step(bytes, &out.fleet, &out.trail, words);
-    }
-    out
+    run_on(bytes, 64, steps)
 }
 
 #[test]
@@ -218,9 +217,11 @@ fn each_job_is_tested_alone() {
     assert_eq!((out.rounds, out.fleet.open_places()), (0, 2));
 }
 
+/// With 1 placed, 2 is owed and open in both legs. Before 1 it is in wrong order, and behind 1 it is
+/// begun at 25 and done at 30, when its door is shut since 25: settling leaves it nothing.
 #[test]
 fn the_verdict_does_not_settle() {
-    let bytes = bytes_with(&[(1, 1)]);
+    let bytes = bytes_with(&[]);
     let placed = run(&bytes, &[[1, 0, 1]]);
     assert_eq!(verdict(&bytes, &placed.fleet), (0, 1));
     let settled = run(&bytes, &[[1, 0, 1], [5, 0, 0]]);

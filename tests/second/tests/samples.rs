@@ -1,21 +1,31 @@
-//! The sample sheets are accepted and give the listings stored beside them.
+//! The sample sheets give the listings stored beside them.
 
+use second::face::open;
 use second::listing::listing;
 use second::text::to_bytes;
 
+fn stored(name: &str) -> String {
+    let path = format!("{}/../../samples/{name}", env!("CARGO_MANIFEST_DIR"));
+    std::fs::read_to_string(path).unwrap()
+}
+
 #[test]
 fn samples_give_their_listings() {
-    for name in ["paper", "ward", "full", "morning"] {
-        let path = |end: &str| format!("{}/../../samples/{name}.{end}", env!("CARGO_MANIFEST_DIR"));
-        let text = std::fs::read_to_string(path("txt")).unwrap();
-        let stored = std::fs::read_to_string(path("listing")).unwrap();
-        assert_eq!(listing(&to_bytes(&text).unwrap()), stored, "{name}");
+    for name in ["paper", "ward", "full", "morning", "cages"] {
+        let bytes = to_bytes(&stored(&format!("{name}.txt"))).unwrap();
+        assert_eq!(listing(&bytes), stored(&format!("{name}.listing")), "{name}");
     }
 }
 
 #[test]
 fn the_scope_sheet_is_the_paper_sample() {
-    let path = format!("{}/../../samples/paper.txt", env!("CARGO_MANIFEST_DIR"));
-    let text = std::fs::read_to_string(path).unwrap();
-    assert_eq!(to_bytes(&text).unwrap(), second::papers::bytes_with(&[]));
+    assert_eq!(to_bytes(&stored("paper.txt")).unwrap(), second::papers::bytes_with(&[]));
+}
+
+/// As its remarks say: with the 2 cages that were meant, nothing is left to refuse.
+#[test]
+fn the_cages_are_refused_for_the_slip_alone() {
+    let text = stored("cages.txt");
+    assert_eq!(open(&to_bytes(&text).unwrap()).0, 6);
+    assert_eq!(open(&to_bytes(&text.replacen("2 1 0 20", "2 1 0 2", 1)).unwrap()).0, 0);
 }

@@ -1,10 +1,41 @@
-use mathlib.Core.Path.{refl}
+use Prim.Native.Nat.{ℕ}
+use mathlib.Core.Path.{_≡_, refl, ap, ap₂, _∙_}
+use mathlib.Core.List.{List}
+use lib.Dec.{leb}
+use Rattle.laws.specs.Basic.{orElse, unless}
+use Rattle.laws.proofs.Choice.{or-else-zero, or-else-assoc}
+use Rattle.laws.proofs.Peak.{peak-within}
+use Rattle.rules.specs.Numbers.{refusal}
 use Rattle.sheet.proofs.PlaceLaws.{found-laid, found-stops, found-judged}
-use Rattle.sheet.specs.Section.{readRefusal}
-use Rattle.day.specs.Refuse.{callRefusal}
+use Rattle.sheet.specs.Section.{readRefusal, mOf}
+use Rattle.sheet.specs.Place.{Laid, found}
+use Rattle.day.specs.Tell.{jobIn, largestOf}
+use Rattle.day.specs.Refuse.{apart, canRide, callRefusal}
+use Rattle.day.specs.declared.jobs.Looked.{Looked}
 use borrow.Author.Needs.{needs}
 use Rattle.day.proofs.checked.Statement.{statement}
 use Rattle.day.proofs.checked.Tie as tie
+
+-- what is asked before the loads
+abbrev apartRefusal : List ℕ → ℕ
+apartRefusal s = orElse (readRefusal s) (unless (apart (jobIn s) (mOf s)) refusal.TWICE)
+
+then-heavy : (s : List ℕ) → callRefusal s ≡ orElse (apartRefusal s) (unless (canRide (jobIn s) (mOf s) (largestOf s)) refusal.HEAVY)
+unfolding callRefusal
+then-heavy s = or-else-assoc _ _ _
+
+read-laid : (c : tie.Else1) → Laid (c .before .before .before .before .args .s .now) (c .before .before .sections .result .layout)
+read-laid c = found-laid readRefusal _ (λ z. z) (c .before .before .sections .ensures) (c .if1 .left)
+
+found-apart : (c : tie.After-judged) → c .judged .result ≡ found apartRefusal (c .before .before .before .before .before .before .args .s .now)
+found-apart c =
+    let j = c .before in
+    let e = j .before in
+    found-judged readRefusal apartRefusal _ _ (e .before .before .sections .ensures) (e .if1 .left) (c .judged .ensures)
+    (ap (λ (o : Looked). o .apart) (rw (read-laid e .jobs) at (j .look-over .ensures))) refl
+
+apart-laid : (c : tie.Else2) → Laid (c .before .before .before .before .before .before .before .before .args .s .now) (c .before .before .judged .result .layout)
+apart-laid c = found-laid apartRefusal _ (λ z. or-else-zero _ _ z .0) (found-apart (c .before .before)) (c .if2 .left)
 
 sections-requires : tie.Need-sections-requires
 sections-requires c κs = search needs
@@ -13,16 +44,40 @@ returns : tie.Need-returns
 unfolding callRefusal
 returns c = found-stops _ _ _ _ (c .before .before .sections .ensures) (c .if1 .taken) refl
 
-all-apart-requires : tie.Need-all-apart-requires
-all-apart-requires c κs = found-laid readRefusal _ (λ z. z) (c .before .before .sections .ensures) (c .if1 .left)
+look-over-requires : tie.Need-look-over-requires
+look-over-requires c κs = read-laid c
 
 judged-requires : tie.Need-judged-requires
 judged-requires c κs = search needs
 
 returns-2 : tie.Need-returns-2
-unfolding callRefusal
-returns-2 c = let e = c .before .before .before .before .sections .ensures in let z = c .before .before .if1 .left in found-judged _ _ _ _ e z (c .judged .ensures) (rw (found-laid readRefusal _ (λ z. z) e z .jobs) at (c .before .all-apart .ensures)) refl
+returns-2 c = found-stops apartRefusal _ _ _ (found-apart (c .before .before)) (c .if2 .taken) (then-heavy _)
+
+largest-requires : tie.Need-largest-requires
+largest-requires c κs = apart-laid c
+
+judged-requires-2 : tie.Need-judged-requires-2
+judged-requires-2 c κs = search needs
+
+returns-3 : tie.Need-returns-3
+unfolding canRide
+returns-3 c =
+    let m = c .before .before in
+    let a = m .before .before .before in
+    let j = a .before in
+    let heaviest = ap (λ (o : Looked). o .heaviest) (rw (read-laid (j .before) .jobs) at (j .look-over .ensures)) in
+    found-judged apartRefusal _ _ _ (found-apart a) (m .before .if2 .left) (c .judged2 .ensures)
+    (ap₂ leb heaviest (m .largest .ensures) ∙ peak-within _ _ _) (then-heavy _)
 
 pub checked-spec : {M : Type 1} → statement M
 checked-spec =
-    tie.close (tie.spec sections-requires returns all-apart-requires judged-requires returns-2)
+    tie.close
+    (tie.spec
+    sections-requires
+    returns
+    look-over-requires
+    judged-requires
+    returns-2
+    largest-requires
+    judged-requires-2
+    returns-3)

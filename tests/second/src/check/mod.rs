@@ -32,7 +32,7 @@ pub fn expected() -> Tally {
     for group in groups.into_iter().chain([doors::NAMES]) {
         names.extend(group.iter().map(|name| name.to_string()));
     }
-    for number in (1..=5).chain(11..=22) {
+    for number in (1..=6).chain(11..=22) {
         names.push(format!("refusal {number}"));
     }
     Tally::expecting(names)

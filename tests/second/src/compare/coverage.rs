@@ -3,7 +3,8 @@
 use super::{back_coverage, fleet_coverage};
 use crate::doors;
 use crate::fleet::Fleet;
-use crate::probe::{Case, OPEN, PLACES, SECTION, STEP, VERDICT};
+use crate::heavy;
+use crate::probe::{Case, Heads, OPEN, PLACES, SECTION, STEP, VERDICT};
 use crate::sheet::{read, triangle_broken, Sheet};
 use crate::step::Step;
 use crate::tally::Tally;
@@ -45,10 +46,10 @@ const MORE: &[&str] = &[
 
 pub fn of_probes() -> Tally {
     let mut names = vec![];
-    for number in 0..=5 {
+    for number in 0..=6 {
         names.push(format!("open: answer {number}"));
     }
-    for number in [0, 1, 2, 3, 4].into_iter().chain(11..=22) {
+    for number in [0, 1, 2, 3, 4, 6].into_iter().chain(11..=22) {
         names.push(format!("step: answer {number}"));
     }
     for (kind, numbers) in OF_KIND {
@@ -56,21 +57,22 @@ pub fn of_probes() -> Tally {
             names.push(format!("step kind {kind}: answer {number}"));
         }
     }
-    for number in [0, 1, 2, 3, 4, 19] {
+    for number in [0, 1, 2, 3, 4, 6, 19] {
         names.push(format!("open places: answer {number}"));
         names.push(format!("verdict: answer {number}"));
     }
     for number in 1..=6 {
         names.push(format!("section {number}: bytes"));
     }
-    for number in 1..=4 {
+    for number in [1, 2, 3, 4, 6] {
         names.push(format!("section: empty by refusal {number}"));
     }
     for vans in 1..=8 {
         names.push(format!("step: accepted with {vans} vans"));
     }
-    let groups = [MORE, fleet_coverage::NAMES, back_coverage::NAMES, doors::NAMES];
-    names.extend(groups.concat().iter().map(|name| name.to_string()));
+    let fleets = [fleet_coverage::NAMES, back_coverage::NAMES];
+    let groups = [MORE, doors::NAMES, heavy::OF_SHEETS, heavy::OF_CALLS];
+    names.extend(fleets.into_iter().chain(groups).flatten().map(|name| name.to_string()));
     Tally::expecting(names)
 }
 
@@ -81,6 +83,19 @@ pub fn note_probe(tally: &mut Tally, case: &Case) {
         return note_section(tally, case.words[0], &sheet);
     }
     let (heads, after, _) = case.ask();
+    note_answer(tally, case, &heads);
+    match (case.question, heads.answer) {
+        (OPEN, answer) => heavy::note_opened(tally, &case.bytes, answer),
+        (_, 6) => heavy::note_call(tally, case),
+        (_, answer) => {
+            if let Ok(sheet) = sheet {
+                note_call(tally, &sheet, case, answer, &after);
+            }
+        }
+    }
+}
+
+fn note_answer(tally: &mut Tally, case: &Case, heads: &Heads) {
     let name = match case.question {
         OPEN => "open",
         STEP => "step",
@@ -94,23 +109,27 @@ pub fn note_probe(tally: &mut Tally, case: &Case) {
     if case.question == STEP {
         note_step(tally, case, heads.answer, heads.rounds);
     }
-    let Ok(sheet) = sheet else { return };
-    match (case.question, heads.answer) {
-        (OPEN, _) => {}
-        (_, 19) => fleet_coverage::note_form(tally, &sheet, case),
+}
+
+/// Of a step or a question on a sheet that is not refused.
+fn note_call(tally: &mut Tally, sheet: &Sheet, case: &Case, answer: u64, after: &Fleet) {
+    match (case.question, answer) {
+        (_, 19) => fleet_coverage::note_form(tally, sheet, case),
         (STEP, answer) => {
-            note_accepted(tally, &sheet, answer);
-            fleet_coverage::note_step(tally, &sheet, case, answer);
-            back_coverage::note(tally, &sheet, case, answer, &after);
+            note_accepted(tally, sheet, answer);
+            fleet_coverage::note_step(tally, sheet, case, answer);
+            back_coverage::note(tally, sheet, case, answer, after);
             let step = Step::of(case.words);
             if (step.kind, answer) == (5, 0) {
-                doors::note_settled(tally, &sheet, &case.fleet.vans[step.van as usize]);
+                let state = &case.fleet.vans[step.van as usize];
+                doors::note_settled(tally, sheet, state);
+                heavy::note_settled(tally, sheet, state);
             }
         }
         _ => {
-            fleet_coverage::note_verdict(tally, &sheet, case);
+            fleet_coverage::note_verdict(tally, sheet, case);
             if case.question == VERDICT {
-                doors::note_judged(tally, &sheet, &case.fleet);
+                doors::note_judged(tally, sheet, &case.fleet);
             }
         }
     }
@@ -171,7 +190,7 @@ fn note_shape(tally: &mut Tally, case: &Case, (n, v): (usize, usize)) {
 
 pub fn of_listings() -> Tally {
     let mut names = vec![];
-    for number in 1..=5 {
+    for number in 1..=6 {
         names.push(format!("refused {number}"));
     }
     for number in [0, 11, 12, 13, 14, 15, 16, 18, 21, 22] {
@@ -196,11 +215,11 @@ pub fn of_listings() -> Tally {
     ] {
         names.push(more.to_string());
     }
-    names.extend(doors::NAMES.iter().map(|name| name.to_string()));
+    names.extend([doors::NAMES, heavy::OF_SHEETS].concat().iter().map(|name| name.to_string()));
     Tally::expecting(names)
 }
 
-/// Reads the counts off the expected listing itself, but for the doors, which are the sheet's.
+/// Reads the counts off the expected listing itself, but for doors and loads, which are the sheet's.
 pub fn note_listing(tally: &mut Tally, bytes: &[u8], expected: &str) {
     if bytes.len() > crate::sheet::PROGRAM_BYTES {
         tally.add("above 60,104 bytes");
@@ -210,19 +229,7 @@ pub fn note_listing(tally: &mut Tally, bytes: &[u8], expected: &str) {
     if bytes.len() == crate::sheet::PROGRAM_BYTES && expected.starts_with("step") {
         tally.add("exactly 60,104 bytes");
     }
-    if let Ok(sheet) = read(bytes) {
-        tally.add(format!("{} vans", sheet.v()));
-        if sheet.n() == 64 || sheet.n() == 2 {
-            tally.add(format!("{} nodes", sheet.n()));
-        }
-        if expected.starts_with("step") {
-            let fresh = Fleet::fresh(sheet.n(), sheet.v());
-            if sheet.steps.iter().any(|&words| Step::of(words).kind == 5) {
-                doors::note_settled(tally, &sheet, &fresh.vans[0]);
-            }
-            doors::note_judged(tally, &sheet, &fresh);
-        }
-    }
+    note_listed_sheet(tally, bytes, expected);
     if bytes.is_empty() {
         tally.add("empty input");
     }
@@ -237,5 +244,22 @@ pub fn note_listing(tally: &mut Tally, bytes: &[u8], expected: &str) {
         tally.add(format!("step answer {}", fields[3]));
         tally.add(format!("rounds {}", fields[9]));
         tally.add(format!("alive {}", fields[11]));
+    }
+}
+
+fn note_listed_sheet(tally: &mut Tally, bytes: &[u8], expected: &str) {
+    let number = expected.trim_end().strip_prefix("refused ");
+    heavy::note_opened(tally, bytes, number.map_or(0, |no| no.parse().expect("a number")));
+    let Ok(sheet) = read(bytes) else { return };
+    tally.add(format!("{} vans", sheet.v()));
+    if sheet.n() == 64 || sheet.n() == 2 {
+        tally.add(format!("{} nodes", sheet.n()));
+    }
+    if expected.starts_with("step") {
+        let fresh = Fleet::fresh(sheet.n(), sheet.v());
+        if sheet.steps.iter().any(|&words| Step::of(words).kind == 5) {
+            doors::note_settled(tally, &sheet, &fresh.vans[0]);
+        }
+        doors::note_judged(tally, &sheet, &fresh);
     }
 }

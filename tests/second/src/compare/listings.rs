@@ -5,7 +5,7 @@ use std::path::Path;
 use super::coverage::{note_listing, of_listings};
 use super::runner::{self, End};
 use super::{Plan, SHOWN};
-use crate::gen::{damage, edges, fleets, full, sheets, steps};
+use crate::gen::{damage, edges, fleets, full, heavy, sheets, steps};
 use crate::listing::listing;
 use crate::papers::bytes_with;
 use crate::rng::Rng;
@@ -24,7 +24,11 @@ pub fn sheet(seed: u64, number: u64) -> Vec<u8> {
         2..=5 => {
             let size = sheets::any_size(rng);
             let made = sheets::with_steps(rng, size, 6);
-            damage::sheet(rng, made)
+            if number % 2 == 0 {
+                damage::sheet(rng, made)
+            } else {
+                heavy::sheet(rng, made)
+            }
         }
         6 => levels_only(rng),
         7 => two_nodes(rng),

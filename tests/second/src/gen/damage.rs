@@ -1,6 +1,7 @@
 //! Sheets that are refused, one way for each rule, and some that are damaged twice.
 
 use super::draft::Draft;
+use super::loads;
 use super::steps::odd;
 use crate::rng::Rng;
 
@@ -89,6 +90,32 @@ pub fn doubled(rng: &mut Rng, draft: &mut Draft) {
     draft.jobs.truncate(155);
 }
 
+/// One job above the largest capacity, mostly by 1; in one sheet of four none is, but one just rides.
+pub fn heavy(rng: &mut Rng, draft: &mut Draft) {
+    if draft.n() < 3 {
+        return value(rng, draft);
+    }
+    if draft.jobs.is_empty() {
+        draft.jobs.push([1, 1, 0, 1]);
+    }
+    if rng.one_in(2) {
+        loads::just_ride(rng, draft);
+        if rng.one_in(2) {
+            return;
+        }
+    }
+    // A load is at most 1,000, so there must be room above the largest capacity.
+    for pair in draft.limits.iter_mut() {
+        pair[0] = pair[0].min(999);
+    }
+    let above = loads::largest(draft) + 1;
+    let more = rng.between(above.into(), 1000) as u32;
+    let last = draft.jobs.len() - 1;
+    let any = rng.below(last + 1);
+    let at = *rng.pick(&[0, last, any]);
+    draft.jobs[at][3] = *rng.pick(&[above, above, above, more]);
+}
+
 /// One entry above the way round some third node, by 1 or more.
 pub fn triangle(rng: &mut Rng, draft: &mut Draft) {
     let n = draft.n();
@@ -129,10 +156,11 @@ pub fn short_and_wrong(rng: &mut Rng, mut draft: Draft) -> Vec<u8> {
 }
 
 fn one(rng: &mut Rng, draft: &mut Draft) {
-    match rng.below(7) {
+    match rng.below(8) {
         0 | 5 => count(rng, draft),
         1 | 2 => value(rng, draft),
         3 | 6 => doubled(rng, draft),
+        7 => heavy(rng, draft),
         _ => triangle(rng, draft),
     }
 }

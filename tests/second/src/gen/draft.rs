@@ -49,7 +49,7 @@ impl Draft {
         to_bytes(&self.words())
     }
 
-    /// Only of drafts that keep 1 to 4.
+    /// Only of drafts that keep 1 to 4 and 6.
     pub fn sheet(&self) -> Sheet {
         read(&self.bytes()).unwrap_or_else(|no| panic!("a draft made whole is refused by {no}"))
     }

@@ -3,9 +3,11 @@
 
 use super::doors;
 use super::draft::Draft;
+use super::loads;
 use super::steps::open_place;
 use crate::facts::Facts;
 use crate::rng::Rng;
+use crate::sheet::Sheet;
 use crate::state::State;
 
 /// Everything else as wide as can be, so that one test alone decides.
@@ -62,24 +64,31 @@ fn sharpen_place(rng: &mut Rng, draft: &mut Draft, van: usize, facts: &Facts, x:
         }
         10 => doors::within_its_service(rng, draft, x),
         1 => last_moment(draft, k, arrival - off),
-        2 => {
-            let on: i64 = facts.path[i + 1..]
-                .windows(2)
-                .map(|w| sheet.nodes[w[0]].service + sheet.seconds(w[0], w[1]))
-                .sum();
-            last_moment(draft, last, arrival + on - off);
-        }
+        2 => last_moment(draft, last, arrival + way_on(&sheet, &facts.path, i + 1) - off),
         3 => {
             let total = facts.metres + sheet.metres(p, x) + sheet.metres(x, k) - sheet.metres(p, k);
             draft.limits[van][1] = (total - off).clamp(0, 1_000_000) as u32;
         }
         _ => {
-            let own: Vec<_> = sheet.jobs.iter().filter(|j| j.a == x || j.b == x).collect();
-            let load = if own.is_empty() { 0 } else { rng.pick(&own).load };
+            let load = load_of(rng, &sheet, x);
             let aboard = *rng.pick(&facts.h);
-            draft.limits[van][0] = (aboard + load - off).clamp(0, 1000) as u32;
+            loads::bend(rng, draft, van, aboard + load - off);
         }
     }
+}
+
+/// The load of one of the ward's jobs, 0 if it has none.
+fn load_of(rng: &mut Rng, sheet: &Sheet, x: usize) -> i64 {
+    let own: Vec<_> = sheet.jobs.iter().filter(|j| j.a == x || j.b == x).collect();
+    if own.is_empty() {
+        return 0;
+    }
+    rng.pick(&own).load
+}
+
+/// From the start at the stop at `from` to the arrival at the end, if nobody waits.
+fn way_on(sheet: &Sheet, path: &[usize], from: usize) -> i64 {
+    path[from..].windows(2).map(|w| sheet.nodes[w[0]].service + sheet.seconds(w[0], w[1])).sum()
 }
 
 /// The verdict's own edges: a start, the metres, a load.
@@ -94,6 +103,9 @@ fn sharpen_route(rng: &mut Rng, draft: &mut Draft, van: usize, facts: &Facts) {
             last_moment(draft, facts.path[i], facts.e[i] - off);
         }
         1 => draft.limits[van][1] = (facts.metres - off).clamp(0, 1_000_000) as u32,
-        _ => draft.limits[van][0] = (rng.pick(&facts.h) - off).clamp(0, 1000) as u32,
+        _ => {
+            let aboard = *rng.pick(&facts.h);
+            loads::bend(rng, draft, van, aboard - off);
+        }
     }
 }

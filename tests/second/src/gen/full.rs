@@ -3,7 +3,7 @@
 //! can be over, and every node with all its jobs.
 
 use super::draft::Draft;
-use super::steps;
+use super::{loads, steps};
 use crate::fleet::Fleet;
 use crate::rng::Rng;
 use crate::sheet::Sheet;
@@ -71,7 +71,7 @@ pub fn day(rng: &mut Rng, n: usize, v: usize) -> Draft {
         time += service;
     }
     let total: u32 = jobs.iter().filter(|j| j[0] == 1).map(|j| j[3]).sum();
-    let capacity = (total + total / 4).min(1000);
+    let capacity = (total + total / 4).clamp(loads::heaviest(&jobs), 1000);
     let limit = (length + length / 3) as u32;
     Draft {
         limits: (0..v as u32).map(|van| [capacity - van * capacity / 40, limit + 50 * van]).collect(),

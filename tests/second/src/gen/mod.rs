@@ -8,6 +8,8 @@ pub mod draft;
 pub mod edges;
 pub mod fleets;
 pub mod full;
+pub mod heavy;
+pub mod loads;
 pub mod parts;
 pub mod probes;
 pub mod sheets;

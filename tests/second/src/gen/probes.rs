@@ -2,7 +2,7 @@
 //! question and every refusal.
 
 use super::draft::{self, Draft};
-use super::{back, damage, edges, fleets, sheets, spoil, steps};
+use super::{back, damage, edges, fleets, heavy, sheets, spoil, steps};
 use crate::fleet::Fleet;
 use crate::probe::{Case, MOST_BYTES, MOST_TRAIL, OPEN, PLACES, SECTION, STEP, VERDICT};
 use crate::rng::Rng;
@@ -13,7 +13,7 @@ use crate::step::step_on;
 pub fn case(seed: u64, number: u64) -> Case {
     let mut rng = Rng::of(seed, number);
     let rng = &mut rng;
-    match number % 20 {
+    match number % 21 {
         0..=2 => opening(rng),
         3 | 10 => stepping(rng, true),
         4 => section(rng),
@@ -30,6 +30,7 @@ pub fn case(seed: u64, number: u64) -> Case {
         12 => back::along_steps(rng),
         13 | 14 => back::made_up(rng),
         15..=18 => at_the_edge(rng),
+        19 => heavy::case(rng),
         _ => anything(rng),
     }
 }
@@ -48,7 +49,7 @@ pub fn runnable(rng: &mut Rng) -> (Vec<u8>, Sheet) {
     (made.bytes(), made.sheet())
 }
 
-fn draft_for_steps(rng: &mut Rng) -> Draft {
+pub fn draft_for_steps(rng: &mut Rng) -> Draft {
     let (size, vans) = (sized(rng, 60), sheets::any_vans(rng));
     let mut made = sheets::plain(rng, size, vans);
     if rng.one_in(8) && size > 2 {

@@ -3,6 +3,7 @@
 
 use super::doors;
 use super::draft::Draft;
+use super::loads;
 use super::steps;
 use super::tables;
 use crate::rng::Rng;
@@ -94,6 +95,7 @@ pub fn plain(rng: &mut Rng, n: usize, v: usize) -> Draft {
         steps: vec![],
         false_counts: vec![],
     };
+    loads::ride(rng, &mut draft);
     doors::shut_some(rng, &mut draft);
     draft
 }

@@ -2,14 +2,15 @@ use mathlib.Core.Path.{_≡_, refl, ap, _∙_}
 use mathlib.Core.Logic.{⊎-elim}
 use Prim.Native.Nat.{_-_, _≤_}
 use native.Mathlib.Omega.{arith}
+use Rattle.laws.specs.Basic.{peak}
+use Rattle.laws.proofs.Peak.{peak-next}
 use Rattle.sheet.specs.declared.Layout.{Layout}
 use Rattle.sheet.specs.Section.{mOf}
 use Rattle.day.specs.Tell.{jobIn}
 use Rattle.day.proofs.Fit.{placed-read}
-use Rattle.along.specs.Spots.{loadOf}
+use Rattle.rules.specs.Load.{loadOf}
 use Rattle.along.proofs.RouteLaws.{job-low}
-use Rattle.along.specs.Loads.{peak}
-use Rattle.along.proofs.LoadLaws.{Stowed, stowed-none, stowed-more, stowed-run, stowed-loads, stowed-peak, stow-first-low, peak-next}
+use Rattle.along.proofs.LoadLaws.{Stowed, stowed-none, stowed-more, stowed-run, stowed-loads, stowed-peak, stow-first-low}
 use Rattle.along.proofs.loads.loads.Statement.{statement}
 use Rattle.along.proofs.loads.loads.Tie as tie
 
@@ -61,8 +62,8 @@ add-j c = omega arith
 loop-less : tie.Need-loop-less Inv-loop μ-loop
 loop-less c = omega arith
 
-load-of-requires : tie.Need-load-of-requires Inv-loop μ-loop
-load-of-requires c κs = tt
+load-requires : tie.Need-load-requires Inv-loop μ-loop
+load-requires c κs = tt
 
 loop-again : tie.Need-loop-again Inv-loop μ-loop
 loop-again c =
@@ -72,7 +73,7 @@ loop-again c =
     let a = v .before .before .args in
     let p = v .before .before .pre in
     let g = jobIn (a .s .now) in
-    let e : c .before .load-of .result ≡ loadOf (g (v .loop .j)) = c .before .load-of .ensures ∙ ap loadOf (o .job .ensures) in (
+    let e : c .before .load .result ≡ loadOf (g (v .loop .j)) = c .before .load .ensures ∙ ap loadOf (o .job .ensures) in (
       omega arith,
       rw (k .stow .ensures .0, k .stow .ensures .1, k .stow .ensures .2)
           (stowed-more g (a .route .now) (a .stops) (v .loop .j) (omega arith) (omega arith) (p .1 .nodes) (p .2) (o .job .ensures)
@@ -106,7 +107,7 @@ loads-spec =
     job-requires
     stow-requires
     add-first
-    load-of-requires
+    load-requires
     add-j
     loop-less
     loop-again

@@ -8,7 +8,7 @@ use borrow.Author.Needs.{needs}
 use borrow.Author.Tests.{ltb-true, lt-ltb, le-ltb}
 use native.Mathlib.Omega.{arith}
 use Rattle.laws.proofs.Logic.{and-true}
-use Rattle.along.specs.Spots.{loadOf}
+use Rattle.rules.specs.Load.{loadOf}
 use Rattle.along.proofs.SpotLaws.{spot-node}
 use Rattle.along.specs.Loads.{more, stowFirst, stowOn, stowOff}
 use Rattle.along.proofs.loads.stow.Statement.{statement}

@@ -3,7 +3,7 @@ use Prim.Native.Nat.{ℕ, _-_, _<_, _≤_}
 use native.Mathlib.Omega.{arith}
 use Rattle.day.specs.Tell.{jobIn}
 use Rattle.day.proofs.Fit.{placed-read}
-use Rattle.along.specs.Spots.{loadOf}
+use Rattle.rules.specs.Load.{loadOf}
 use Rattle.along.specs.Nodes.{ByNode}
 use Rattle.along.proofs.RouteLaws.{job-low}
 use Rattle.along.proofs.ReadyLaws.{jobs-are}

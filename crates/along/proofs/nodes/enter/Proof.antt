@@ -3,7 +3,7 @@ use Prim.Native.Nat.{ℕ, _+_, _<_}
 use native.Mathlib.Omega.{arith}
 use lib.ListN.{getD}
 use borrow.Author.Needs.{needs}
-use Rattle.along.specs.Spots.{loadOf}
+use Rattle.rules.specs.Load.{loadOf}
 use Rattle.along.proofs.NodeLaws.{entered-clean, entered-soiled, entered-transfer, second-low}
 use Rattle.along.proofs.nodes.enter.Statement.{statement}
 use Rattle.along.proofs.nodes.enter.Tie as tie

@@ -42,16 +42,16 @@ holds-requires-4 : tie.Need-holds-requires-4
 holds-requires-4 c κs = omega (arith, both (c .before .before .before .before))
 
 returns : tie.Need-returns
-returns c = rw (c .before .before .before .job .given .1, c .before .put .ensures, c .holds .ensures)
+returns c = rw (c .before .before .before .before .job .given .1, c .before .before .put .ensures, c .before .holds .ensures)
 
 returns-2 : tie.Need-returns-2
-returns-2 c = rw (c .before .before .before .job2 .given .1, c .before .put2 .ensures, c .holds2 .ensures)
+returns-2 c = rw (c .before .before .before .before .job2 .given .1, c .before .before .put2 .ensures, c .before .holds2 .ensures)
 
 returns-3 : tie.Need-returns-3
 returns-3 c =
-    let h = c .before in
+    let h = c .before .before in
     let p = h .before in
-    rw (p .before .before .before .job3 .given .1, p .put4 .ensures, p .before .put3 .ensures, h .holds3 .ensures, c .holds4 .ensures)
+    rw (p .before .before .before .job3 .given .1, p .put4 .ensures, p .before .put3 .ensures, h .holds3 .ensures, c .before .holds4 .ensures)
 
 pub see-spec : {M : Type 1} → statement M
 see-spec =

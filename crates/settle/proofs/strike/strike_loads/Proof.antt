@@ -4,7 +4,7 @@ use mathlib.Core.Path.{_≡_, refl, sym, _∙_}
 use Rattle.day.specs.Tell.{jobIn}
 use borrow.Author.Tests.{leb-true}
 use Rattle.along.proofs.RouteLaws.{job-low}
-use Rattle.along.proofs.LoadLaws.{peak-low}
+use Rattle.laws.proofs.Peak.{peak-low}
 use Rattle.settle.specs.Round.{Kepts, loadLeaves, jobsLeave}
 use Rattle.settle.proofs.RoundLaws.{kepts-one, jobs-none, jobs-more}
 use Rattle.settle.proofs.Facts.{job-asked, node-word}
