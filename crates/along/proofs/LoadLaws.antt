@@ -4,15 +4,14 @@ use mathlib.Core.Bool.{Bool, true, false, cond, _&&_, and-true, and-false}
 use mathlib.Core.List.{List, [], _∷_}
 use mathlib.Core.Logic.{⊎-elim}
 use Prim.Native.Nat.{ℕ, zero, suc, max, _+_, _-_, _*_, _<_, _≤_}
-use native.Mathlib.Numerals.{add-one}
 use native.Mathlib.Nat.{eq-or-lt-of-le, le-of-suc-le-suc}
 use native.Mathlib.Omega.{arith}
 use lib.Dec.{leb, ltb}
 use lib.ListN.{getD, set, take, drop, length, replicate, length-set}
 use lib.Seq.{getD-set-same, getD-set-other}
-use borrow.Author.Tests.{lt-ltb, le-ltb, lt-leb, le-leb, ltb-true, ltb-false, leb-true, leb-false}
+use borrow.Author.Tests.{lt-ltb, le-ltb, lt-leb, ltb-true, ltb-false, leb-true, leb-false}
 use Rattle.laws.proofs.Logic.{decided}
-use Rattle.laws.specs.Basic.{mem, allBelow, sumBelow, peak, tab, Filled}
+use Rattle.laws.specs.Basic.{mem, sumBelow, peak, tab, Filled}
 use Rattle.laws.proofs.Sum.{sum-next, sum-same, sum-most}
 use Rattle.laws.proofs.Peak.{peak-next, peak-same}
 use Rattle.laws.proofs.Table.{filled-none, filled-more}
