@@ -17,11 +17,11 @@
      9  step back, on the fleet that a level was opened in before it was half built
    With v vans, ward x is placed in van (x - 1) mod v, after the last ward on that van's route, or
    after the start. The half-built fleet was given the wards 1 to n/2 - 2, the next one is n/2 - 1,
-   the full fleet was given all; a ward whose transfer partner another van has is refused (22). They
-   are made from the fresh fleet by step 1 alone, never settled. (With n/2 = 1 the next ward is 0,
-   after 2^64 - 1, in the first van.)
+   the full fleet was given all; a ward whose transfer partner another van has is refused (22), and
+   so is one that does not admit its van (15). They are made from the fresh fleet by step 1 alone,
+   never settled. (With n/2 = 1 the next ward is 0, after 2^64 - 1, in the first van.)
    Each time starts from the same fleet (a copy), with a trail of v x 2 x 4,030 words, and through
-   the calls a user has: bytes of the sheet in, so 1 to 4 and 6 are judged each time.
+   the calls a user has: bytes of the sheet in, so 1 to 4, 6 and 7 are judged each time.
    Before each time the number of the time, modulo 1,000, is written into seconds(0, 0): a
    diagonal is never used, so nothing changes, but no compiler may do the work once for all.
 

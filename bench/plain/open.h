@@ -23,6 +23,7 @@ static int triangle_broken(const u8 *table, u64 n)
     return bad < 0;
 }
 
+/* A ward is open in the vans that it admits. */
 static void fresh(const Sheet *s, Fleet *fleet)
 {
     *fleet = (Fleet){0};
@@ -30,7 +31,7 @@ static void fresh(const Sheet *s, Fleet *fleet)
         State *state = &fleet->vans[v];
         state->route[1] = s->n - 1;
         state->stops = 2;
-        for (u32 x = 1; x + 1 < s->n; x++) state->sets[x] = 1;
+        for (u32 x = 1; x + 1 < s->n; x++) state->sets[x] = (s->admits[x] & s->class[v]) != 0;
     }
 }
 

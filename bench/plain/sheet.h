@@ -1,14 +1,17 @@
-/* Reading a sheet: refusals 1 to 4 and 6, with all that the steps need laid out by node. */
+/* Reading a sheet: refusals 1 to 4, 6 and 7, with all that the steps need laid out by node. */
 
 enum { CLEAN = 1, SOILED = 2, TRANSFER = 3 };
 
 typedef struct {
     u32 n, vans;
     i32 capacity[MOST_VANS], limit[MOST_VANS];
+    u32 class[MOST_VANS];               /* one bit */
+    u32 classes;                        /* of all vans */
     i32 largest;                        /* capacity, over all vans */
     i32 heaviest;                       /* load, over all jobs; 0: no job */
     i32 earliest[MOST_NODES], service[MOST_NODES];
     i32 last[MOST_NODES];               /* last moment to start: latest less service, may be negative */
+    u8 admits[MOST_NODES];              /* classes of the vans that may come */
     i32 load[TRANSFER + 1][MOST_NODES]; /* by kind of job; 0: none */
     u8 partner[MOST_NODES];             /* 0: none */
     u64 pickups;                        /* nodes that are the first of a transfer */
@@ -40,38 +43,43 @@ static u64 entries(Reader *r, u32 low, u32 high, u64 width, const u8 **begin, u3
     return 0;
 }
 
+/* Three words a van. A class that has no bit in common with the number before it is one bit. */
 static u64 read_limits(Reader *r, Sheet *s)
 {
     const u8 *e;
     u32 count, bad = 0;
-    /* an odd count is out of range, and that comes before shortness */
-    if (r->words && word(r->bytes) % 2) return 2;
-    u64 no = entries(r, 2, 2 * MOST_VANS, 1, &e, &count);
+    /* a count that 3 does not divide is out of range, and that comes before shortness */
+    if (r->words && word(r->bytes) % 3) return 2;
+    u64 no = entries(r, 3, 3 * MOST_VANS, 1, &e, &count);
     if (no) return no;
-    s->vans = count / 2;
+    s->vans = count / 3;
     s->largest = 0;
-    for (u32 v = 0; v < s->vans; v++) {
-        u32 capacity = word(e + 8 * v), limit = word(e + 8 * v + 4);
-        bad |= (capacity > 1000) | (limit > 1000000);
+    s->classes = 0;
+    for (u32 v = 0; v < s->vans; v++, e += 12) {
+        u32 capacity = word(e), limit = word(e + 4), class = word(e + 8);
+        bad |= (capacity > 1000) | (limit > 1000000) | (class - 1 > 127) | (class & (class - 1));
         s->capacity[v] = (i32)capacity;
         if ((i32)capacity > s->largest) s->largest = (i32)capacity;
         s->limit[v] = (i32)limit;
+        s->class[v] = class;
+        s->classes |= class;
     }
     return bad ? 3 : 0;
 }
 
 static u64 read_nodes(Reader *r, Sheet *s)
 {
-    u64 no = entries(r, 2, MOST_NODES, 3, &s->nodes, &s->n);
+    u64 no = entries(r, 2, MOST_NODES, 4, &s->nodes, &s->n);
     u32 bad = 0;
     if (no) return no;
     const u8 *e = s->nodes;
-    for (u32 x = 0; x < s->n; x++) {
-        u32 early = word(e + 12 * x), late = word(e + 12 * x + 4), service = word(e + 12 * x + 8);
-        bad |= (late > 1000000) | (early > late) | (service > 1000000);
+    for (u32 x = 0; x < s->n; x++, e += 16) {
+        u32 early = word(e), late = word(e + 4), service = word(e + 8), set = word(e + 12);
+        bad |= (late > 1000000) | (early > late) | (service > 1000000) | (set - 1 > 254);
         s->earliest[x] = (i32)early;
         s->last[x] = (i32)(late - service);
         s->service[x] = (i32)service;
+        s->admits[x] = (u8)set;
     }
     return bad ? 3 : 0;
 }
@@ -159,5 +167,6 @@ static u64 read_sheet(const u8 *bytes, u64 length, Sheet *s)
     if ((no = entries(&r, 0, MOST_STEPS, 3, &s->steps, &s->step_count))) return no;
     if (r.at != r.words) return 1;
     if (twice) return 4;
-    return s->heaviest > s->largest ? 6 : 0;
+    if (s->heaviest > s->largest) return 6;
+    return s->classes & ~(s->admits[0] & s->admits[s->n - 1]) ? 7 : 0;
 }

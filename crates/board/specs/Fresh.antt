@@ -1,5 +1,5 @@
 -- The fresh state, and the state that stands beside a refusal.
-use mathlib.Core.Bool.{cond, _&&_}
+use mathlib.Core.Bool.{Bool, cond, _&&_}
 use mathlib.Core.List.{List}
 use Prim.Native.Nat.{ℕ, _-_}
 use lib.ListN.{replicate, set}
@@ -18,14 +18,14 @@ noState = stateOf (replicate 64 0) 0 (replicate 64 0) 0 0 (replicate 64 0) 0 0
 unfoldable pub noFigures : Figures
 noFigures = record { stops = 0; marks = 0; must = 0; depth = 0; records = 0 }
 
--- every node but the ends is open in leg 0
-unfoldable pub freshSet : ℕ → ℕ → ℕ
-freshSet n y = cond (isInner n y) 1 0
+-- every node but the ends is open in leg 0, if the van may serve it: "a node whose set lacks the van's bit has no open place in the fresh state"
+unfoldable pub freshSet : ℕ → (ℕ → Bool) → ℕ → ℕ
+freshSet n may y = cond (isInner n y && may y) 1 0
 
 -- the sets of the fresh state
-unfoldable pub freshSets : ℕ → List ℕ
-freshSets n = tab 64 (freshSet n)
+unfoldable pub freshSets : ℕ → (ℕ → Bool) → List ℕ
+freshSets n may = tab 64 (freshSet n may)
 
--- route 0, n - 1; every other node open in leg 0; no marks, levels or records. None where n is no number of nodes
-unfoldable pub freshState : ℕ → State
-freshState n = cond (leb 2 n && leb n 64) (stateOf (set (replicate 64 0) 1 (n - 1)) 2 (freshSets n) 0 0 (replicate 64 0) 0 0) noState
+-- route 0, n - 1; every other node that the van may serve open in leg 0; no marks, levels or records. None where n is no number of nodes
+unfoldable pub freshState : ℕ → (ℕ → Bool) → State
+freshState n may = cond (leb 2 n && leb n 64) (stateOf (set (replicate 64 0) 1 (n - 1)) 2 (freshSets n may) 0 0 (replicate 64 0) 0 0) noState

@@ -6,8 +6,11 @@ pub mod places;
 pub mod route;
 
 ghost use mathlib.Core.Path.{_≡_};
-ghost use Prim.Native.Nat.{_<_};
-ghost use Rattle.board.specs.Fresh.{noState, noFigures, freshState, freshSet, freshSets};
+ghost use mathlib.Core.Bool.{cond};
+ghost use Prim.Native.Nat.{_≤_};
+ghost use lib.ListN.{length, getD};
+ghost use Rattle.rules.specs.Class.{admits};
+ghost use Rattle.board.specs.Fresh.{noState, noFigures, freshState, freshSets};
 use rules::Node;
 
 // The route, each unplaced node's set of open places, the marks of required nodes, those of wards that must go somewhere, and for each level the
@@ -52,9 +55,10 @@ impl State {
         }
     }
 
-    // Route 0, n - 1; every other node open in leg 0. None where n is no number of nodes.
-    pub fn fresh(n: usize) -> State
-        ensures { λ r. ⌜ r ≡ freshState n ⌝ }
+    // Route 0, n - 1; every other node whose class set has the van's bit is open in leg 0. None where n is no number of nodes.
+    pub fn fresh(n: usize, classes: &[u32; Node::MOST], bit: u32) -> State
+        requires { ⌜ length (now classes) ≡ 64 ⌝ }
+        ensures { λ r. ⌜ r ≡ freshState n (λ y. admits (getD (now (classes .entry)) y 0) bit) ⌝ }
     {
         if n < 2 {
             return State::none();
@@ -64,7 +68,7 @@ impl State {
         }
         let mut route = [0usize; Node::MOST];
         route[1] = n - 1;
-        let sets = fresh_sets(n);
+        let sets = fresh_sets(n, classes, bit);
         State {
             route: route,
             stops: 2,
@@ -96,20 +100,22 @@ impl Figures {
     }
 }
 
-fn fresh_set(n: usize, y: usize) -> u64
-    requires { ⌜ y < 64 ⌝ }
-    ensures { λ r. ⌜ r ≡ freshSet n y ⌝ }
+// Leg 0 for a node that admits the van, no leg for another.
+fn fresh_set(class: u32, bit: u32) -> u64
+    ensures { λ r. ⌜ r ≡ cond (admits class bit) 1 0 ⌝ }
 {
-    if form::inner(n, y) { 1 } else { 0 }
+    if Node::admits(class, bit) { 1 } else { 0 }
 }
 
-fn fresh_sets(n: usize) -> [u64; Node::MOST]
-    ensures { λ r. ⌜ r ≡ freshSets n ⌝ }
+fn fresh_sets(n: usize, classes: &[u32; Node::MOST], bit: u32) -> [u64; Node::MOST]
+    requires { ⌜ (2 ≤ n) × (n ≤ 64) × (length (now classes) ≡ 64) ⌝ }
+    ensures { λ r. ⌜ r ≡ freshSets n (λ y. admits (getD (now (classes .entry)) y 0) bit) ⌝ }
 {
     let mut sets = [0u64; Node::MOST];
-    let mut y = 0;
-    while y < Node::MOST {
-        sets[y] = fresh_set(n, y);
+    let end = n - 1;
+    let mut y = 1;
+    while y < end {
+        sets[y] = fresh_set(classes[y], bit);
         y += 1;
     }
     sets

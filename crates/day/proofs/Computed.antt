@@ -1,15 +1,17 @@
 -- The sheet of document 01 is accepted, each refusal is met by one altered number, and what comes first is refused first.
 use Prim.Native.Nat.{ℕ}
 use mathlib.Core.Path.{_≡_, refl}
+use mathlib.Core.Bool.{true, false}
 use mathlib.Core.List.{List, [], _∷_}
-use Rattle.laws.specs.Basic.{allBelow, orElse, peak}
+use Rattle.laws.specs.Basic.{allBelow, anyBelow, orElse, peak}
 use Rattle.sheet.specs.Word.{wordAt}
 use Rattle.sheet.specs.Section.{headRefusal, limitsRefusal, nodesRefusal, jobsRefusal, tableRefusal, stepsRefusal, laterRefusal, readRefusal}
+use Rattle.rules.specs.Class.{oneBit, admits}
 use Rattle.rules.specs.Day.{isInner, shortestLine, shortestRow, triangle}
 use Rattle.rules.specs.declared.Job.the-variants.{Transfer}
-use Rattle.day.specs.Refuse.{callRefusal, openRefusal, clash, apart, canRide}
+use Rattle.day.specs.Refuse.{callRefusal, openRefusal, clash, apart, canRide, endsAdmit}
 use Rattle.day.specs.Section.{spanOf, sectionOf}
-use Rattle.day.specs.Tell.{vanOf, dayOf, cell, jobAt, jobIn}
+use Rattle.day.specs.Tell.{vanOf, bitOf, classOf, admitted, dayOf, cell, jobAt, jobIn}
 use Rattle.day.specs.Example.{_▸_, nodesWith, paperJobs, tableWith, stepsWith, sheetOf, sheetWith}
 
 abbrev paper : List ℕ
@@ -25,7 +27,15 @@ altered capacity back steps = sheetOf capacity 60 25 100 (paperJobs (tableWith b
 
 -- the paper's sheet with two vans, of these capacities
 abbrev twoVans : ℕ → ℕ → List ℕ
-twoVans first second = 4 ▸ first ▸ 60 ▸ second ▸ 50 ▸ nodesWith 25 100 (paperJobs (tableWith 30 (tableWith 30 (stepsWith 8))))
+twoVans first second = 6 ▸ first ▸ 60 ▸ 1 ▸ second ▸ 50 ▸ 1 ▸ nodesWith 25 100 (paperJobs (tableWith 30 (tableWith 30 (stepsWith 8))))
+
+-- the paper's sheet with two vans of these bits, and these class sets at the start, the first ward and the end; the capacity of both, and the seconds from
+-- node 3 to node 0
+abbrev classed : ℕ → ℕ → ℕ → ℕ → ℕ → ℕ → ℕ → List ℕ
+classed bit0 bit1 start ward end capacity back =
+    6 ▸ capacity ▸ 60 ▸ bit0 ▸ capacity ▸ 50 ▸ bit1
+    ▸ 4 ▸ 0 ▸ 0 ▸ 0 ▸ start ▸ 0 ▸ 100 ▸ 5 ▸ ward ▸ 0 ▸ 25 ▸ 5 ▸ 1 ▸ 0 ▸ 100 ▸ 0 ▸ end
+    ▸ paperJobs (tableWith back (tableWith 30 (stepsWith 8)))
 
 record Computed : Type 0 where
   pub accepted : openRefusal paper ≡ 0
@@ -38,16 +48,16 @@ record Computed : Type 0 where
   pub roundabout : openRefusal (altered 2 31 8) ≡ 5
   -- the length before all else; a count's range before shortness, shortness before values, values before the next section; 4 before 5
   pub empty : openRefusal [] ≡ 1
-  pub odd : openRefusal (3 ▸ 0 ∷ []) ≡ 1
-  pub count-first : openRefusal (3 ▸ []) ≡ 2
-  pub short-next : openRefusal (2 ▸ 9999 ▸ []) ≡ 1
-  pub then-values : openRefusal (2 ▸ 9999 ▸ 0 ▸ []) ≡ 3
+  pub odd : openRefusal (2 ▸ 0 ∷ []) ≡ 1
+  pub count-first : openRefusal (2 ▸ []) ≡ 2
+  pub short-next : openRefusal (3 ▸ 9999 ▸ 0 ▸ []) ≡ 1
+  pub then-values : openRefusal (3 ▸ 9999 ▸ 0 ▸ 1 ▸ []) ≡ 3
   pub both : openRefusal (cleanAgain 2 1 31) ≡ 4
-  -- "twice the number of vans, 2 to 16, pair by pair"
+  -- three words a van, 3 to 24; 01's own count is 2
   pub no-van : openRefusal (0 ▸ []) ≡ 2
   pub half-a-van : openRefusal (5 ▸ []) ≡ 2
-  pub eight-vans : openRefusal (16 ▸ []) ≡ 1
-  pub nine-vans : openRefusal (18 ▸ []) ≡ 2
+  pub eight-vans : openRefusal (24 ▸ []) ≡ 1
+  pub nine-vans : openRefusal (27 ▸ []) ≡ 2
   pub two-vans : openRefusal (twoVans 2 1) ≡ 0
   pub large-second : openRefusal (twoVans 2 1001) ≡ 3
   -- load 2 above capacity 1: after 4, before 5, and the largest capacity counts, wherever it stands; just 2 is not above
@@ -57,21 +67,43 @@ record Computed : Type 0 where
   pub heavy-for-both : openRefusal (twoVans 1 1) ≡ 6
   pub second-carries : openRefusal (twoVans 1 2) ≡ 0
   pub heavy-call : callRefusal (altered 1 30 8) ≡ 6
+  -- "a bad set or bit is 3": a set is 1 to 255, a bit one of eight
+  pub no-class : openRefusal (classed 1 1 1 0 1 2 30) ≡ 3
+  pub any-class : openRefusal (classed 1 1 1 255 1 2 30) ≡ 0
+  pub ninth-class : openRefusal (classed 1 1 1 256 1 2 30) ≡ 3
+  pub no-bit : openRefusal (classed 1 0 1 1 1 2 30) ≡ 3
+  pub two-bits : openRefusal (classed 1 3 255 1 255 2 30) ≡ 3
+  pub eighth-bit : openRefusal (classed 1 128 129 1 255 2 30) ≡ 0
+  pub ninth-bit : openRefusal (classed 1 256 255 1 255 2 30) ≡ 3
+  -- "a start or end that does not admit a van is 7": either of them, any van; after 6, before 5; a ward may lack what it likes
+  pub start-shut : openRefusal (classed 1 2 1 1 3 2 30) ≡ 7
+  pub end-shut : openRefusal (classed 1 2 3 1 1 2 30) ≡ 7
+  pub first-shut : openRefusal (classed 2 1 3 1 1 2 30) ≡ 7
+  pub ward-shut : openRefusal (classed 1 2 3 4 3 2 30) ≡ 0
+  pub shut-heavy : openRefusal (classed 1 2 1 1 1 1 30) ≡ 6
+  pub shut-roundabout : openRefusal (classed 1 2 1 1 1 2 31) ≡ 7
+  pub shut-call : callRefusal (classed 1 2 1 1 1 2 30) ≡ 7
   -- what the sheet says
   pub van : vanOf paper 0 ≡ record { capacity = 2; limit = 60 }
   pub second-van : vanOf (twoVans 2 1) 1 ≡ record { capacity = 1; limit = 50 }
   pub job : jobIn paper 0 ≡ Transfer 1 2 2
   pub latest : dayOf paper .latest 2 ≡ 25
   pub seconds : dayOf paper .seconds 3 1 ≡ 20
-  pub section1 : sectionOf (twoVans 2 1) 1 ≡ 2 ▸ 60 ▸ 1 ▸ 50 ▸ []
+  pub bit : bitOf (classed 1 2 3 4 3 2 30) 1 ≡ 2
+  pub class : classOf (classed 1 2 3 4 3 2 30) 1 ≡ 4
+  pub admitted-first : admitted (classed 1 2 3 6 3 2 30) 0 1 ≡ false
+  pub admitted-second : admitted (classed 1 2 3 6 3 2 30) 1 1 ≡ true
+  pub section1 : sectionOf (twoVans 2 1) 1 ≡ 2 ▸ 60 ▸ 1 ▸ 1 ▸ 50 ▸ 1 ▸ []
+  pub section2 : sectionOf paper 2 ≡ 0 ▸ 0 ▸ 0 ▸ 1 ▸ 0 ▸ 100 ▸ 5 ▸ 1 ▸ 0 ▸ 25 ▸ 5 ▸ 1 ▸ 0 ▸ 100 ▸ 0 ▸ 1 ▸ []
   pub section3 : sectionOf paper 3 ≡ 3 ▸ 1 ▸ 2 ▸ 2 ▸ []
   pub section7 : sectionOf paper 7 ≡ []
   pub refused3 : sectionOf (sheetWith 1001 60 25 100) 3 ≡ []
   pub refused6 : sectionOf (altered 1 30 8) 3 ≡ []
+  pub refused7 : sectionOf (classed 1 2 1 1 1 2 30) 3 ≡ []
   pub refused5 : sectionOf (altered 2 31 8) 3 ≡ 3 ▸ 1 ▸ 2 ▸ 2 ▸ []
 
 computed : Computed
-unfolding wordAt allBelow orElse peak headRefusal limitsRefusal nodesRefusal jobsRefusal tableRefusal stepsRefusal laterRefusal readRefusal isInner jobAt clash apart canRide cell shortestLine shortestRow triangle callRefusal openRefusal spanOf sectionOf
+unfolding wordAt allBelow anyBelow orElse peak oneBit admits endsAdmit headRefusal limitsRefusal nodesRefusal jobsRefusal tableRefusal stepsRefusal laterRefusal readRefusal isInner jobAt clash apart canRide cell shortestLine shortestRow triangle callRefusal openRefusal spanOf sectionOf
 computed = record {
   accepted = refl;
   left-over = refl;
@@ -99,15 +131,35 @@ computed = record {
   heavy-for-both = refl;
   second-carries = refl;
   heavy-call = refl;
+  no-class = refl;
+  any-class = refl;
+  ninth-class = refl;
+  no-bit = refl;
+  two-bits = refl;
+  eighth-bit = refl;
+  ninth-bit = refl;
+  start-shut = refl;
+  end-shut = refl;
+  first-shut = refl;
+  ward-shut = refl;
+  shut-heavy = refl;
+  shut-roundabout = refl;
+  shut-call = refl;
   van = refl;
   second-van = refl;
   job = refl;
   latest = refl;
   seconds = refl;
+  bit = refl;
+  class = refl;
+  admitted-first = refl;
+  admitted-second = refl;
   section1 = refl;
+  section2 = refl;
   section3 = refl;
   section7 = refl;
   refused3 = refl;
   refused6 = refl;
+  refused7 = refl;
   refused5 = refl;
 }

@@ -15,11 +15,12 @@ use Rattle.sheet.specs.Word.{wordAt, limitsAtOk, nodeAtOk, entryOk}
 use Rattle.sheet.specs.Section.{vansAt, vansOf, nOf, mOf, nodesAt}
 use Rattle.sheet.specs.Place.{Fine, Laid}
 use Rattle.sheet.specs.declared.Layout.{Layout}
+use Rattle.rules.specs.Class.{oneBit, classSet}
 use Rattle.rules.specs.Day.{Day}
 use Rattle.rules.specs.declared.Van.{Van}
 use Rattle.day.specs.Row.{Table}
 use Rattle.day.proofs.RowLaws.{row-low, entry-low}
-use Rattle.day.specs.Tell.{vanOf, nodeAt, dayOf, Told, cell, jobIn}
+use Rattle.day.specs.Tell.{vanOf, bitOf, nodeAt, classOf, dayOf, Told, cell, jobIn}
 
 pub record Limits (v : Van) : Type 0 where
   pub capacity : v .capacity ≤ 1000
@@ -39,10 +40,11 @@ module _ (s : List ℕ) (f : Fine s) where
   pub van-limits : (i : ℕ) → i < vansOf s → Limits (vanOf s i)
   van-limits i h =
       let v = vanOf s i in
-      let l = and-true (leb (v .capacity) 1000) (leb (v .limit) 1000000) (below-at (vansOf s) i (limitsAtOk s (vansAt + 1)) (f .limits) h) in
+      let o = below-at (vansOf s) i (limitsAtOk s (vansAt + 1)) (f .limits) h in
+      let l = and-true (leb (v .capacity) 1000) (leb (v .limit) 1000000) (and-true _ (oneBit (bitOf s i)) o .0) in
       record { capacity = leb-true _ _ (l .0); limit = leb-true _ _ (l .1) }
 
-  -- the three words of a node
+  -- what the rules read of a node
   record NodeFine (x : ℕ) : Type 0 where
     pub earliest : wordAt s (nodeAt s x) ≤ wordAt s (nodeAt s x + 1)
     pub latest : wordAt s (nodeAt s x + 1) ≤ 1000000
@@ -51,7 +53,8 @@ module _ (s : List ℕ) (f : Fine s) where
   node-fine : (x : ℕ) → x < nOf s → NodeFine x
   node-fine x h =
       let p = nodeAt s x in
-      let e = and-true (leb (wordAt s p) (wordAt s (p + 1)) && leb (wordAt s (p + 1)) 1000000) (leb (wordAt s (p + 2)) 1000000) (below-at (nOf s) x (nodeAtOk s (nodesAt s + 1)) (f .nodes) h) in
+      let o = and-true _ (classSet (classOf s x)) (below-at (nOf s) x (nodeAtOk s (nodesAt s + 1)) (f .nodes) h) in
+      let e = and-true (leb (wordAt s p) (wordAt s (p + 1)) && leb (wordAt s (p + 1)) 1000000) (leb (wordAt s (p + 2)) 1000000) (o .0) in
       let d = and-true (leb (wordAt s p) (wordAt s (p + 1))) (leb (wordAt s (p + 1)) 1000000) (e .0) in
       record { earliest = leb-true _ _ (d .0); latest = leb-true _ _ (d .1); service = leb-true _ _ (e .1) }
 

@@ -1,5 +1,5 @@
--- What a call on a sheet and its opening check: "then leftovers, 4, 5", and 6 "after 4 and before 5".
-use Prim.Native.Nat.{ℕ}
+-- What a call on a sheet and its opening check: "then leftovers, 4, 5", with 6 "after 4 and before 5", and 7 "checked with 6, after it".
+use Prim.Native.Nat.{ℕ, _-_}
 use mathlib.Core.Bool.{_&&_, Bool, false, not, _||_}
 use mathlib.Core.List.{List}
 use lib.Dec.{leb, eqb}
@@ -9,8 +9,8 @@ use Rattle.rules.specs.Day.{triangle}
 use Rattle.rules.specs.Load.{loadOf}
 use Rattle.rules.specs.declared.Job.{Job}
 use Rattle.rules.specs.declared.Job.the-variants.{Clean, Soiled, Transfer}
-use Rattle.sheet.specs.Section.{readRefusal, nOf, mOf}
-use Rattle.day.specs.Tell.{secondsOf, metresOf, jobIn, largestOf}
+use Rattle.sheet.specs.Section.{readRefusal, vansOf, nOf, mOf}
+use Rattle.day.specs.Tell.{secondsOf, metresOf, jobIn, largestOf, admitted}
 
 -- a clean job at x
 abbrev pub cleanAt : ℕ → Job → Bool
@@ -42,12 +42,18 @@ apart g m = allBelow m (apartAt g)
 unfoldable pub canRide : (ℕ → Job) → ℕ → ℕ → Bool
 canRide g m capacity = allBelow m (λ i. leb (loadOf (g i)) capacity)
 
--- what every call on a sheet checks, or 0: the sections, "a node with two jobs of one kind, or two transfer ends", a load that can never ride
+-- the start and the end admit every van of the sheet
+unfoldable pub endsAdmit : List ℕ → Bool
+endsAdmit s = allBelow (vansOf s) (λ i. admitted s i 0 && admitted s i (nOf s - 1))
+
+-- what every call on a sheet checks, or 0: the sections, "a node with two jobs of one kind, or two transfer ends", a load that can never ride, "a start or
+-- end that does not admit a van"
 unfoldable pub callRefusal : List ℕ → ℕ
 callRefusal s =
     orElse (readRefusal s)
     (orElse (unless (apart (jobIn s) (mOf s)) refusal.TWICE)
-    (unless (canRide (jobIn s) (mOf s) (largestOf s)) refusal.HEAVY))
+    (orElse (unless (canRide (jobIn s) (mOf s) (largestOf s)) refusal.HEAVY)
+    (unless (endsAdmit s) refusal.CLASS)))
 
 -- what opening checks, or 0: the same, then "for some three different i, j, k: seconds or metres (i, k) above (i, j) + (j, k)"
 unfoldable pub openRefusal : List ℕ → ℕ

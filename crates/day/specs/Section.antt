@@ -22,7 +22,7 @@ spanOf s k =
     (cond (eqb k 5) (metresAt s + 1, nOf s * nOf s)
     (cond (eqb k 6) (stepsAt s + 1, size.step * kOf s) (0, 0))))))
 
--- "For a sheet refused by 1 to 4, or a section number not in 1 to 6, the stretch is empty.", now by 6 too: by what every call checks
+-- "For a sheet refused by 1 to 4, or a section number not in 1 to 6, the stretch is empty.", now by 6 and 7 too: by what every call checks
 unfoldable pub sectionOf : List ℕ → ℕ → List ℕ
 sectionOf s k = cond (eqb (callRefusal s) 0) (take (4 * spanOf s k .1) (drop (4 * spanOf s k .0) s)) []
 

@@ -9,6 +9,7 @@ use Rattle.sheet.specs.Word.{size, wordAt}
 use Rattle.sheet.specs.Section.{vansOf, nOf, mOf, vansAt, nodesAt, stepsAt, secondsAt, metresAt, jobsAt}
 use Rattle.rules.specs.Numbers.{stepSaid}
 use Rattle.rules.specs.Day.{Day, isInner}
+use Rattle.rules.specs.Class.{admits}
 use Rattle.rules.specs.declared.Van.{Van}
 use Rattle.rules.specs.declared.Step.{Step}
 use Rattle.rules.specs.declared.Job.{Job}
@@ -63,7 +64,7 @@ metresOf s = cell s (metresAt s + 1) (nOf s)
 abbrev pub vanAt : ℕ → ℕ
 vanAt i = vansAt + 1 + size.van * i
 
--- the i-th van: "capacity, metre limit", "pair by pair"
+-- the i-th van: "capacity, metre limit"
 abbrev pub vanOf : List ℕ → ℕ → Van
 vanOf s i = record { capacity = wordAt s (vanAt i); limit = wordAt s (vanAt i + 1) }
 
@@ -71,9 +72,21 @@ vanOf s i = record { capacity = wordAt s (vanAt i); limit = wordAt s (vanAt i + 
 abbrev pub largestOf : List ℕ → ℕ
 largestOf s = peak (λ i. vanOf s i .capacity) (vansOf s)
 
+-- "each van a third number": the i-th van's bit
+abbrev pub bitOf : List ℕ → ℕ → ℕ
+bitOf s i = wordAt s (vanAt i + 2)
+
 -- the first word of the x-th node
 abbrev pub nodeAt : List ℕ → ℕ → ℕ
 nodeAt s x = nodesAt s + 1 + size.node * x
+
+-- "each node gets a fourth word": the x-th node's class set
+abbrev pub classOf : List ℕ → ℕ → ℕ
+classOf s x = wordAt s (nodeAt s x + 3)
+
+-- node x admits the i-th van
+abbrev pub admitted : List ℕ → ℕ → ℕ → Bool
+admitted s i x = admits (classOf s x) (bitOf s i)
 
 -- "nodes: each: earliest, latest, service"; the jobs; the tables
 abbrev pub dayOf : List ℕ → Day

@@ -1,4 +1,5 @@
 // What a sheet says: its jobs, its tables, what a call and what opening checks, its sections, and every number of it.
+pub mod classes;
 pub mod jobs;
 pub mod look;
 pub mod tables;
@@ -26,7 +27,12 @@ pub fn checked(s: &[u8]) -> Found
         return apart;
     }
     let most = look::largest(s, apart.layout);
-    apart.judged(jobs.heaviest <= most, Refusal::HEAVY)
+    let light = apart.judged(jobs.heaviest <= most, Refusal::HEAVY);
+    if light.answer != 0 {
+        return light;
+    }
+    let ends = classes::ends_admit(s, light.layout);
+    light.judged(ends, Refusal::CLASS)
 }
 
 // What opening checks.

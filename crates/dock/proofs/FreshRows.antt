@@ -15,18 +15,18 @@ use Rattle.board.specs.Fresh.{noState, freshState}
 use Rattle.fleet.specs.Fleet.{freshFleet}
 use Rattle.fleet.specs.Rows.{figuresIn, rowState, fleetWith, RowsOf, Blank}
 use Rattle.fleet.proofs.FleetLaws.{fleetMade}
-use Rattle.fleet.proofs.RowLaws.{ltb-more, tab-same}
+use Rattle.laws.proofs.Turned.{ltb-more, tab-same}
 use Rattle.turns.specs.Known.{EightRows}
 
 -- the first j rows have a fresh van, the others nothing but zeros
-pub record Freshly (n j : ℕ) (routes sets levels figures : List (List ℕ)) : Type 0 where
+pub record Freshly (n : ℕ) (may : ℕ → ℕ → Bool) (j : ℕ) (routes sets levels figures : List (List ℕ)) : Type 0 where
   pub rows : EightRows routes sets levels figures
-  pub at : (k : ℕ) → k < mostVans → rowState routes sets levels figures k ≡ cond (ltb k j) (freshState n) noState
+  pub at : (k : ℕ) → k < mostVans → rowState routes sets levels figures k ≡ cond (ltb k j) (freshState n (may k)) noState
 
-pub freshly-none : (n : ℕ) {routes sets levels figures : List (List ℕ)} → Blank routes → Blank sets → Blank levels → figures ≡ replicate mostVans (replicate 5 0)
-    → Freshly n 0 routes sets levels figures
+pub freshly-none : (n : ℕ) (may : ℕ → ℕ → Bool) {routes sets levels figures : List (List ℕ)} → Blank routes → Blank sets → Blank levels → figures ≡ replicate mostVans (replicate 5 0)
+    → Freshly n may 0 routes sets levels figures
 unfolding noState
-freshly-none n a b c d =
+freshly-none n may a b c d =
     let blank : List ℕ = replicate 64 0 in
     let none : List ℕ = replicate 5 0 in
     rw (a, b, c, d)
@@ -51,16 +51,16 @@ rows-set rows j row p e = record {
 }
 
 -- one van more
-pub freshly-more : {n j : ℕ} {routes sets levels figures : List (List ℕ)} {route places heights : List ℕ} (row : List ℕ) → Freshly n j routes sets levels figures → j < mostVans
-    → stateWith route places heights (figuresIn row) ≡ freshState n → length row ≡ 5
-    → Freshly n (j + 1) (set routes j route) (set sets j places) (set levels j heights) (set figures j row)
-freshly-more {n} {j} {routes} {sets} {levels} {figures} {route} {places} {heights} row p l s e =
+pub freshly-more : {n : ℕ} {may : ℕ → ℕ → Bool} {j : ℕ} {routes sets levels figures : List (List ℕ)} {route places heights : List ℕ} (row : List ℕ) → Freshly n may j routes sets levels figures → j < mostVans
+    → stateWith route places heights (figuresIn row) ≡ freshState n (may j) → length row ≡ 5
+    → Freshly n may (j + 1) (set routes j route) (set sets j places) (set levels j heights) (set figures j row)
+freshly-more {n} {may} {j} {routes} {sets} {levels} {figures} {route} {places} {heights} row p l s e =
     record {
       rows = (length-set routes j route ∙ p .rows .0, length-set sets j places ∙ p .rows .1, length-set levels j heights ∙ p .rows .2, rows-set figures j row (p .rows .3) e);
       at = λ k h. decided (eqb k j) (λ y. rw (eqb-true k j y) own) (λ y. other k h (eqb-false k j y));
     }
   where
-    own : rowState (set routes j route) (set sets j places) (set levels j heights) (set figures j row) j ≡ cond (ltb j (j + 1)) (freshState n) noState
+    own : rowState (set routes j route) (set sets j places) (set levels j heights) (set figures j row) j ≡ cond (ltb j (j + 1)) (freshState n (may j)) noState
     own =
         rw (
           lt-ltb j (j + 1) (omega arith),
@@ -71,12 +71,12 @@ freshly-more {n} {j} {routes} {sets} {levels} {figures} {route} {places} {height
         )
         s
 
-    other : (k : ℕ) → k < mostVans → (k ≡ j → ⊥) → rowState (set routes j route) (set sets j places) (set levels j heights) (set figures j row) k ≡ cond (ltb k (j + 1)) (freshState n) noState
+    other : (k : ℕ) → k < mostVans → (k ≡ j → ⊥) → rowState (set routes j route) (set sets j places) (set levels j heights) (set figures j row) k ≡ cond (ltb k (j + 1)) (freshState n (may k)) noState
     other k h d =
         rw (getD-set-other routes j k route [] d, getD-set-other sets j k places [] d, getD-set-other levels j k heights [] d, getD-set-other figures j k row [] d) (p .at k h)
-        ∙ ap (λ (b : Bool). cond b (freshState n) noState) (ltb-more k j d)
+        ∙ ap (λ (b : Bool). cond b (freshState n (may k)) noState) (ltb-more k j d)
 
 -- all of them
-pub freshly-all : {n v : ℕ} {routes sets levels figures : List (List ℕ)} → Freshly n v routes sets levels figures → fleetWith routes sets levels figures ≡ freshFleet n v
+pub freshly-all : {n : ℕ} {may : ℕ → ℕ → Bool} {v : ℕ} {routes sets levels figures : List (List ℕ)} → Freshly n may v routes sets levels figures → fleetWith routes sets levels figures ≡ freshFleet n v may
 unfolding freshFleet
 freshly-all p = ap fleetMade (tab-same mostVans _ _ (p .at))

@@ -21,7 +21,7 @@ use Rattle.sheet.specs.Place.{Laid}
 use Rattle.sheet.specs.declared.Layout.{Layout}
 use Rattle.day.specs.Refuse.{callRefusal}
 use Rattle.day.proofs.RefuseLaws.{call-fine}
-use Rattle.day.specs.Tell.{dayOf, vanOf}
+use Rattle.day.specs.Tell.{dayOf, vanOf, admitted}
 use Rattle.board.specs.Board.{Board, boardOf, placesOf, setOf}
 use Rattle.board.specs.Held.{Held, Words, Sound}
 use Rattle.board.specs.declared.State.{State}
@@ -88,7 +88,7 @@ module _ {sheet : List ℕ} {f : Fleet} {t : List ℕ} (z : callRefusal sheet �
   few-records j l =
       let n = nOf sheet in
       let fine = call-fine sheet z in
-      let r = records-bound n (fine .n-low) (fine .n-high) (trailIn (vansOf sheet) (p .first) j) (stateIn f j) (trailIn (vansOf sheet) t j) (van-runs sheet (p .first) z (p .steps) j l) in
+      let r = records-bound n (admitted sheet j) (fine .n-low) (fine .n-high) (trailIn (vansOf sheet) (p .first) j) (stateIn f j) (trailIn (vansOf sheet) t j) (van-runs sheet (p .first) z (p .steps) j l) in
       let a : n + 1 ≤ 65 = omega (arith, fine .n-high) in
       let b : n - 2 ≤ 62 = omega (arith, fine .n-high) in
       omega (arith, r, mul-le-mul a b)

@@ -18,7 +18,7 @@ use Rattle.stands.specs.Stands.{planOf}
 use Rattle.van.specs.Act.{planIn}
 use Rattle.fleet.specs.Rows.{figuresIn, rowState, rowBoard, fleetWith, RowsOf}
 use Rattle.fleet.proofs.FleetLaws.{state-of}
-use Rattle.fleet.proofs.RowLaws.{Turned, ltb-more}
+use Rattle.laws.proofs.Turned.{Turned, ltb-more}
 use Rattle.dock.specs.Listing.{toldIn, ToldAll}
 
 -- a row of three, each entry written

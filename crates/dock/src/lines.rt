@@ -11,7 +11,6 @@ ghost use Rattle.day.specs.Tell.{jobIn, stepWord};
 ghost use Rattle.along.specs.Nodes.{ByNode};
 ghost use Rattle.listing.specs.Put.{Put};
 ghost use Rattle.listing.specs.Text.{stepLine};
-ghost use Rattle.fleet.specs.Fleet.{freshFleet};
 ghost use Rattle.fleet.specs.Rows.{figuresIn, fleetWith, Rows, Figured, Blank};
 ghost use Rattle.turns.specs.Together.{ranAll};
 ghost use Rattle.planner.specs.Face.{freshOf, stepOf};
@@ -25,7 +24,9 @@ use along::nodes::Jobs;
 use along::nodes::by_node;
 use board::Figures;
 use board::State;
+use day::classes::read_classes;
 use fleet::Fleet;
+use fleet::fresh_van;
 use fleet::rows::figures_in;
 use fleet::rows::unpack;
 use fleet::sums::served;
@@ -149,21 +150,24 @@ fn put_routes<'a>(
 
 // The fresh fleet, put into rows that hold nothing but zeros.
 fn fresh_rows(
-    n: usize,
-    v: usize,
+    sheet: &[u8],
+    at: Layout,
     routes: &mut [[usize; Node::MOST]; Fleet::VANS],
     sets: &mut [[u64; Node::MOST]; Fleet::VANS],
     levels: &mut [[usize; State::LEVELS]; Fleet::VANS],
     figures: &mut [[u64; Figures::COUNT]; Fleet::VANS],
 )
-    requires { ⌜ (v ≤ mostVans) × (2 ≤ n) × (n ≤ 64) × Blank (now routes) × Blank (now sets) × Blank (now levels)
+    requires { ⌜ (callRefusal (now sheet) ≡ 0) × Laid (now sheet) at × Blank (now routes) × Blank (now sets) × Blank (now levels)
         × (now figures ≡ replicate mostVans (replicate 5 0)) ⌝ }
-    ensures { λ _. ⌜ fleetWith (now (routes .exit)) (now (sets .exit)) (now (levels .exit)) (now (figures .exit)) ≡ freshFleet n v ⌝ }
+    ensures { λ _. ⌜ fleetWith (now (routes .exit)) (now (sets .exit)) (now (levels .exit)) (now (figures .exit)) ≡ freshOf (now (sheet .entry)) ⌝ }
     ensures { λ _. ⌜ Rows (now (routes .exit)) × Rows (now (sets .exit)) × Rows (now (levels .exit)) × Figured (now (figures .exit)) ⌝ }
 {
-    let one = State::fresh(n);
+    let mut classes = [0u32; Node::MOST];
+    read_classes(sheet, at, &mut classes);
+    let v = at.vans;
     let mut j = 0;
     while j < v {
+        let one = fresh_van(sheet, at, &classes, j);
         unpack(
             one,
             &mut routes[j],
@@ -184,14 +188,7 @@ fn put_all(sheet: &[u8], at: Layout, trail: &mut [u64], out: &mut [u8]) -> usize
     let mut sets = [[0u64; Node::MOST]; Fleet::VANS];
     let mut levels = [[0usize; State::LEVELS]; Fleet::VANS];
     let mut figures = [[0u64; Figures::COUNT]; Fleet::VANS];
-    fresh_rows(
-        at.nodes,
-        at.vans,
-        &mut routes,
-        &mut sets,
-        &mut levels,
-        &mut figures,
-    );
+    fresh_rows(sheet, at, &mut routes, &mut sets, &mut levels, &mut figures);
     let mut jobs = [0usize; Jobs::ROOM];
     by_node(sheet, at, &mut jobs);
     let used = put_lines(

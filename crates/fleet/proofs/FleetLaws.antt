@@ -23,7 +23,7 @@ use Rattle.trail.specs.Trail.{roomOf}
 use Rattle.fleet.specs.Fleet.{fleetOf, stateIn, shareOf, trailIn}
 use Rattle.fleet.specs.Form.{idle}
 use Rattle.fleet.specs.declared.Fleet.{Fleet}
-use Rattle.fleet.proofs.RowLaws.{getD-any}
+use Rattle.laws.proofs.Turned.{getD-any}
 
 -- ---- a fleet by its states
 

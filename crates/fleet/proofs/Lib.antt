@@ -1,8 +1,7 @@
--- FleetLaws: a fleet by its states, the parts of a lent trail, what is no van. RowLaws: a list rewritten place by place.
+-- FleetLaws: a fleet by its states, the parts of a lent trail, what is no van.
 -- FigureLaws: a van's other numbers in a row. TestLaws: the form's tests as the code makes them. FormLaws: the form, fact by fact, and what makes it. WardLaws: what the vans have of the wards.
 -- PlanLaws: a fleet as the rules see it. Told: a fleet by value is held.
 pub mod FleetLaws
-pub mod RowLaws
 pub mod FigureLaws
 pub mod TestLaws
 pub mod FormLaws

@@ -33,7 +33,7 @@ use Rattle.fleet.specs.Sums.{allServed}
 use Rattle.fleet.specs.Wards.{Nodes, HasWards, AddsVan}
 use Rattle.fleet.specs.declared.Fleet.{Fleet}
 use Rattle.fleet.specs.declared.wards.Wards.{Wards}
-use Rattle.fleet.proofs.RowLaws.{ltb-more}
+use Rattle.laws.proofs.Turned.{ltb-more}
 use Rattle.fleet.proofs.TestLaws.{together}
 use Rattle.fleet.proofs.FormLaws.{Apart, ward-none, none-ward, shares-apart, apart-shares}
 

@@ -1,6 +1,6 @@
 -- A fleet as it is held: always eight states; the sheet tells how many are vans. One lent trail, cut into as many equal parts (02, No. 1).
 use mathlib.Core.Path.{_≡_}
-use mathlib.Core.Bool.{cond}
+use mathlib.Core.Bool.{Bool, cond}
 use mathlib.Core.List.{List}
 use Prim.Native.Nat.{ℕ, _/_, _<_}
 use lib.ListN.{length, getD}
@@ -29,9 +29,9 @@ boardIn f j = boardOf (stateIn f j)
 unfoldable pub noFleet : Fleet
 noFleet = fleetOf (λ j. noState)
 
--- v fresh vans on a sheet of n nodes; what is no van has every number 0
-unfoldable pub freshFleet : ℕ → ℕ → Fleet
-freshFleet n v = fleetOf (λ j. cond (ltb j v) (freshState n) noState)
+-- v fresh vans on a sheet of n nodes, of which van j may serve those of `may j`; what is no van has every number 0
+unfoldable pub freshFleet : ℕ → ℕ → (ℕ → ℕ → Bool) → Fleet
+freshFleet n v may = fleetOf (λ j. cond (ltb j v) (freshState n (may j)) noState)
 
 -- how many words of a trail each of v vans has
 unfoldable pub shareOf : ℕ → List ℕ → ℕ

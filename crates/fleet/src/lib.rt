@@ -6,11 +6,18 @@ pub mod sums;
 pub mod wards;
 
 ghost use mathlib.Core.Path.{_≡_};
-ghost use Prim.Native.Nat.{_≤_};
-ghost use Rattle.rules.specs.Numbers.{mostVans};
+ghost use Prim.Native.Nat.{_<_};
+ghost use Rattle.laws.specs.Basic.{Filled};
+ghost use Rattle.sheet.specs.Place.{Laid};
+ghost use Rattle.day.specs.Tell.{classOf, admitted};
+ghost use Rattle.board.specs.Fresh.{freshState};
 ghost use Rattle.fleet.specs.Fleet.{noFleet, freshFleet};
 use board::State;
+use day::classes::bit;
+use day::classes::read_classes;
+use rules::Node;
 use rules::Van;
+use sheet::Layout;
 
 // The states of the vans, the marks "must go somewhere" in that of the first; a state that is no van has every number 0.
 pub struct Fleet {
@@ -30,18 +37,29 @@ impl Fleet {
         }
     }
 
-    // v fresh vans on a sheet of n nodes.
-    pub fn fresh(n: usize, v: usize) -> Fleet
-        requires { ⌜ v ≤ mostVans ⌝ }
-        ensures { λ r. ⌜ r ≡ freshFleet n v ⌝ }
+    // The vans of a sheet, each of them fresh.
+    pub fn fresh(sheet: &[u8], at: Layout) -> Fleet
+        requires { ⌜ Laid (now sheet) at ⌝ }
+        ensures { λ r. ⌜ r ≡ freshFleet (at .nodes) (at .vans) (admitted (now (sheet .entry))) ⌝ }
     {
+        let mut classes = [0u32; Node::MOST];
+        read_classes(sheet, at, &mut classes);
         let mut vans = [State::none(); Fleet::VANS];
-        let one = State::fresh(n);
+        let v = at.vans;
         let mut j = 0;
         while j < v {
-            vans[j] = one;
+            vans[j] = fresh_van(sheet, at, &classes, j);
             j += 1;
         }
         Fleet { vans: vans }
     }
+}
+
+// Van j of a sheet whose class sets were read, fresh.
+pub fn fresh_van(sheet: &[u8], at: Layout, classes: &[u32; Node::MOST], j: usize) -> State
+    requires { ⌜ Laid (now sheet) at × (j < at .vans) × Filled 64 (classOf (now sheet)) 0 (at .nodes) (now classes) ⌝ }
+    ensures { λ r. ⌜ r ≡ freshState (at .nodes) (admitted (now (sheet .entry)) j) ⌝ }
+{
+    let one = bit(sheet, at, j);
+    State::fresh(at.nodes, classes, one)
 }

@@ -4,6 +4,7 @@ use Rattle.planner.specs.Face.{openOf, stepOf, countOf, judgeOf}
 use Rattle.planner.specs.Promises.{Promised}
 use Rattle.planner.proofs.One.{equated, equating, jobs-read}
 use Rattle.planner.proofs.Answers.{unchanged}
+use Rattle.planner.proofs.FreshFleet.{fresh-in-form, fresh-sets}
 use Rattle.planner.proofs.Kept as kept
 use Rattle.planner.proofs.Courses.{steps-back, records-bounded}
 use Rattle.planner.proofs.Never.{never-short}
@@ -18,8 +19,9 @@ promised = record {
   one-verdict = λ sheet f. equated (judgeOf sheet f);
   jobs-read = jobs-read;
   unchanged = unchanged;
-  fresh-in-form = kept.fresh-in-form;
+  fresh-in-form = fresh-in-form;
   form-kept = kept.form-kept;
+  fresh-sets = fresh-sets;
   placing-keeps = kept.placing-keeps;
   closing-keeps = kept.closing-keeps;
   excluding-keeps = kept.excluding-keeps;

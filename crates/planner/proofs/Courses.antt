@@ -7,11 +7,11 @@ use mathlib.Core.Logic.{⊎-elim}
 use native.Mathlib.Omega.{arith}
 use lib.ListN.{length, take}
 use lib.Dec.{ltb}
-use borrow.Author.Tests.{ltb-true, ltb-false, lt-ltb}
+use borrow.Author.Tests.{ltb-true, ltb-false}
 use Rattle.laws.proofs.Logic.{decided}
 use Rattle.sheet.specs.Section.{nOf, vansOf}
 use Rattle.day.specs.Refuse.{callRefusal}
-use Rattle.day.specs.Tell.{dayOf, vanOf}
+use Rattle.day.specs.Tell.{dayOf, vanOf, admitted}
 use Rattle.day.proofs.RefuseLaws.{call-fine}
 use Rattle.rules.specs.Numbers.{kinds, mostVans, vanWeight, stepSaid}
 use Rattle.board.specs.Board.{Board}
@@ -19,7 +19,7 @@ use Rattle.board.specs.Fresh.{freshState}
 use Rattle.board.specs.Held.{Held, Words, InForm, Sound}
 use Rattle.board.specs.declared.State.{State}
 use Rattle.board.proofs.FormLaws as board
-use Rattle.board.proofs.FreshForm.{fresh-is, freshBoard, fresh-wide, fresh-formed, fresh-inform, fresh-held}
+use Rattle.board.proofs.FreshForm.{freshBoard, fresh-wide, fresh-formed, fresh-inform, fresh-held}
 use Rattle.trail.specs.Trail.{roomOf}
 use Rattle.trail.specs.Steps as trail
 use Rattle.trail.specs.Run as run
@@ -27,17 +27,17 @@ use Rattle.trail.proofs.Since.{Since, move-since}
 use Rattle.trail.proofs.StepBack.{here-since, step-back, step-back-below}
 use Rattle.trail.proofs.Spells as spells
 use Rattle.trail.proofs.Bound.{one-more, records-bound, records-bound-plain}
-use Rattle.fleet.specs.Fleet.{stateIn, boardIn, trailIn, freshFleet, HeldAll}
+use Rattle.fleet.specs.Fleet.{stateIn, boardIn, trailIn, HeldAll}
 use Rattle.fleet.specs.Form.{formWithAll}
 use Rattle.fleet.specs.declared.Fleet.{Fleet}
-use Rattle.fleet.proofs.FleetLaws.{state-of}
 use Rattle.planner.specs.Face.{freshOf}
 use Rattle.planner.specs.Promises.{Took, Steps, StepsBack, RecordsBounded, depthOf, inVanWord}
 use Rattle.planner.specs.Promises as promises
 use Rattle.planner.proofs.Answers.{call-made, call-yes, acting, moved, van-called, word-kind, levelling, Goes, van-goes}
 use Rattle.planner.proofs.Depths.{level-depth, Shift, shift, shifted}
 use Rattle.fleet.proofs.FormLaws.{FleetForm, none-ward, apart-shares, in-form-all, form-with-all, form-with-all-make}
-use Rattle.planner.proofs.Kept.{kept, fresh-in-form}
+use Rattle.planner.proofs.FreshFleet.{fresh-state, fresh-van, fresh-in-form}
+use Rattle.planner.proofs.Kept.{kept}
 use Rattle.planner.proofs.Backs.{back-all-makes}
 
 -- the first word of a step by its van and its kind
@@ -234,7 +234,7 @@ steps-back sheet f f₁ f₂ t t₁ t₂ i a b k j c d held e steps last =
 
 abbrev pub freshStart : List ℕ → List ℕ → Start
 freshStart sheet t = record {
-  board = λ j. freshBoard (nOf sheet);
+  board = λ j. freshBoard (nOf sheet) (admitted sheet j);
   records = λ j. 0;
   depth = λ j. 0;
   levels = λ j. [];
@@ -248,27 +248,23 @@ module _ (sheet : List ℕ) (t : List ℕ) (z : callRefusal sheet ≡ 0) where
   narrow : nOf sheet ≤ 64
   narrow = call-fine sheet z .n-high
 
-  pub fresh-van : (j : ℕ) → j < vansOf sheet → stateIn (freshOf sheet) j ≡ freshState (nOf sheet)
-  unfolding freshFleet
-  fresh-van j l = state-of _ j (omega (arith, call-fine sheet z .vans-high)) ∙ rw (lt-ltb j (vansOf sheet) l)
+  fresh-sound : (j : ℕ) → j < vansOf sheet → Sound (nOf sheet) (freshBoard (nOf sheet) (admitted sheet j))
+  fresh-sound j l = record { small = narrow; wide = fresh-wide (nOf sheet) (admitted sheet j) two narrow; form = fresh-formed (nOf sheet) (admitted sheet j) two narrow }
 
-  fresh-sound : (j : ℕ) → j < vansOf sheet → Sound (nOf sheet) (freshBoard (nOf sheet))
-  fresh-sound j l = record { small = narrow; wide = fresh-wide (nOf sheet) two narrow; form = fresh-formed (nOf sheet) two narrow }
-
-  fresh-words : (j : ℕ) → j < vansOf sheet → Words (freshBoard (nOf sheet))
-  fresh-words j l = fresh-held (nOf sheet) two narrow .words
+  fresh-words : (j : ℕ) → j < vansOf sheet → Words (freshBoard (nOf sheet) (admitted sheet j))
+  fresh-words j l = fresh-held (nOf sheet) (admitted sheet j) two narrow .words
 
   fresh-form : formWithAll (nOf sheet) (vansOf sheet) (freshOf sheet) t ≡ true
   fresh-form =
       form-with-all-make (nOf sheet) (vansOf sheet) (freshOf sheet) t (fresh-in-form sheet z .0)
-      (λ j l. let r : stateIn (freshOf sheet) j .records ≡ 0 = ap (λ (s : State). s .records) (fresh-van j l ∙ fresh-is (nOf sheet) two narrow) in omega (arith, r))
+      (λ j l. let r : stateIn (freshOf sheet) j .records ≡ 0 = ap (λ (s : State). s .records) (fresh-van sheet z j l) in omega (arith, r))
 
   fresh-since : SinceAll sheet (freshOf sheet) (freshStart sheet t) (freshOf sheet) t
   fresh-since = record {
-    each = λ j l. rw (fresh-van j l ∙ fresh-is (nOf sheet) two narrow) (record {
+    each = λ j l. rw (fresh-van sheet z j l) (record {
       small = narrow;
-      held = fresh-held (nOf sheet) two narrow;
-      form = fresh-inform (nOf sheet) two narrow;
+      held = fresh-held (nOf sheet) (admitted sheet j) two narrow;
+      form = fresh-inform (nOf sheet) (admitted sheet j) two narrow;
       room = omega arith;
       least = omega arith;
       spelled = spells.none;
@@ -295,9 +291,9 @@ module _ (sheet : List ℕ) (t : List ℕ) (z : callRefusal sheet ≡ 0) where
 
   -- each van's steps, as the trail has them
   pub van-runs : {f : Fleet} {t′ : List ℕ} → Steps sheet 0 (freshOf sheet) t f t′ → (j : ℕ) → j < vansOf sheet
-      → run.Runs (nOf sheet) (freshState (nOf sheet)) (trailIn (vansOf sheet) t j) (stateIn f j) (trailIn (vansOf sheet) t′ j)
+      → run.Runs (nOf sheet) (freshState (nOf sheet) (admitted sheet j)) (trailIn (vansOf sheet) t j) (stateIn f j) (trailIn (vansOf sheet) t′ j)
   van-runs {f} {t′} steps j l =
-      subst (λ (s : State). run.Runs (nOf sheet) s (trailIn (vansOf sheet) t j) (stateIn f j) (trailIn (vansOf sheet) t′ j)) (fresh-van j l)
+      subst (λ (s : State). run.Runs (nOf sheet) s (trailIn (vansOf sheet) t j) (stateIn f j) (trailIn (vansOf sheet) t′ j)) (fresh-state sheet z j l)
       (steps-runs sheet (freshOf sheet) (freshStart sheet t) (fresh-in-form sheet z .1) fresh-sound fresh-words (λ j l. omega arith) fresh-since steps j l)
 
 pub records-bounded : RecordsBounded
@@ -305,6 +301,6 @@ records-bounded sheet f t t′ z steps =
     let n = nOf sheet in
     let fine = call-fine sheet z in
     let some : 0 < vansOf sheet = omega (arith, fine .vans-low) in (
-      omega (arith, one-more n (n - 2), records-bound n (fine .n-low) (fine .n-high) (trailIn (vansOf sheet) t 0) (stateIn f 0) (trailIn (vansOf sheet) t′ 0) (van-runs sheet t z steps 0 some)),
-      λ j l y. records-bound-plain n (fine .n-low) (fine .n-high) (trailIn (vansOf sheet) t j) (stateIn f j) (trailIn (vansOf sheet) t′ j) (van-runs sheet t z steps j l) (reached-facts sheet t z steps .must j l y),
+      omega (arith, one-more n (n - 2), records-bound n (admitted sheet 0) (fine .n-low) (fine .n-high) (trailIn (vansOf sheet) t 0) (stateIn f 0) (trailIn (vansOf sheet) t′ 0) (van-runs sheet t z steps 0 some)),
+      λ j l y. records-bound-plain n (admitted sheet j) (fine .n-low) (fine .n-high) (trailIn (vansOf sheet) t j) (stateIn f j) (trailIn (vansOf sheet) t′ j) (van-runs sheet t z steps j l) (reached-facts sheet t z steps .must j l y),
     )

@@ -1,14 +1,14 @@
 -- The promises, kept.
 use Prim.Native.Nat.{ℕ, _/_, _%_, _+_, _*_, _≤_, _<_}
 use mathlib.Core.Path.{_≡_, refl, sym, ap, subst, _∙_}
-use mathlib.Core.Bool.{true, false, cond, not}
+use mathlib.Core.Bool.{true, false, not}
 use mathlib.Core.List.{List}
 use mathlib.Core.Logic.{_↔_, _≢_, ⊎-elim}
 use native.Mathlib.Omega.{arith}
 use lib.Dec.{T, eqb, leb, ltb}
 use lib.Count.{ones}
-use lib.ListN.{length, getD, take, drop, length-take, List·getD-eq-default, length-replicate, getD-replicate}
-use borrow.Author.Tests.{eqb-true, eqb-false, eq-eqb, leb-true, ltb-true, ltb-false, lt-ltb, le-ltb}
+use lib.ListN.{length, getD, take, drop, length-take, List·getD-eq-default}
+use borrow.Author.Tests.{eqb-true, eqb-false, eq-eqb, leb-true, ltb-true, ltb-false}
 use Rattle.laws.proofs.Logic.{decided, and-true, T→true, true→T, false→N}
 use Rattle.laws.proofs.Parts.{getD-part}
 use Rattle.laws.specs.Basic.{In, mem, sumBelow, partAt, unless}
@@ -38,13 +38,10 @@ use Rattle.rules.proofs.Forms.{formed-seen}
 use Rattle.rules.proofs.FleetRounds.{placed-sets, closed-sets, excluded-sets, required-sets, obliged-sets, settling-keeps-all, SamePlans, same-back, belong-same, sets-same}
 use Rattle.rules.proofs.FleetForms.{placed-formed-all, closed-formed-all, excluded-formed-all, required-formed-all, settled-formed-all, obliged-formed-all, formed-same}
 use Rattle.rules.proofs.FleetVerdict.{no-gap-alive-all, dead-none-all}
-use Rattle.board.specs.Board.{boardOf, onRoute, setOf, openAt, placesOf}
+use Rattle.board.specs.Board.{boardOf, setOf, openAt, placesOf}
 use Rattle.board.specs.Form.{inForm}
 use Rattle.board.proofs.FormLaws as board
-use Rattle.board.proofs.FreshForm.{fresh-is, freshMade, fresh-off, fresh-held}
-use Rattle.board.proofs.FreshForm as fresh
 use Rattle.board.proofs.Keep.{must-inner}
-use Rattle.board.specs.Fresh.{noState, freshState}
 use Rattle.board.specs.Held.{Held}
 use Rattle.board.specs.declared.State.{State}
 use Rattle.trail.specs.Trail.{roomOf, Wordy}
@@ -56,18 +53,17 @@ use Rattle.trail.proofs.StepBack.{KeptForm, move-keeps}
 use Rattle.van.specs.Act.{planIn, owedOf, settledSets, settlingRounds}
 use Rattle.van.proofs.Leaves.{act-must}
 use Rattle.van.proofs.Plans.{plan-formed, placed-plan, closed-plan, excluded-plan, required-plan, obliged-plan}
-use Rattle.fleet.specs.Fleet.{stateIn, boardIn, trailIn, shareOf, freshFleet, HeldAll}
+use Rattle.fleet.specs.Fleet.{stateIn, boardIn, trailIn, shareOf, HeldAll}
 use Rattle.fleet.specs.Form.{sharesNone, inFormAll, formWithAll}
 use Rattle.fleet.specs.Sums.{plansIn, placesAll}
 use Rattle.fleet.specs.declared.Fleet.{Fleet}
-use Rattle.fleet.proofs.FleetLaws.{state-of, fleet-eight, none-idle}
 use Rattle.fleet.proofs.FormLaws.{FleetForm, ward-none, shares-apart, in-form-all, in-form-all-make, form-with-all, form-with-all-make}
 use Rattle.fleet.proofs.PlanLaws.{plans-formed, shares-none}
 use Rattle.turns.specs.Act.{turnOf, ofOneVan}
 use Rattle.turns.specs.Moved.{RestStays, MovedAll}
 use Rattle.turns.specs.Moved as turns
-use Rattle.planner.specs.Face.{freshOf, plansOf, countOf, judgeOf}
-use Rattle.planner.specs.Promises.{Took, Passes, inVanWord, planAt, FreshInForm, FormKept, PlacingKeeps, ClosingKeeps, ExcludingKeeps, RequiringKeeps, ObligingKeeps, SettlingStrikes, SettlingRests, SettlingExact, SettlingLargest, SettlingLosesNone, NoGapAlive, DeadNone}
+use Rattle.planner.specs.Face.{plansOf, countOf, judgeOf}
+use Rattle.planner.specs.Promises.{Took, Passes, inVanWord, planAt, FormKept, PlacingKeeps, ClosingKeeps, ExcludingKeeps, RequiringKeeps, ObligingKeeps, SettlingStrikes, SettlingRests, SettlingExact, SettlingLargest, SettlingLosesNone, NoGapAlive, DeadNone}
 use Rattle.planner.specs.declared.Counted.{Counted}
 use Rattle.planner.specs.declared.Judged.{Judged}
 use Rattle.planner.proofs.Depths.{shift, shifted}
@@ -301,59 +297,7 @@ dead sheet f z held judge R belong keep =
     let late : aliveAll (vanOf sheet) (dayOf sheet) (plansOf sheet f) ≡ false = rw q at (ap (λ (r : Judged). r .alive) judge) in
     dead-none-all (vanOf sheet) (dayOf sheet) (plansOf sheet f) R (short-tables sheet z) (false→N _ late) belong keep
 
--- ---- demand 1: the fresh fleet is in form
-
-none-held : Held noState
-unfolding noState setOf
-none-held = record {
-  wide = record { route = length-replicate {A = ℕ} 64 0; sets = length-replicate {A = ℕ} 64 0 };
-  levels = length-replicate {A = ℕ} 64 0;
-  words = record { fits = λ y l. rw (getD-replicate {A = ℕ} 64 y 0 0 l) (omega arith); marks = omega arith; must = omega arith };
-}
-
-fresh-eight : (n v : ℕ) → length (freshFleet n v .vans) ≡ mostVans
-unfolding freshFleet
-fresh-eight n v = fleet-eight (λ j. cond (ltb j v) (freshState n) noState)
-
-module _ (n v : ℕ) (low : 2 ≤ n) (small : n ≤ 64) where
-  abbrev states : ℕ → State
-  states j = cond (ltb j v) (freshState n) noState
-
-  fresh-van : (j : ℕ) → j < mostVans → j < v → stateIn (freshFleet n v) j ≡ freshMade n
-  unfolding freshFleet
-  fresh-van j m l = state-of states j m ∙ rw (lt-ltb j v l) (fresh-is n low small)
-
-  fresh-spare : (j : ℕ) → v ≤ j → j < mostVans → stateIn (freshFleet n v) j ≡ noState
-  unfolding freshFleet
-  fresh-spare j h m = state-of states j m ∙ rw (le-ltb j v h) refl
-
-  pub fresh-all : 1 ≤ v → v ≤ mostVans → FleetForm n v (freshFleet n v)
-  fresh-all some most =
-      let van : (j : ℕ) → j < v → stateIn (freshFleet n v) j ≡ freshMade n = λ j l. fresh-van j (omega arith) l in
-      record {
-        each = λ j l. rw (van j l ∙ sym (fresh-is n low small)) (fresh.fresh-in-form n low small);
-        depth = λ j l. ap (λ (s : State). s .depth) (van j l ∙ sym (van 0 some));
-        must = λ j l ne. ap (λ (s : State). s .must) (van j l);
-        rest = λ j h m. rw (fresh-spare j h m) none-idle;
-        apart = λ i j y l k ne inn on. absurd (false-true (sym (ap (λ (s : State). onRoute (boardOf s) y) (van i l) ∙ fresh-off n low small y inn) ∙ on));
-      }
-
-  pub fresh-held-all : HeldAll (freshFleet n v)
-  fresh-held-all = record { eight = fresh-eight n v; each = each }
-    where
-      each : (j : ℕ) → j < mostVans → Held (stateIn (freshFleet n v) j)
-      each j m = decided (ltb j v)
-          (λ e. rw (fresh-van j m (ltb-true j v e)) (fresh-held n low small))
-          (λ e. rw (fresh-spare j (ltb-false j v e) m) none-held)
-
-pub fresh-in-form : FreshInForm
-fresh-in-form sheet z =
-    let fine = call-fine sheet z in (
-      in-form-all-make (nOf sheet) (vansOf sheet) (freshOf sheet) (fine .vans-high) (fresh-all (nOf sheet) (vansOf sheet) (fine .n-low) (fine .n-high) (fine .vans-low) (fine .vans-high)),
-      fresh-held-all (nOf sheet) (vansOf sheet) (fine .n-low) (fine .n-high),
-    )
-
--- ---- and every accepted step keeps the form
+-- ---- demand 1: every accepted step keeps the form
 
 -- the step that a word says, by its van and its kind
 took-in : (sheet : List ℕ) (f : Fleet) (t : List ℕ) (word a b k : ℕ) (f′ : Fleet) (t′ : List ℕ) (kind : ℕ) → word % vanWeight ≡ kind → Took sheet f t word a b k f′ t′

@@ -13,7 +13,7 @@ use Rattle.laws.specs.Basic.{orElse, unless, allBelow}
 use Rattle.sheet.specs.Section.{nOf, vansOf}
 use Rattle.day.specs.Refuse.{callRefusal}
 use Rattle.day.proofs.RefuseLaws.{call-fine}
-use Rattle.day.specs.Tell.{dayOf, vanOf}
+use Rattle.day.specs.Tell.{dayOf, vanOf, admitted}
 use Rattle.bits.specs.Places.{has}
 use Rattle.bits.proofs.Members.{false-true, within-none}
 use Rattle.bits.proofs.Number.{members}
@@ -25,7 +25,6 @@ use Rattle.board.specs.Board.{Board, boardOf, setOf, openAt, onRoute, legNode}
 use Rattle.board.specs.Held.{Held}
 use Rattle.board.specs.Fresh.{freshState}
 use Rattle.board.specs.declared.State.{State}
-use Rattle.board.proofs.FreshForm.{fresh-is}
 use Rattle.trail.specs.Trail.{roomOf, shrunk}
 use Rattle.trail.specs.Refusals.{placeShut, placeRefusal, excludeRefusal, requireRefusal, obligeRefusal}
 use Rattle.trail.specs.Steps.{Ran}
@@ -51,7 +50,8 @@ use Rattle.planner.specs.Promises as promises
 use Rattle.planner.proofs.Answers.{call-made, call-yes, van-called}
 use Rattle.turns.proofs.ActLaws.{act-back}
 use Rattle.planner.proofs.Depths.{Shift, keeps, opens, drops}
-use Rattle.planner.proofs.Courses.{word-said, took-shift, fresh-van, steps-back, reached-all, reached-held, van-runs}
+use Rattle.planner.proofs.FreshFleet.{fresh-van}
+use Rattle.planner.proofs.Courses.{word-said, took-shift, steps-back, reached-all, reached-held, van-runs}
 
 -- ---- refusals that are not the number m
 
@@ -106,7 +106,7 @@ module _ (sheet : List ℕ) (t : List ℕ) (z : callRefusal sheet ≡ 0) where
   some-van = omega (arith, call-fine sheet z .vans-low)
 
   fresh-depth : depthOf (freshOf sheet) ≡ 0
-  fresh-depth = ap (λ (s : State). s .depth) (fresh-van sheet t z 0 some-van ∙ fresh-is (nOf sheet) (call-fine sheet z .n-low) (call-fine sheet z .n-high))
+  fresh-depth = ap (λ (s : State). s .depth) (fresh-van sheet z 0 some-van)
 
   -- a step that left more levels than e, from a fleet that had no more
   just-opened : (f : Fleet) (u : List ℕ) (f′ : Fleet) (u′ : List ℕ) (word a b k e : ℕ) → HeldAll f → Took sheet f u word a b k f′ u′ → depthOf f ≤ e → e < depthOf f′
@@ -333,11 +333,11 @@ module _ (sheet : List ℕ) (f : Fleet) (t t′ : List ℕ) (z : callRefusal she
     unfolding shareOf
     van-full j l = omega (arith, space, room-part (vansOf sheet) t j l, one-more (nOf sheet) (nOf sheet - 2))
 
-    runs : (j : ℕ) → j < vansOf sheet → run.Runs (nOf sheet) (freshState (nOf sheet)) (trailIn (vansOf sheet) t j) (stateIn f j) (trailIn (vansOf sheet) t′ j)
+    runs : (j : ℕ) → j < vansOf sheet → run.Runs (nOf sheet) (freshState (nOf sheet) (admitted sheet j)) (trailIn (vansOf sheet) t j) (stateIn f j) (trailIn (vansOf sheet) t′ j)
     runs = van-runs sheet t z steps
 
     van-space : (j : ℕ) → j < vansOf sheet → nOf sheet * (nOf sheet - 2) + members 64 (stateIn f j .must) ≤ roomOf (trailIn (vansOf sheet) t j)
-    van-space j l = space-full (nOf sheet) two small (trailIn (vansOf sheet) t j) (stateIn f j) (trailIn (vansOf sheet) t′ j) (runs j l) (roomOf (trailIn (vansOf sheet) t j)) (van-full j l)
+    van-space j l = space-full (nOf sheet) (admitted sheet j) two small (trailIn (vansOf sheet) t j) (stateIn f j) (trailIn (vansOf sheet) t′ j) (runs j l) (roomOf (trailIn (vansOf sheet) t j)) (van-full j l)
 
     held-van : (j : ℕ) → j < vansOf sheet → Held (stateIn f j)
     held-van j l = reached-all sheet t z steps .each j l .held
@@ -348,10 +348,10 @@ module _ (sheet : List ℕ) (f : Fleet) (t t′ : List ℕ) (z : callRefusal she
         let u = trailIn (vansOf sheet) t′ j in
         let t₀ = trailIn (vansOf sheet) t j in
         record {
-          place = place-roomy (nOf sheet) two small t₀ s u (runs j l) (van-space j l);
-          exclude = exclude-roomy (nOf sheet) two small t₀ s u (runs j l) (van-space j l);
-          require = require-roomy (nOf sheet) two small t₀ s u (runs j l) (van-space j l);
-          settle = settle-roomy (nOf sheet) two small t₀ s u (runs j l) (van-space j l) (settledSets (vanOf sheet j) (dayOf sheet) s) (settled-smaller (vanOf sheet j) sheet s u (held-van j l) (van-called sheet f t′ z formed j l));
+          place = place-roomy (nOf sheet) (admitted sheet j) two small t₀ s u (runs j l) (van-space j l);
+          exclude = exclude-roomy (nOf sheet) (admitted sheet j) two small t₀ s u (runs j l) (van-space j l);
+          require = require-roomy (nOf sheet) (admitted sheet j) two small t₀ s u (runs j l) (van-space j l);
+          settle = settle-roomy (nOf sheet) (admitted sheet j) two small t₀ s u (runs j l) (van-space j l) (settledSets (vanOf sheet j) (dayOf sheet) s) (settled-smaller (vanOf sheet j) sheet s u (held-van j l) (van-called sheet f t′ z formed j l));
           kind = λ e. omega arith;
         }
 
@@ -388,7 +388,7 @@ module _ (sheet : List ℕ) (f : Fleet) (t t′ : List ℕ) (z : callRefusal she
       place = place-room;
       act = λ i kind a b l one. act-avoids sheet i (stateIn f i) (trailIn (vansOf sheet) t′ i) kind a b refusal.ROOM one (van-roomy i l);
       oblige = λ x. oblige-avoids (nOf sheet) (stateIn f 0) (trailIn (vansOf sheet) t′ 0) x refusal.ROOM
-          (oblige-roomy-full (nOf sheet) two small (trailIn (vansOf sheet) t 0) (stateIn f 0) (trailIn (vansOf sheet) t′ 0) (runs 0 (some-van sheet t z)) (van-full 0 (some-van sheet t z)) x);
+          (oblige-roomy-full (nOf sheet) (admitted sheet 0) two small (trailIn (vansOf sheet) t 0) (stateIn f 0) (trailIn (vansOf sheet) t′ 0) (runs 0 (some-van sheet t z)) (van-full 0 (some-van sheet t z)) x);
       level = unless-avoids (ltb (stateIn f 0 .depth) 64) refusal.DEPTH refusal.ROOM (λ e. omega arith) (λ e. omega arith);
       van = λ e. omega arith;
       kind = λ e. omega arith;

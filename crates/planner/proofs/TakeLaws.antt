@@ -4,7 +4,7 @@ use mathlib.Core.Path.{_≡_, refl, sym, ap, subst, _∙_}
 use mathlib.Core.Bool.{Bool, true, cond, _&&_, _||_}
 use mathlib.Core.List.{List, []}
 use native.Mathlib.Omega.{arith}
-use lib.ListN.{length, getD, set, replicate, length-set, length-replicate, getD-replicate}
+use lib.ListN.{length, set, replicate, length-set, length-replicate, getD-replicate}
 use lib.Seq.{getD-set-same, getD-set-other}
 use lib.Dec.{eqb, ltb}
 use borrow.Author.Tests.{eqb-true, eqb-false, lt-ltb, le-ltb}
@@ -21,7 +21,7 @@ use Rattle.fleet.specs.Form.{idle}
 use Rattle.fleet.specs.Rows.{figuresIn, rowState, RowsOf, Rows, Figured, Blank}
 use Rattle.fleet.specs.declared.Fleet.{Fleet}
 use Rattle.fleet.proofs.FleetLaws.{fleetMade}
-use Rattle.fleet.proofs.RowLaws.{tab-same, ltb-more}
+use Rattle.laws.proofs.Turned.{tab-same, ltb-more}
 use Rattle.planner.specs.Asked.{TakenIn}
 
 -- the state in row k once j are taken: a van's own, or none

@@ -1,4 +1,4 @@
--- What the five entry points answer, for every input (01, Refusal numbers; 02, No. 1 and 5).
+-- What the five entry points answer, for every input (01, Refusal numbers; 02, No. 1, 5 and 7).
 use Prim.Native.Nat.{ℕ}
 use mathlib.Core.Path.{_≡_}
 use mathlib.Core.Bool.{false, cond}
@@ -8,7 +8,7 @@ use Rattle.laws.specs.Basic.{orElse, unless}
 use Rattle.sheet.specs.Section.{nOf, vansOf}
 use Rattle.day.specs.Refuse.{callRefusal, openRefusal}
 use Rattle.day.specs.Section.{sectionIn}
-use Rattle.day.specs.Tell.{dayOf, vanOf}
+use Rattle.day.specs.Tell.{dayOf, vanOf, admitted}
 use Rattle.rules.specs.Numbers.{refusal, stepSaid}
 use Rattle.rules.specs.Fleet.{Plans, aliveAll}
 use Rattle.fleet.specs.Fleet.{noFleet, freshFleet}
@@ -21,15 +21,15 @@ use Rattle.planner.specs.declared.Opened.{Opened}
 use Rattle.planner.specs.declared.Counted.{Counted}
 use Rattle.planner.specs.declared.Judged.{Judged}
 
--- the fresh fleet of a sheet
+-- the fresh fleet of a sheet: every ward that admits a van is open in it
 abbrev pub freshOf : List ℕ → Fleet
-freshOf sheet = freshFleet (nOf sheet) (vansOf sheet)
+freshOf sheet = freshFleet (nOf sheet) (vansOf sheet) (admitted sheet)
 
 -- "Opening returns the number; the state beside a refusal has every number 0."
 unfoldable pub openOf : List ℕ → Opened
 openOf sheet = record { answer = openRefusal sheet; fleet = cond (eqb (openRefusal sheet) 0) (freshOf sheet) noFleet }
 
--- "Asking for the open places in all or the verdict checks 1 to 4", now 6 too, "and 19 and returns the number": what every call checks, then 19
+-- "Asking for the open places in all or the verdict checks 1 to 4", now 6 and 7 too, "and 19 and returns the number": what every call checks, then 19
 unfoldable pub askRefusal : List ℕ → Fleet → ℕ
 askRefusal sheet f = orElse (callRefusal sheet) (unless (inFormAll (nOf sheet) (vansOf sheet) f) refusal.FORM)
 
@@ -45,7 +45,7 @@ plansOf sheet f = plansIn (vansOf sheet) f
 unfoldable pub judgeOf : List ℕ → Fleet → Judged
 judgeOf sheet f = record { answer = askRefusal sheet f; alive = cond (eqb (askRefusal sheet f) 0) (aliveAll (vanOf sheet) (dayOf sheet) (plansOf sheet f)) false }
 
--- "A step call re-reads the sheet for 1 to 4", now 6 too, "not 5; then 19": what every call checks, then 19
+-- "A step call re-reads the sheet for 1 to 4", now 6 and 7 too, "not 5; then 19": what every call checks, then 19
 unfoldable pub stepRefusal : List ℕ → Fleet → List ℕ → ℕ
 stepRefusal sheet f t = orElse (callRefusal sheet) (unless (formWithAll (nOf sheet) (vansOf sheet) f t) refusal.FORM)
 

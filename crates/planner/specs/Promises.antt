@@ -11,21 +11,21 @@ use lib.ListN.{length, take}
 use Rattle.sheet.specs.Word.{size, wordAt}
 use Rattle.sheet.specs.Section.{nOf, mOf, vansOf, jobsAt}
 use Rattle.day.specs.Refuse.{callRefusal, openRefusal}
-use Rattle.day.specs.Tell.{dayOf, vanOf, kindOf, wordsOf}
+use Rattle.day.specs.Tell.{dayOf, vanOf, admitted, kindOf, wordsOf}
 use Rattle.rules.specs.Steps.{uses}
 use Rattle.rules.specs.Leg.{onLeg}
 use Rattle.rules.specs.Plan.{Plan, Places}
 use Rattle.rules.specs.Tests.{stays}
 use Rattle.rules.specs.Settle.{strikes, settled, rounds}
-use Rattle.rules.specs.Fleet.{Plans, BelongAll, KeepAll, aliveAll, settledAll, workedAll}
+use Rattle.rules.specs.Every.{RoundOf}
+use Rattle.rules.specs.Fleet.{Plans, ShareNone, MayAll, BelongAll, KeepAll, aliveAll, settledAll, workedAll}
 use Rattle.bits.specs.Places.{has}
-use Rattle.board.specs.declared.State.{State}
-use Rattle.trail.specs.Trail.{roomOf, Wordy}
+use Rattle.trail.specs.Trail.{Wordy}
 use Rattle.rules.specs.Numbers.{refusal, kinds, vanWeight}
 use Rattle.fleet.specs.Fleet.{stateIn, trailIn, HeldAll}
 use Rattle.fleet.specs.Form.{inFormAll, formWithAll}
 use Rattle.fleet.specs.declared.Fleet.{Fleet}
-use Rattle.turns.specs.Together.{RanAll, actedAll}
+use Rattle.turns.specs.Together.{actedAll}
 use Rattle.planner.specs.Face.{freshOf, plansOf, stepOf, countOf, judgeOf, Opens, Sections, Stepping, Counts, Judges}
 use Rattle.van.specs.Act.{planIn}
 use Rattle.laws.specs.Basic.{mem, hd, tab, anyBelow}
@@ -107,6 +107,12 @@ FormKept = (sheet : List ℕ) (f f′ : Fleet) (t t′ : List ℕ) (word a b k :
     → (formWithAll (nOf sheet) (vansOf sheet) f′ t′ ≡ true) × HeldAll f′ × (length t′ ≡ length t)
 
 -- ---- demand 2, over "sets of one round per van that share no ward and hold each newly marked one": R j is the round of van j
+
+-- "Demand 2's fresh set of rounds reads the classes": to the fresh fleet belong exactly the sets of rounds of the day that share no ward and in which
+-- every ward in a van's round admits that van
+abbrev pub FreshSets : Type 0
+FreshSets = (sheet : List ℕ) → callRefusal sheet ≡ 0 → (R : ℕ → List ℕ) → BelongAll (dayOf sheet) (plansOf sheet (freshOf sheet)) R
+    ↔ (((j : ℕ) → j < vansOf sheet → RoundOf (dayOf sheet) (R j)) × ShareNone (dayOf sheet) (vansOf sheet) R × MayAll (dayOf sheet) (vansOf sheet) (admitted sheet) R)
 
 -- placing keeps the sets whose round of the van uses the place
 abbrev pub PlacingKeeps : Type 0
@@ -230,6 +236,7 @@ pub record Promised : Type 0 where
   pub unchanged : Unchanged
   pub fresh-in-form : FreshInForm
   pub form-kept : FormKept
+  pub fresh-sets : FreshSets
   pub placing-keeps : PlacingKeeps
   pub closing-keeps : ClosingKeeps
   pub excluding-keeps : ExcludingKeeps

@@ -47,9 +47,8 @@ pub fn open(sheet: &[u8]) -> Opened
     ensures { λ r. ⌜ Opens (now (sheet .entry)) r ⌝ }
 {
     let found = day::opening(sheet);
-    let at = found.layout;
     let fleet = if found.answer == 0 {
-        Fleet::fresh(at.nodes, at.vans)
+        Fleet::fresh(sheet, found.layout)
     } else {
         Fleet::none()
     };

@@ -27,7 +27,7 @@ distinct-down n (suc m) h =
 
 -- ---- a list without a node
 
-less-sub : (x : ℕ) (l : List ℕ) → Sub (less x l) l
+pub less-sub : (x : ℕ) (l : List ℕ) → Sub (less x l) l
 less-sub x [] = nil
 less-sub x (y ∷ l) = go (eqb y x) (less-sub x l)
   where
@@ -62,7 +62,7 @@ less-off x (more {x = y} {l = l} a b g) = go (tf (eqb y x)) (less-off x g)
 -- ---- what may follow the start
 
 -- an order of some of the nodes l, then e
-data Tail (e : ℕ) : List ℕ → List ℕ → Type 0 where
+pub data Tail (e : ℕ) : List ℕ → List ℕ → Type 0 where
   last : {l : List ℕ} → Tail e l (e ∷ [])
   next : {x : ℕ} {l t : List ℕ} → T (mem x l) → Tail e (less x l) t → Tail e l (x ∷ t)
 
@@ -179,7 +179,8 @@ module _ (d : Day) (two : 2 ≤ d .n) where
     ends = ends-cons (d .n - 1) 0 t (k .ends);
   }
 
-  round-tail : (x : ℕ) (t : List ℕ) → RoundOf d (x ∷ t) → Tail (d .n - 1) (inner d) t
+  -- the stops of a round after its start: wards, each once, then the end
+  pub round-tail : (x : ℕ) (t : List ℕ) → RoundOf d (x ∷ t) → Tail (d .n - 1) (inner d) t
   round-tail x [] k = let q = eqb→eq x (d .n - 1) (k .ends) in absurd (omega (arith, q, k .starts))
   round-tail x (y ∷ t) k = order-tail (y ∷ t) (distinct-tail (k .nodes)) (k .ends) others
     where

@@ -1,7 +1,7 @@
 -- 01's examples at the edges on the mathematics, to keep the definitions honest. (The table P1 to P12, on the bytes of the sheet, is the planner's.)
 use mathlib.Core.Path.{_≡_, refl}
 use Prim.Native.Nat.{ℕ, _+_, _*_}
-use mathlib.Core.Bool.{true, false, cond, _&&_}
+use mathlib.Core.Bool.{Bool, true, false, cond, _&&_}
 use mathlib.Core.List.{List, [], _∷_}
 use lib.ListN.{getD}
 use lib.Dec.{eqb}
@@ -40,9 +40,13 @@ day = dayWith 25 100
 abbrev pub van : ℕ → ℕ → Van
 van c m = record { capacity = c; limit = m }
 
+-- no van is kept from a ward
+abbrev pub any : ℕ → Bool
+any x = true
+
 -- node 2 placed after 0
 abbrev two : Plan
-two = placed 0 2 (fresh day)
+two = placed 0 2 (fresh day any)
 
 p1 : start day (2 ∷ 0 ∷ []) 3 ≡ 35
 p1 = refl
@@ -84,28 +88,28 @@ shutAt x = record {
 }
 
 -- a last moment below 0 strikes the ward, though the van is there at 0
-below-zero : round (van 2 60) (shutAt 1) (fresh (shutAt 1) .route) (fresh (shutAt 1) .places) 1 0 ≡ false
+below-zero : round (van 2 60) (shutAt 1) (fresh (shutAt 1) any .route) (fresh (shutAt 1) any .places) 1 0 ≡ false
 unfolding round stays
 below-zero = refl
 
 -- the first stop keeps the rule too, and the last one with its service
-first-shut : alive (van 2 60) (shutAt 0) (fresh (shutAt 0)) ≡ false
+first-shut : alive (van 2 60) (shutAt 0) (fresh (shutAt 0) any) ≡ false
 unfolding alive owed
 first-shut = refl
 
-last-shut : alive (van 2 60) (shutAt 2) (fresh (shutAt 2)) ≡ false
+last-shut : alive (van 2 60) (shutAt 2) (fresh (shutAt 2) any) ≡ false
 unfolding alive owed
 last-shut = refl
 
-p7 : rounds (van 2 30) day (fresh day .route) (fresh day .places) ≡ 0
+p7 : rounds (van 2 30) day (fresh day any .route) (fresh day any .places) ≡ 0
 unfolding roundsIn strikes round stays
 p7 = refl
 
-p8 : alive (van 2 29) day (settled (van 2 29) day (fresh day)) ≡ false
+p8 : alive (van 2 29) day (settled (van 2 29) day (fresh day any)) ≡ false
 unfolding alive owed settleIn strikes round stays
 p8 = refl
 
-p10 : rounds (van 2 60) (dayWith 19 100) (fresh day .route) (fresh day .places) ≡ 2
+p10 : rounds (van 2 60) (dayWith 19 100) (fresh day any .route) (fresh day any .places) ≡ 2
 unfolding roundsIn strikes round stays
 p10 = refl
 
@@ -113,16 +117,16 @@ p11 : lastStart (dayWith 25 10) (3 ∷ []) 0 ≡ negsuc 19
 p11 = refl
 
 -- fresh: 5 rounds belong, 1 keeps the rules
-p12 : count (belongs day (fresh day)) (everyRound day) ≡ 5
+p12 : count (belongs day (fresh day any)) (everyRound day) ≡ 5
 unfolding everyRound
 p12 = refl
 
-p12k : count (λ R. belongs day (fresh day) R && keeps (van 2 60) day R) (everyRound day) ≡ 1
+p12k : count (λ R. belongs day (fresh day any) R && keeps (van 2 60) day R) (everyRound day) ≡ 1
 unfolding everyRound keeps
 p12k = refl
 
 -- metre limit 29: none
-p8k : count (λ R. belongs day (fresh day) R && keeps (van 2 29) day R) (everyRound day) ≡ 0
+p8k : count (λ R. belongs day (fresh day any) R && keeps (van 2 29) day R) (everyRound day) ≡ 0
 unfolding everyRound keeps
 p8k = refl
 

@@ -16,17 +16,17 @@ use Rattle.rules.specs.Fleet.{Plans, served, inVan, placedIn, obliged, F
 use Rattle.rules.proofs.Left.{_⊆_}
 use Rattle.rules.proofs.Placing.{split-old}
 use Rattle.rules.proofs.Fixpoint.{settle-less}
-use Rattle.rules.proofs.Forms.{fresh-plan-formed, placed-formed, closed-formed, excluded-formed, settled-formed, required-formed}
+use Rattle.rules.proofs.Forms.{fresh-off, fresh-plan-formed, placed-formed, closed-formed, excluded-formed, settled-formed, required-formed}
 use Rattle.rules.proofs.FleetRounds.{open-served, open-off, SamePlans, van-same}
-use Rattle.laws.proofs.Logic.{and-i, and-l, and-r, or-l, or-r, or-e, or-mono, not-or-i, contra, by-test}
+use Rattle.laws.proofs.Logic.{and-l, and-r, or-l, or-r, or-e, or-mono, not-or-i, contra, by-test}
 use Rattle.laws.specs.Basic.{mem, any, In}
-use Rattle.laws.proofs.Lists.{any-i, any-e, any-none}
+use Rattle.laws.proofs.Lists.{any-i, any-e, any-none, mem-in}
 
 -- the fresh fleet: no ward is on a route
-pub fresh-in-form-all : (d : Day) (k : ℕ) (m : (ℕ → Bool)) → 2 ≤ d .n → FormedAll d (record { vans = k; plan = λ i. fresh d; must = m })
-fresh-in-form-all d k m low = record {
-  each = λ i l. fresh-plan-formed d low;
-  apart = λ i j x l l′ ne n on. absurd (T-not (mem x (fresh d .route)) (fresh-plan-formed d low .off x 0 (and-i (mem x (inner d)) (eqb 0 0) n tt)) on);
+pub fresh-in-form-all : (d : Day) (k : ℕ) (may : ℕ → ℕ → Bool) (m : (ℕ → Bool)) → 2 ≤ d .n → FormedAll d (record { vans = k; plan = λ i. fresh d (may i); must = m })
+fresh-in-form-all d k may m low = record {
+  each = λ i l. fresh-plan-formed d (may i) low;
+  apart = λ i j x l l′ ne n on. absurd (T-not (mem x (fresh d (may i) .route)) (fresh-off d (may i) (mem-in x (inner d) n)) on);
 }
 
 -- ---- what a step serves

@@ -2,7 +2,7 @@
 use mathlib.Core.Path.{_≡_, refl, ap, _∙_}
 use Prim.Native.Nat.{ℕ, _-_, _≤_, _<_}
 use native.Mathlib.Omega.{arith}
-use mathlib.Core.Bool.{false, not, _&&_}
+use mathlib.Core.Bool.{Bool, false, not, _&&_}
 use mathlib.Core.List.{List, [], _∷_}
 use mathlib.Core.Logic.{⊎-elim}
 use lib.Dec.{T, not-T, eqb, eqb→eq, eqb-refl}
@@ -94,22 +94,30 @@ laid-placed {d} {z} {p} {x} {r} {r′} {o} i t l = record {
 
 -- ---- fresh is in form, and each step keeps the form
 
-pub fresh-plan-formed : (d : Day) → 2 ≤ d .n → Formed d (fresh d)
-fresh-plan-formed d h = record {
+apart : (a b : ℕ) → (a ≡ b → ⊥) → T (not (eqb a b))
+apart a b f = not-T (eqb a b) (λ t. f (eqb→eq a b t))
+
+-- no ward is on the fresh route
+pub fresh-off : (d : Day) (may : ℕ → Bool) {y : ℕ} → In y (inner d) → T (not (mem y (fresh d may .route)))
+fresh-off d may {y} i =
+    let u = inner-low d i in
+    not-or-i (eqb 0 y) (mem y ((d .n - 1) ∷ [])) (apart 0 y (λ e. omega (arith, u, e)))
+    (not-or-i (eqb (d .n - 1) y) false (apart (d .n - 1) y (λ e. omega (arith, u, e))) tt)
+
+pub fresh-plan-formed : (d : Day) (may : ℕ → Bool) → 2 ≤ d .n → Formed d (fresh d may)
+fresh-plan-formed d may h = record {
   tail = (d .n - 1) ∷ [];
   starts = refl;
   ends = eqb-refl (d .n - 1);
   nodes = more {x = 0} (omega arith) (not-or-i (eqb (d .n - 1) 0) false (apart (d .n - 1) 0 (λ e. omega (arith, e))) tt) (more {x = d .n - 1} (omega arith) tt none);
-  inside = λ y q t. mem-in y (inner d) (and-l (mem y (inner d)) (eqb q 0) t);
-  off = λ y q t. let u = inner-low d (mem-in y (inner d) (and-l (mem y (inner d)) (eqb q 0) t)) in
-      not-or-i (eqb 0 y) (mem y ((d .n - 1) ∷ [])) (apart 0 y (λ e. omega (arith, u, e)))
-      (not-or-i (eqb (d .n - 1) y) false (apart (d .n - 1) y (λ e. omega (arith, u, e))) tt);
-  leg = λ y q t. rw (eqb→eq q 0 (and-r (mem y (inner d)) (eqb q 0) t)) tt;
+  inside = inside;
+  off = λ y q t. fresh-off d may (inside y q t);
+  leg = λ y q t. rw (eqb→eq q 0 (and-r (mem y (inner d) && may y) (eqb q 0) t)) tt;
   marked = λ y t. absurd t;
 }
   where
-    apart : (a b : ℕ) → (a ≡ b → ⊥) → T (not (eqb a b))
-    apart a b f = not-T (eqb a b) (λ t. f (eqb→eq a b t))
+    inside : (y q : ℕ) → T (mem y (inner d) && may y && eqb q 0) → In y (inner d)
+    inside y q t = mem-in y (inner d) (and-l (mem y (inner d)) (may y) (and-l (mem y (inner d) && may y) (eqb q 0) t))
 
 pub placed-formed : (d : Day) (a : Plan) (p x : ℕ) → Formed d a → T (a .places x p) → Formed d (placed p x a)
 placed-formed d a p x f t = record {

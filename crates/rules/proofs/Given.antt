@@ -18,7 +18,7 @@ use Rattle.rules.specs.Leg.{legStops}
 use Rattle.rules.specs.Plan.{Plan, fresh}
 use Rattle.rules.specs.Rounds.{Distinct, none, more}
 use Rattle.rules.specs.Asked.{Shortest, Triangle, OneEnd, Proper, Formed, endsWith, triangleTest, noClash, oneEndTest, properJob, properTest, distinctTest, placeTest, formedTest}
-use Rattle.rules.proofs.Examples.{day}
+use Rattle.rules.proofs.Examples.{day, any}
 use Rattle.rules.specs.declared.Job.{Job}
 use Rattle.rules.specs.declared.Job.the-variants.{Transfer}
 
@@ -157,14 +157,14 @@ day-proper = proper-of day tt
 pub day-one-end : OneEnd (day .jobs)
 day-one-end = one-end-of day tt day-proper
 
-pub day-formed : Formed day (fresh day)
+pub day-formed : Formed day (fresh day any)
 unfolding allBelow
-day-formed = formed-of day (fresh day) low (λ y t. absurd t) tt
+day-formed = formed-of day (fresh day any) low (λ y t. absurd t) tt
   where
-    low : (y q : ℕ) → T (mem y (inner day) && eqb q 0) → (y < 4) × (q < 4)
+    low : (y q : ℕ) → T (mem y (inner day) && any y && eqb q 0) → (y < 4) × (q < 4)
     low y q t =
-        let y≡ : (2 ≡ y) ⊎ (1 ≡ y) = node (and-l (mem y (inner day)) (eqb q 0) t) in
-        let q≡ : q ≡ 0 = eqb→eq q 0 (and-r (mem y (inner day)) (eqb q 0) t) in
+        let y≡ : (2 ≡ y) ⊎ (1 ≡ y) = node (and-l (mem y (inner day)) (any y) (and-l (mem y (inner day) && any y) (eqb q 0) t)) in
+        let q≡ : q ≡ 0 = eqb→eq q 0 (and-r (mem y (inner day) && any y) (eqb q 0) t) in
         (⊎-elim (λ e. omega (arith, e)) (λ e. omega (arith, e)) y≡, omega (arith, q≡))
       where
         node : T (mem y (inner day)) → (2 ≡ y) ⊎ (1 ≡ y)

@@ -3,10 +3,10 @@ use Prim.Native.Nat.{ℕ, zero, suc, _+_, _-_, _≤_, _<_}
 use native.Mathlib.Omega.{arith}
 use mathlib.Core.Logic.{⊎-elim}
 use mathlib.Core.Path.{_≡_}
-use mathlib.Core.Bool.{true}
+use mathlib.Core.Bool.{true, false, and-false}
 use lib.Dec.{T, eqb, eqb→eq, leb, ltb}
-use borrow.Author.Tests.{leb-true, ltb-true}
-use Rattle.laws.proofs.Logic.{tf, or-l, or-r, or-e, neqb, and-true}
+use borrow.Author.Tests.{leb-true, ltb-true, le-leb, lt-ltb, le-ltb}
+use Rattle.laws.proofs.Logic.{T→true, true→T, T-ext, tf, or-l, or-r, or-e, neqb, and-true}
 use Rattle.laws.proofs.Lists.{in-mem, mem-in}
 use Rattle.laws.specs.Basic.{mem, In}
 use Rattle.rules.specs.Day.{Day, downFrom, inner, isInner}
@@ -32,5 +32,18 @@ pub is-inner : (n x : ℕ) → isInner n x ≡ true → (1 ≤ x) × (x + 1 < n)
 unfolding isInner
 is-inner n x e = let p = and-true (leb 1 x) (ltb (x + 1) n) e in (leb-true 1 x (p .0), ltb-true (x + 1) n (p .1))
 
+pub inner-is : (n x : ℕ) → 1 ≤ x → x + 1 < n → isInner n x ≡ true
+unfolding isInner
+inner-is n x h l = rw (le-leb 1 x h, lt-ltb (x + 1) n l)
+
+pub inner-not : (n x : ℕ) → n - 1 ≤ x → isInner n x ≡ false
+unfolding isInner
+inner-not n x h = rw (le-ltb (x + 1) n (omega arith)) (and-false (leb 1 x))
+
 pub is-inner-in : (n x : ℕ) → isInner n x ≡ true → In x (downFrom (n - 2))
 is-inner-in n x e = let p = is-inner n x e in mem-in x (downFrom (n - 2)) (mem-down (n - 2) x (p .0) (omega (arith, p .1)))
+
+pub inner-mem : (n x : ℕ) → isInner n x ≡ mem x (downFrom (n - 2))
+inner-mem n x = T-ext (isInner n x) (mem x (downFrom (n - 2)))
+    (λ t. in-mem (is-inner-in n x (T→true (isInner n x) t)))
+    (λ t. let p = down-mem (n - 2) x t in true→T (isInner n x) (inner-is n x (p .0) (omega (arith, p))))

@@ -27,7 +27,8 @@
 -- * The ends of a run in each van, settled, have in every van the open places, and for the fleet the verdict, of the plans worked out from the
 --   start, settled: FleetAlike `run-alike-all`. Two such families that end alike settle alike: `runs-alike-all`. What the fleet's verdict
 --   reads: `alive-all-same`.
--- * The fresh fleet is in form, and the steps keep it: FleetForms.
+-- * The fresh fleet is in form, and the steps keep it: FleetForms. To it belong the sets of rounds of the day that share no ward and have in
+--   each van's round only wards that it may serve: FreshRounds `fresh-sets` (02, No. 7).
 --
 -- The tests of settling, the rules of rounds and the checks of the verdict are three lists, and the theorems know them by laws over the lists.
 -- A further entry is its definition, its place in the list, the name of its being there (Entries), and one line in each value below:
@@ -80,5 +81,6 @@ pub mod FleetRounds
 pub mod FleetVerdict
 pub mod FleetAlike
 pub mod FleetForms
+pub mod FreshRounds
 -- small days, computed
 pub mod Examples

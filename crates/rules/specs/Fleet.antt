@@ -21,15 +21,23 @@ pub record Plans : Type 0 where
   pub plan : ℕ → Plan
   pub must : (ℕ → Bool)
 
--- "sets of one round per van that share no ward and hold each newly marked one": the round of van i is R i
+-- "share no ward": of k rounds, R i that of van i, no two have a ward in common
+abbrev pub ShareNone : Day → ℕ → (ℕ → List ℕ) → Type 0
+ShareNone d k R = (i j x : ℕ) → i < k → j < k → i ≢ j → T (mem x (inner d)) → T (mem x (R i)) → T (not (mem x (R j)))
+
+-- "sets of one round per van that share no ward and hold each newly marked one"
 pub record BelongAll (d : Day) (f : Plans) (R : ℕ → List ℕ) : Type 0 where
   pub each : (i : ℕ) → i < f .vans → Belongs d (f .plan i) (R i)
-  pub apart : (i j x : ℕ) → i < f .vans → j < f .vans → i ≢ j → T (mem x (inner d)) → T (mem x (R i)) → T (not (mem x (R j)))
+  pub apart : ShareNone d (f .vans) R
   pub holds : (x : ℕ) → T (f .must x) → T (anyBelow (f .vans) (λ i. mem x (R i)))
 
 -- each of k rounds keeps the rules, with its van
 abbrev pub KeepAll : (ℕ → Van) → Day → ℕ → (ℕ → List ℕ) → Type 0
 KeepAll v d k R = (i : ℕ) → i < k → T (keeps (v i) d (R i))
+
+-- every ward in the round of one of k vans is one that the van may serve
+abbrev pub MayAll : Day → ℕ → (ℕ → ℕ → Bool) → (ℕ → List ℕ) → Type 0
+MayAll d k may R = (i x : ℕ) → i < k → T (mem x (inner d)) → T (mem x (R i)) → T (may i x)
 
 -- a ward is placed or open
 abbrev pub served : Plan → ℕ → Bool

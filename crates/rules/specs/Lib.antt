@@ -5,7 +5,7 @@
 -- Verdict: owed, the five checks, alive. Worked: runs, and the state that demand 3 works out.
 -- Fleet: several vans over the same wards: sets of rounds, the steps, the verdict (02, No. 1).
 -- Asked: what the theorems ask of a day and a plan, as tests that compute. Every: all rounds of a small day.
--- Along: E, L and H by the stop's place on the route.
+-- Along: E, L and H by the stop's place on the route. Class: which nodes admit which vans (02, No. 7).
 pub mod Numbers
 pub mod Day
 pub mod Leg
@@ -22,3 +22,4 @@ pub mod Asked
 pub mod Every
 pub mod Along
 pub mod Fleet
+pub mod Class

@@ -3,7 +3,7 @@ use Prim.Native.Nat.{ℕ, _/_, _%_}
 use Rattle.rules.specs.declared.Step.{Step}
 
 -- why a sheet or a step is refused: the numbers of 01's table, and of 02
-abbrev pub refusal : record { SHORT : ℕ; COUNT : ℕ; VALUE : ℕ; TWICE : ℕ; TRIANGLE : ℕ; HEAVY : ℕ; KIND : ℕ; NODE : ℕ; PLACED : ℕ; UNPLACED : ℕ; SHUT : ℕ; OWED : ℕ; ROOM : ℕ; DEPTH : ℕ; FORM : ℕ; MISFIT : ℕ; VAN : ℕ; CLAIMED : ℕ }
+abbrev pub refusal : record { SHORT : ℕ; COUNT : ℕ; VALUE : ℕ; TWICE : ℕ; TRIANGLE : ℕ; HEAVY : ℕ; CLASS : ℕ; KIND : ℕ; NODE : ℕ; PLACED : ℕ; UNPLACED : ℕ; SHUT : ℕ; OWED : ℕ; ROOM : ℕ; DEPTH : ℕ; FORM : ℕ; MISFIT : ℕ; VAN : ℕ; CLAIMED : ℕ }
 refusal = record {
   SHORT = 1;  -- "byte length not a multiple of 4, a count missing, a section short, words left over"
   COUNT = 2;  -- "a count out of its range"
@@ -11,6 +11,7 @@ refusal = record {
   TWICE = 4;  -- "a node with two jobs of one kind, or two transfer ends"
   TRIANGLE = 5;  -- "for some three different i, j, k: seconds or metres (i, k) above (i, j) + (j, k)"
   HEAVY = 6;  -- "a job load above the capacity", and "for a fleet the largest capacity counts"
+  CLASS = 7;  -- "a start or end that does not admit a van"
   KIND = 11;  -- "unknown step kind"
   NODE = 12;  -- "x not in 1 to n−2, or p not in 0 to n−2"
   PLACED = 13;  -- "x on the route (steps 1 to 4)"

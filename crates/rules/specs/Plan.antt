@@ -16,6 +16,6 @@ pub record Plan : Type 0 where
   pub places : Places
   pub marks : ℕ → Bool
 
--- fresh: route 0, n − 1; every other node open in leg 0; no marks
-abbrev pub fresh : Day → Plan
-fresh d = record { route = 0 ∷ (d .n - 1) ∷ []; places = λ x p. mem x (inner d) && eqb p 0; marks = λ x. false }
+-- fresh: route 0, n − 1; every other node that may be open is, in leg 0; no marks
+abbrev pub fresh : Day → (ℕ → Bool) → Plan
+fresh d may = record { route = 0 ∷ (d .n - 1) ∷ []; places = λ x p. mem x (inner d) && may x && eqb p 0; marks = λ x. false }

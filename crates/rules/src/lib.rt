@@ -4,6 +4,7 @@
 ghost use mathlib.Core.Path.{_≡_};
 ghost use Rattle.rules.specs.Numbers.{stepSaid};
 ghost use Rattle.rules.specs.Load.{loadOf};
+ghost use Rattle.rules.specs.Class.{admits};
 
 // A job is one of three things, each with its own data: aboard from the start to a node, from a node to the end,
 // or from one node to another.
@@ -50,6 +51,13 @@ pub struct Node;
 impl Node {
     // The most nodes that a sheet has: an array with an entry for each node, or for each stop of a route, has as many.
     pub const MOST: usize = 64;
+
+    // Whether a node with this class set admits a van of this bit.
+    pub fn admits(set: u32, bit: u32) -> bool
+        ensures { λ r. ⌜ r ≡ admits set bit ⌝ }
+    {
+        set & bit != 0
+    }
 }
 
 // A step that a sheet or a caller asks for: the van it is for, its kind, and two words for the nodes that it names.
@@ -112,6 +120,8 @@ impl Refusal {
     pub const TRIANGLE: usize = 5;
 
     pub const HEAVY: usize = 6;
+
+    pub const CLASS: usize = 7;
 
     // Of a step.
     pub const KIND: usize = 11;

@@ -144,7 +144,7 @@ fine s h =
     record {
       vans-low = omega (arith, hv .low);
       vans-high = omega (arith, hv .high);
-      pairs = omega (arith, even);
+      thrice = omega (arith, even);
       n-low = hn .low;
       n-high = hn .high;
       m-high = head-zero s _ _ _ _ (jobs .0) .high;

@@ -71,7 +71,7 @@ pub record Headed (s : List ℕ) (at lo hi width : ℕ) : Type 0 where
 pub record Fine (s : List ℕ) : Type 0 where
   pub vans-low : 1 ≤ vansOf s
   pub vans-high : vansOf s ≤ mostVans
-  pub pairs : wordAt s vansAt ≡ size.van * vansOf s
+  pub thrice : wordAt s vansAt ≡ size.van * vansOf s
   pub n-low : 2 ≤ nOf s
   pub n-high : nOf s ≤ 64
   pub m-high : mOf s ≤ 155

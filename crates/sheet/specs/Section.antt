@@ -15,7 +15,7 @@ use Rattle.sheet.specs.Word.{size, words, wordAt, limitsAtOk, nodeAtOk, 
 abbrev pub vansAt : ℕ
 vansAt = 0
 
--- the number of vans that the sheet says: the count of the limits is of words, "twice the number of vans"
+-- the number of vans that the sheet says: the count of the limits is of words, as many for each van
 abbrev pub vansOf : List ℕ → ℕ
 vansOf s = wordAt s vansAt / size.van
 
@@ -64,7 +64,8 @@ headRefusal s at lo hi width =
     (orElse (unless (leb lo (wordAt s at) && leb (wordAt s at) hi) refusal.COUNT)
     (unless (leb (endOf s at width) (words s)) refusal.SHORT))
 
--- "The limits section's count becomes twice the number of vans, 2 to 16, pair by pair": the count is of words, and an odd one is out of its range too
+-- "The limits section's count becomes twice the number of vans, 2 to 16", and with "each van a third number" three times, 3 to 24: the count is of words, and
+-- one that leaves a van with fewer is out of its range too
 unfoldable pub limitsRefusal : List ℕ → ℕ
 limitsRefusal s =
     orElse (unless (ltb vansAt (words s)) refusal.SHORT)

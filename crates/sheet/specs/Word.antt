@@ -5,11 +5,13 @@ use mathlib.Core.List.{List}
 use mathlib.Core.Bool.{Bool, _&&_, _||_, not}
 use lib.ListN.{length, getD}
 use lib.Dec.{leb, eqb}
+use Rattle.rules.specs.Class.{oneBit, classSet}
 use Rattle.rules.specs.Day.{isInner}
 
--- how many words an entry has: a van's "capacity, metre limit", a node's "earliest, latest, service", a job's "kind, a, b, load", a step's "each three words"
+-- how many words an entry has: a van's capacity, metre limit and bit, a node's "earliest, latest, service" and class set, a job's "kind, a, b, load", a
+-- step's "each three words"
 abbrev pub size : record { van : ℕ; node : ℕ; job : ℕ; step : ℕ }
-size = record { van = 2; node = 3; job = 4; step = 3 }
+size = record { van = 3; node = 4; job = 4; step = 3 }
 
 -- how many whole words there are
 abbrev pub words : List ℕ → ℕ
@@ -28,13 +30,13 @@ pub record Reads (v r : ℕ) : Type 0 where
   pub is : r ≡ v
   pub low : r < 2 ^ 32
 
--- "capacity (0 to 1,000), metre limit (0 to 1,000,000)"
-abbrev pub limitsOk : ℕ → ℕ → Bool
-limitsOk capacity limit = leb capacity 1000 && leb limit 1000000
+-- "capacity (0 to 1,000), metre limit (0 to 1,000,000)", and "a third number, one of the eight bits (1, 2, .. 128)"
+abbrev pub limitsOk : ℕ → ℕ → ℕ → Bool
+limitsOk capacity limit bit = leb capacity 1000 && leb limit 1000000 && oneBit bit
 
--- "earliest, latest, service (0 to 1,000,000, earliest ≤ latest)"
-abbrev pub nodeOk : ℕ → ℕ → ℕ → Bool
-nodeOk earliest latest service = leb earliest latest && leb latest 1000000 && leb service 1000000
+-- "earliest, latest, service (0 to 1,000,000, earliest ≤ latest)", and "a fourth word, a class set of 8 bits (1 to 255)"
+abbrev pub nodeOk : ℕ → ℕ → ℕ → ℕ → Bool
+nodeOk earliest latest service set = leb earliest latest && leb latest 1000000 && leb service 1000000 && classSet set
 
 -- "Kinds are 1, 2, 3. For kinds 1 and 2, b is 0. Nodes .. b of a transfer, are between 1 and n−2; a ≠ b in a transfer"
 abbrev pub secondOk : ℕ → ℕ → ℕ → ℕ → Bool
@@ -46,11 +48,11 @@ jobOk n kind a b load = isInner n a && (leb 1 load && leb load 1000) && secondOk
 
 -- the i-th van's limits, where the entries begin at word `from`
 abbrev pub limitsAtOk : List ℕ → ℕ → ℕ → Bool
-limitsAtOk s from i = let p = from + size.van * i in limitsOk (wordAt s p) (wordAt s (p + 1))
+limitsAtOk s from i = let p = from + size.van * i in limitsOk (wordAt s p) (wordAt s (p + 1)) (wordAt s (p + 2))
 
 -- the i-th node, where the entries begin at word `from`
 abbrev pub nodeAtOk : List ℕ → ℕ → ℕ → Bool
-nodeAtOk s from i = let p = from + size.node * i in nodeOk (wordAt s p) (wordAt s (p + 1)) (wordAt s (p + 2))
+nodeAtOk s from i = let p = from + size.node * i in nodeOk (wordAt s p) (wordAt s (p + 1)) (wordAt s (p + 2)) (wordAt s (p + 3))
 
 -- the i-th job, where the entries begin at word `from`
 abbrev pub jobAtOk : List ℕ → ℕ → ℕ → ℕ → Bool

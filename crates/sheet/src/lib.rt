@@ -3,6 +3,7 @@ ghost use mathlib.Core.Path.{_≡_};
 ghost use mathlib.Core.Bool.{cond};
 ghost use Prim.Native.Nat.{_+_, _*_, _<_, _≤_};
 ghost use Rattle.laws.specs.Basic.{allBelow, orElse};
+ghost use Rattle.rules.specs.Class.{oneBit};
 ghost use Rattle.rules.specs.Day.{isInner};
 ghost use Rattle.sheet.specs.Word.{size, words, wordAt, Reads, limitsOk, nodeOk, secondOk, jobOk, limitsAtOk, nodeAtOk, jobAtOk, entryOk};
 ghost use Rattle.sheet.specs.Section.{vansAt, nodesAt, jobsAt, stepsAt, nOf};
@@ -30,9 +31,9 @@ pub struct Layout {
 
 impl Layout {
     // How many words an entry has.
-    pub const VAN: usize = 2;
+    pub const VAN: usize = 3;
 
-    pub const NODE: usize = 3;
+    pub const NODE: usize = 4;
 
     pub const JOB: usize = 4;
 
@@ -157,16 +158,30 @@ fn head(s: &[u8], at: usize, lo: usize, hi: usize, width: usize) -> Part
     }
 }
 
-fn limits_ok(capacity: u32, limit: u32) -> bool
-    ensures { λ r. ⌜ r ≡ limitsOk capacity limit ⌝ }
+// Whether a number is one of the eight bits.
+fn one_bit(bit: u32) -> bool
+    ensures { λ r. ⌜ r ≡ oneBit bit ⌝ }
 {
-    (capacity <= 1000) & (limit <= 1000000)
+    (bit == 1)
+        | (bit == 2)
+        | (bit == 4)
+        | (bit == 8)
+        | (bit == 16)
+        | (bit == 32)
+        | (bit == 64)
+        | (bit == 128)
 }
 
-fn node_ok(earliest: u32, latest: u32, service: u32) -> bool
-    ensures { λ r. ⌜ r ≡ nodeOk earliest latest service ⌝ }
+fn limits_ok(capacity: u32, limit: u32, bit: u32) -> bool
+    ensures { λ r. ⌜ r ≡ limitsOk capacity limit bit ⌝ }
 {
-    (earliest <= latest) & (latest <= 1000000) & (service <= 1000000)
+    (capacity <= 1000) & (limit <= 1000000) & one_bit(bit)
+}
+
+fn node_ok(earliest: u32, latest: u32, service: u32, set: u32) -> bool
+    ensures { λ r. ⌜ r ≡ nodeOk earliest latest service set ⌝ }
+{
+    (earliest <= latest) & (latest <= 1000000) & (service <= 1000000) & ((1 <= set) & (set <= 255))
 }
 
 fn is_inner(n: u32, x: u32) -> bool
@@ -199,7 +214,7 @@ fn limits_at_ok(s: &[u8], from: usize, i: usize) -> bool
     ensures { λ r. ⌜ r ≡ limitsAtOk (now (s .entry)) from i ⌝ }
 {
     let p = from + Layout::VAN * i;
-    limits_ok(word(s, p), word(s, p + 1))
+    limits_ok(word(s, p), word(s, p + 1), word(s, p + 2))
 }
 
 fn all_limits_ok(s: &[u8], from: usize, v: usize) -> bool
@@ -221,7 +236,7 @@ fn node_at_ok(s: &[u8], from: usize, i: usize) -> bool
     ensures { λ r. ⌜ r ≡ nodeAtOk (now (s .entry)) from i ⌝ }
 {
     let p = from + Layout::NODE * i;
-    node_ok(word(s, p), word(s, p + 1), word(s, p + 2))
+    node_ok(word(s, p), word(s, p + 1), word(s, p + 2), word(s, p + 3))
 }
 
 fn nodes_ok(s: &[u8], from: usize, n: usize) -> bool
@@ -320,7 +335,7 @@ fn square(n: usize) -> usize
     n * n
 }
 
-// Section 1, whose count is of words: an odd one is refused before the section is found short.
+// Section 1, whose count is of words: one that leaves a van with too few is refused before the section is found short.
 fn limits(s: &[u8]) -> Part
     ensures { λ r. ⌜ r ≡ partOf (now (s .entry)) vansAt 1 (limitsRefusal (now (s .entry))) ⌝ }
 {

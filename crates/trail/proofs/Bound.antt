@@ -221,21 +221,25 @@ inner-sum n m (suc k) =
     (λ e. let z : min k (n - 1) - 1 ≤ min (suc k) (n - 1) - 1 = omega arith in
     rw e (omega (arith, inner-sum n m k, mul-le-mul-left m z)))
 
-fresh-weight : (n : ℕ) → 2 ≤ n → n ≤ 64 → (y : ℕ) → y < 64 → weight n (freshBoard n) y ≤ cond (isInner n y) n 0
+fresh-weight : (n : ℕ) (may : ℕ → Bool) → 2 ≤ n → n ≤ 64 → (y : ℕ) → y < 64 → weight n (freshBoard n may) y ≤ cond (isInner n y) n 0
 unfolding weight freshSet
-fresh-weight n two small y l =
+fresh-weight n may two small y l =
     decided (isInner n y)
-    (λ e. rw (fresh-set n two small y l, e, fresh-off n two small y e, has-none y, members-first) (omega arith))
+    (λ e. rw (fresh-set n may two small y l, e, fresh-off n may two small y e, has-none y) (most (may y)))
     (λ e. rw e (omega arith))
+  where
+    most : (b : Bool) → price n 2 (cond b 1 0) false ≤ n
+    most true = rw members-first (omega arith)
+    most false = rw (members-none 64) (omega arith)
 
 -- there are n - 2 inner nodes
 inner-all : (n m : ℕ) → 2 ≤ n → n ≤ 64 → sumBelow 64 (λ y. cond (isInner n y) m 0) ≤ m * (n - 2)
 inner-all n m two small = let z : min 64 (n - 1) - 1 ≡ n - 2 = omega arith in rw z at (inner-sum n m 64)
 
-pub fresh-worth : (n : ℕ) → 2 ≤ n → n ≤ 64 → worth n (freshBoard n) ≤ n * (n - 2)
+pub fresh-worth : (n : ℕ) (may : ℕ → Bool) → 2 ≤ n → n ≤ 64 → worth n (freshBoard n may) ≤ n * (n - 2)
 unfolding worth
-fresh-worth n two small =
-    omega (arith, inner-all n n two small, sum-le 64 (weight n (freshBoard n)) (λ y. cond (isInner n y) n 0) (fresh-weight n two small))
+fresh-worth n may two small =
+    omega (arith, inner-all n n two small, sum-le 64 (weight n (freshBoard n may)) (λ y. cond (isInner n y) n 0) (fresh-weight n may two small))
 
 -- ---- at most n - 2 marks "must go somewhere"
 
@@ -261,15 +265,15 @@ runs-since f w h run.none = h
 runs-since {n = n} {b = b} {t₀ = t₀} f w h (run.more {r = q} {u = v} {q = r} {v = u} p m) =
     move-since n b 0 0 [] t₀ q v r u f w (runs-since f w h p) m (omega arith)
 
-module _ (n : ℕ) (two : 2 ≤ n) (small : n ≤ 64) (t : List ℕ) (r : State) (u : List ℕ) (run : Runs n (freshState n) t r u) where
-  fresh-sound : Sound n (freshBoard n)
-  fresh-sound = record { small = small; wide = fresh-wide n two small; form = fresh-formed n two small }
+module _ (n : ℕ) (may : ℕ → Bool) (two : 2 ≤ n) (small : n ≤ 64) (t : List ℕ) (r : State) (u : List ℕ) (run : Runs n (freshState n may) t r u) where
+  fresh-sound : Sound n (freshBoard n may)
+  fresh-sound = record { small = small; wide = fresh-wide n may two small; form = fresh-formed n may two small }
 
-  start : Since n (freshBoard n) 0 0 [] t (freshState n) t
-  start = rw (fresh-is n two small) (record {
+  start : Since n (freshBoard n may) 0 0 [] t (freshState n may) t
+  start = rw (fresh-is n may two small) (record {
     small = small;
-    held = fresh-held n two small;
-    form = fresh-inform n two small;
+    held = fresh-held n may two small;
+    form = fresh-inform n may two small;
     room = omega arith;
     least = omega arith;
     spelled = none;
@@ -281,14 +285,14 @@ module _ (n : ℕ) (two : 2 ≤ n) (small : n ≤ 64) (t : List ℕ) (r : State)
   })
 
   -- what holds of every state reached: it is in form, and its trail spells the way from the fresh board
-  pub reached : Since n (freshBoard n) 0 0 [] t r u
-  reached = runs-since fresh-sound (fresh-held n two small .words) start run
+  pub reached : Since n (freshBoard n may) 0 0 [] t r u
+  reached = runs-since fresh-sound (fresh-held n may two small .words) start run
 
   all-records : worth n (boardOf r) + r .records ≤ n * (n - 2) + members 64 (r .must)
   all-records =
       let z : r .records - 0 ≡ r .records = omega arith in
-      let w : worth n (boardOf r) + r .records + members 64 0 ≤ worth n (freshBoard n) + members 64 (r .must) = rw z at (spells-worth fresh-sound (reached .spelled)) in
-      omega (arith, w, fresh-worth n two small)
+      let w : worth n (boardOf r) + r .records + members 64 0 ≤ worth n (freshBoard n may) + members 64 (r .must) = rw z at (spells-worth fresh-sound (reached .spelled)) in
+      omega (arith, w, fresh-worth n may two small)
 
   sound : Sound n (boardOf r)
   sound = record { small = small; wide = reached .held .wide; form = reached .form .board }

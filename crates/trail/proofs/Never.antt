@@ -56,10 +56,10 @@ shut-roomy n b p x t e = go (isInner n x && legNode n p) (not (onRoute b x)) (on
     go true true true false e = absurd (eqb-false refusal.SHUT refusal.ROOM refl e)
     go true true true true e = (refl, last t e)
 
-module _ (n : ℕ) (two : 2 ≤ n) (small : n ≤ 64) (t : List ℕ) (r : State) (u : List ℕ) (run : Runs n (freshState n) t r u) where
+module _ (n : ℕ) (may : ℕ → Bool) (two : 2 ≤ n) (small : n ≤ 64) (t : List ℕ) (r : State) (u : List ℕ) (run : Runs n (freshState n may) t r u) where
   room-is : roomOf u ≡ roomOf t
   unfolding roomOf
-  room-is = ap (λ (k : ℕ). k / 2) (reached n two small t r u run .long)
+  room-is = ap (λ (k : ℕ). k / 2) (reached n may two small t r u run .long)
 
   -- step 8: its mark is counted
   pub oblige-roomy : (x : ℕ) → n * (n - 2) + members 64 (obliged (boardOf r) x .must) ≤ roomOf t → obligeRefusal n (boardOf r) (r .records) (roomOf u) x ≡ refusal.ROOM → ⊥
@@ -68,7 +68,7 @@ module _ (n : ℕ) (two : 2 ≤ n) (small : n ≤ 64) (t : List ℕ) (r : State)
       let b = boardOf r in
       let i = skip (isInner n x) refusal.NODE _ refl refl e in
       let z = neither (has (r .must) x) (ltb (r .records) (roomOf u)) (last (has (r .must) x || ltb (r .records) (roomOf u)) (i .1)) in
-      let l = record-room n two small t r u run (firstWord change.OBLIGING x) 0 (obliged b x) (obliges x (i .0) (z .0) refl refl refl) in
+      let l = record-room n may two small t r u run (firstWord change.OBLIGING x) 0 (obliged b x) (obliges x (i .0) (z .0) refl refl refl) in
       omega (arith, l, room-is, space, ltb-false (r .records) (roomOf u) (z .1))
 
   -- with room for (n + 1)(n − 2) records any such mark can be set
@@ -76,12 +76,12 @@ module _ (n : ℕ) (two : 2 ≤ n) (small : n ≤ 64) (t : List ℕ) (r : State)
   unfolding obligeRefusal
   oblige-roomy-full space x e =
       let i = skip (isInner n x) refusal.NODE _ refl refl e in
-      let m = must-most n (obliged (boardOf r) x) two small (obliged-formed n (boardOf r) x (reached n two small t r u run .form .board) (i .0)) in
+      let m = must-most n (obliged (boardOf r) x) two small (obliged-formed n (boardOf r) x (reached n may two small t r u run .form .board) (i .0)) in
       oblige-roomy x (omega (arith, space, m, one-more n (n - 2))) e
 
-module _ (n : ℕ) (two : 2 ≤ n) (small : n ≤ 64) (t : List ℕ) (r : State) (u : List ℕ) (run : Runs n (freshState n) t r u) (space : n * (n - 2) + members 64 (r .must) ≤ roomOf t) where
+module _ (n : ℕ) (may : ℕ → Bool) (two : 2 ≤ n) (small : n ≤ 64) (t : List ℕ) (r : State) (u : List ℕ) (run : Runs n (freshState n may) t r u) (space : n * (n - 2) + members 64 (r .must) ≤ roomOf t) where
   room : roomOf u ≡ roomOf t
-  room = room-is n two small t r u run
+  room = room-is n may two small t r u run
 
   pub place-roomy : (p x : ℕ) → placeRefusal n (boardOf r) (r .records) (roomOf u) p x ≡ refusal.ROOM → ⊥
   unfolding placeRefusal
@@ -89,7 +89,7 @@ module _ (n : ℕ) (two : 2 ≤ n) (small : n ≤ 64) (t : List ℕ) (r : State)
       let b = boardOf r in
       let z = shut-roomy n b p x (ltb (r .records) (roomOf u)) e in
       let w = not-shut n b p x (z .0) in
-      let l = record-room n two small t r u run (firstWord change.PLACING x) (setOf b x) (placedAfter b p x) (places p x (w .0) (w .1) refl refl refl) in
+      let l = record-room n may two small t r u run (firstWord change.PLACING x) (setOf b x) (placedAfter b p x) (places p x (w .0) (w .1) refl refl refl) in
       omega (arith, l, ap (members 64) (placed-marks b p x .1), room, space, ltb-false (r .records) (roomOf u) (z .1))
 
   pub exclude-roomy : (owed : Bool) (x : ℕ) → excludeRefusal n (boardOf r) (r .records) (roomOf u) owed x ≡ refusal.ROOM → ⊥
@@ -100,8 +100,8 @@ module _ (n : ℕ) (two : 2 ≤ n) (small : n ≤ 64) (t : List ℕ) (r : State)
       let o = skip (not (onRoute b x)) refusal.PLACED _ refl refl (i .1) in
       let q = skip (not owed) refusal.OWED _ refl refl (o .1) in
       let z = neither (eqb (setOf b x) 0) (ltb (r .records) (roomOf u)) (last (eqb (setOf b x) 0 || ltb (r .records) (roomOf u)) (q .1)) in
-      let h = reached n two small t r u run .held .words .fits x (omega (arith, is-inner n x (i .0) .1, small)) in
-      let l = record-room n two small t r u run (firstWord change.SHRINKING x) (setOf b x) (putSet b x 0)
+      let h = reached n may two small t r u run .held .words .fits x (omega (arith, is-inner n x (i .0) .1, small)) in
+      let l = record-room n may two small t r u run (firstWord change.SHRINKING x) (setOf b x) (putSet b x 0)
       (shrinks x 0 (record { node = i .0; off = not-true (onRoute b x) (o .0) }) (strict 0 (setOf b x) (omega arith) h (within-none (setOf b x)) (eqb-false (setOf b x) 0 (z .0))) (omega arith) refl refl refl) in
       omega (arith, l, ap (members 64) (put-marks b x 0 .1), room, space, ltb-false (r .records) (roomOf u) (z .1))
 
@@ -112,7 +112,7 @@ module _ (n : ℕ) (two : 2 ≤ n) (small : n ≤ 64) (t : List ℕ) (r : State)
       let i = skip (isInner n x) refusal.NODE _ refl refl e in
       let o = skip (not (onRoute b x)) refusal.PLACED _ refl refl (i .1) in
       let z = neither (has (r .marks) x) (ltb (r .records) (roomOf u)) (last (has (r .marks) x || ltb (r .records) (roomOf u)) (o .1)) in
-      let l = record-room n two small t r u run (firstWord change.MARKING x) 0 (marked b x)
+      let l = record-room n may two small t r u run (firstWord change.MARKING x) 0 (marked b x)
       (marks x (record { node = i .0; off = not-true (onRoute b x) (o .0) }) (z .0) refl refl refl) in
       omega (arith, l, ap (members 64) (mark-must b x), room, space, ltb-false (r .records) (roomOf u) (z .1))
 
@@ -122,14 +122,14 @@ module _ (n : ℕ) (two : 2 ≤ n) (small : n ≤ 64) (t : List ℕ) (r : State)
         arith,
         room,
         space,
-        settle-room n two small t r u run new g,
+        settle-room n may two small t r u run new g,
         leb-false (r .records + shrunk (r .sets) new 64) (roomOf u) (last (leb (r .records + shrunk (r .sets) new 64) (roomOf u)) e),
       )
 
   -- the records stay within the trail's room
   pub records-room : r .records ≤ roomOf u
-  records-room = reached n two small t r u run .room
+  records-room = reached n may two small t r u run .room
 
   -- every record above the last level fits
   pub back-fitting : 0 < r .depth → unless (undoLevel n r u .0) refusal.MISFIT ≡ 0
-  back-fitting h = rw (reached-fits n two small t r u run h)
+  back-fitting h = rw (reached-fits n may two small t r u run h)

@@ -103,7 +103,8 @@ fn must_go(change: &mut Change, x: usize) {
 fn settling(sheet: &Sheet, change: &mut Change, van: usize) {
     let (settled, rounds) = settle(sheet, van, &change.fleet.vans[van]);
     for x in 0..64 {
-        narrow(change, van, x, settled.sets[x]);
+        let by_class = slips::on(slips::SETTLING_READS_CLASSES) && x < sheet.n() && !sheet.admits(x, van);
+        narrow(change, van, x, if by_class { 0 } else { settled.sets[x] });
     }
     change.rounds = rounds;
 }

@@ -4,20 +4,29 @@ use crate::fleet::{in_form, Fleet};
 use crate::sheet::{self, Sheet};
 use crate::slips;
 use crate::verdict::alive;
+use crate::whole;
 
 /// The refusal or 0, and the fleet beside it.
 pub fn open(bytes: &[u8]) -> (u64, Fleet) {
-    let late = slips::SIX_AFTER_5;
-    match sheet::read_unless(late, bytes) {
+    match opened(bytes) {
+        Ok(sheet) => (0, Fleet::fresh(&sheet)),
         Err(number) => (number, Fleet::zero()),
-        Ok(sheet) if sheet::triangle_broken(&sheet) => (5, Fleet::zero()),
-        Ok(sheet) if slips::on(late) && sheet::never_rides(&sheet) => (6, Fleet::zero()),
-        Ok(sheet) => (0, Fleet::fresh(sheet.n(), sheet.v())),
     }
 }
 
+fn opened(bytes: &[u8]) -> Result<Sheet, u64> {
+    let sheet = sheet::read_unless([slips::SIX_AFTER_5, slips::SEVEN_AFTER_5], bytes)?;
+    if whole::triangle_broken(&sheet) {
+        return Err(5);
+    }
+    // Only what a slip left for later can still be met here.
+    whole::judge(&sheet, [slips::NONE; 2])?;
+    Ok(sheet)
+}
+
 fn asked(bytes: &[u8], fleet: &Fleet) -> Result<Sheet, u64> {
-    let sheet = sheet::read_unless(slips::ONLY_OPENING_ASKS_6, bytes)?;
+    let left_out = [slips::ONLY_OPENING_ASKS_6, slips::A_QUESTION_DOES_NOT_ASK_7];
+    let sheet = sheet::read_unless(left_out, bytes)?;
     if !in_form(&sheet, fleet, None) {
         return Err(19);
     }

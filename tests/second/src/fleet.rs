@@ -19,10 +19,25 @@ impl Fleet {
         Fleet { vans: std::array::from_fn(|_| State::zero()), must: 0 }
     }
 
-    /// `vans` fresh states for n nodes.
-    pub fn fresh(n: usize, vans: usize) -> Fleet {
+    /// So many idle vans over n nodes, every ward open in each.
+    pub fn all_open(n: usize, vans: usize) -> Fleet {
         let mut fleet = Fleet::zero();
-        fleet.vans[..vans].fill(State::fresh(n));
+        fleet.vans[..vans].fill(State::all_open(n));
+        fleet
+    }
+
+    /// As opening makes it: a ward is open in the vans that it admits.
+    pub fn fresh(sheet: &Sheet) -> Fleet {
+        let mut fleet = Fleet::all_open(sheet.n(), sheet.v());
+        if slips::on(slips::FRESH_OPENS_WHAT_THE_SET_LACKS) {
+            return fleet;
+        }
+        for van in 0..sheet.v() {
+            let asked = if slips::on(slips::FRESH_READS_THE_BIT_OF_THE_FIRST_VAN) { 0 } else { van };
+            for x in (1..sheet.n() - 1).filter(|&x| !sheet.admits(x, asked)) {
+                fleet.vans[van].sets[x] = 0;
+            }
+        }
         fleet
     }
 
@@ -63,6 +78,17 @@ pub fn in_form(sheet: &Sheet, fleet: &Fleet, room: Option<u64>) -> bool {
         && vans.iter().all(|state| state.level_count == vans[0].level_count)
         && (0..64).all(|x| !bit(fleet.must, x) || (x >= 1 && x + 2 <= sheet.n()))
         && apart(sheet, fleet)
+        && !(slips::on(slips::CLASSES_IN_THE_FORM) && handed_in(sheet, fleet))
+}
+
+/// Some van has a ward on its route, or open, that does not admit it: no steps from fresh lead
+/// there, but the form does not ask.
+pub fn handed_in(sheet: &Sheet, fleet: &Fleet) -> bool {
+    (0..sheet.v()).any(|van| {
+        let state = &fleet.vans[van];
+        let held = |x: usize| state.on_route(x) || state.sets[x] != 0;
+        (1..sheet.n() - 1).any(|x| held(x) && !sheet.admits(x, van))
+    })
 }
 
 /// No ward on a route is on or open in another van.

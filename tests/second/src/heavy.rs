@@ -1,13 +1,11 @@
 //! What a run must have met of loads that can never ride, and of loads that just can.
 
 use crate::facts::Facts;
-use crate::fleet::in_form;
-use crate::probe::{Case, STEP};
-use crate::sheet::{never_rides, read_unweighed, read_values, triangle_broken, Job, Sheet};
+use crate::refused::Names;
+use crate::sheet::{read_values, Job, Sheet};
 use crate::state::State;
-use crate::step::step_on;
 use crate::tally::Tally;
-use crate::trail::room;
+use crate::whole::{never_rides, triangle_broken};
 
 const FOUR: &str = "load: 4 beside a load above every capacity";
 const TRIANGLE: &str = "load: 6 beside a broken triangle";
@@ -39,15 +37,19 @@ pub const OF_SHEETS: &[&str] = &[
     NO_JOBS,
 ];
 
-const STEP_ALONE: &str = "load: 6 for a step that would run otherwise";
-const STEP_FORM: &str = "load: 6 for a step beside a fleet out of form";
-const ASKED_ALONE: &str = "load: 6 for a question about a fleet in form";
-const ASKED_FORM: &str = "load: 6 for a question about a fleet out of form";
+/// Of steps and questions that 6 refuses.
+pub const REFUSED: Names = Names {
+    step_alone: "load: 6 for a step that would run otherwise",
+    step_form: "load: 6 for a step beside a fleet out of form",
+    asked_alone: "load: 6 for a question about a fleet in form",
+    asked_form: "load: 6 for a question about a fleet out of form",
+};
+
 const JUST_FITS: &str = "load: settling a lone van, a job just fits beside others";
 const BY_ONE_TOO_MUCH: &str = "load: settling a lone van, a job beside others is 1 too much";
 
-/// Of steps, open places and verdict.
-pub const OF_CALLS: &[&str] = &[STEP_ALONE, STEP_FORM, ASKED_ALONE, ASKED_FORM, JUST_FITS, BY_ONE_TOO_MUCH];
+/// Of settling.
+pub const OF_SETTLING: &[&str] = &[JUST_FITS, BY_ONE_TOO_MUCH];
 
 /// Of a sheet and what opening it answers.
 pub fn note_opened(tally: &mut Tally, bytes: &[u8], answer: u64) {
@@ -69,17 +71,13 @@ fn note_carried(tally: &mut Tally, sheet: &Sheet) {
         return;
     };
     let carriers: Vec<usize> = (0..=last).filter(|&van| sheet.van(van).capacity >= load).collect();
-    for (name, holds) in [
+    tally.add_held([
         (EQUAL, load == most),
         (NOT_THE_FIRST, carriers[0] > 0),
         (LAST_VAN, last > 0 && carriers == [last]),
         (FIRST_VAN, last > 0 && carriers == [0]),
         (TOGETHER, sheet.jobs.iter().map(|job| job.load).sum::<i64>() > most),
-    ] {
-        if holds {
-            tally.add(name);
-        }
-    }
+    ]);
 }
 
 fn note_refused(tally: &mut Tally, sheet: &Sheet) {
@@ -95,24 +93,6 @@ fn note_refused(tally: &mut Tally, sheet: &Sheet) {
         }
         if at > 0 && at + 1 == sheet.jobs.len() {
             tally.add(LAST_JOB);
-        }
-    }
-}
-
-/// Of a step or a question that 6 refuses: what it would meet without 6.
-pub fn note_call(tally: &mut Tally, case: &Case) {
-    let Ok(sheet) = read_unweighed(&case.bytes) else { return };
-    let of_step = case.question == STEP;
-    let room = of_step.then(|| room(case.trail.len(), sheet.v()));
-    let formed = in_form(&sheet, &case.fleet, room);
-    match (of_step, formed) {
-        (true, false) => tally.add(STEP_FORM),
-        (false, false) => tally.add(ASKED_FORM),
-        (false, true) => tally.add(ASKED_ALONE),
-        (true, true) => {
-            if step_on(&sheet, &case.fleet, &case.trail, case.words).answer == 0 {
-                tally.add(STEP_ALONE);
-            }
         }
     }
 }

@@ -1,8 +1,11 @@
 //! The second program: the planner of 01 once more, in the plainest way, from 01 and the requests
-//! that have landed (02, No. 1, 3 and 5) alone.
+//! that have landed (02, No. 1, 3, 5 and 7) alone.
 
 pub mod check;
 pub mod choices;
+pub mod class_calls;
+pub mod class_words;
+pub mod classes;
 pub mod compare;
 pub mod doors;
 pub mod effect;
@@ -16,6 +19,7 @@ pub mod listing;
 pub mod options;
 pub mod papers;
 pub mod probe;
+pub mod refused;
 pub mod rng;
 pub mod rounds;
 pub mod settle;
@@ -29,3 +33,4 @@ pub mod text;
 pub mod trail;
 pub mod undo;
 pub mod verdict;
+pub mod whole;

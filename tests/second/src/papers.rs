@@ -1,4 +1,4 @@
-//! 01's own examples, with the numbers that 02 (No. 3 and 5) gives them: the listing, P1 to P12, and
+//! 01's own examples, with the numbers that 02 (No. 3, 5 and 7) gives them: the listing, P1 to P12, and
 //! the examples that are run only.
 
 use crate::face;
@@ -13,7 +13,8 @@ use crate::step::step;
 use crate::text::to_bytes;
 use crate::verdict::van_alive;
 
-pub const SHEET: &str = "2 2 60 | 4, 0 0 0, 0 100 5, 0 25 5, 0 100 0 | 1, 3 1 2 2 \
+/// With one van of class 1 and class set 1 at every node (02, No. 7): nothing else of the day changes.
+pub const SHEET: &str = "3 2 60 1 | 4, 0 0 0 1, 0 100 5 1, 0 25 5 1, 0 100 0 1 | 1, 3 1 2 2 \
     | 16, 0 10 20 30 10 0 10 20 20 10 0 10 30 20 10 0 | 16, 0 10 20 30 10 0 10 20 20 10 0 10 30 20 10 0 \
     | 8, 5 0 0, 6 0 0, 1 0 2, 5 0 0, 1 2 1, 1 0 1, 5 0 0, 7 0 0";
 
@@ -30,10 +31,11 @@ route 0 3
 ";
 
 /// Words of the sheet that the examples alter.
-const CAPACITY: usize = 1;
-const LIMIT: usize = 2;
-const LATEST_2: usize = 11;
-const LATEST_3: usize = 14;
+pub const CAPACITY: usize = 1;
+pub const LIMIT: usize = 2;
+pub const NODES: usize = 4;
+pub const LATEST_2: usize = 14;
+pub const LATEST_3: usize = 18;
 
 pub fn bytes_with(changes: &[(usize, u32)]) -> Vec<u8> {
     let mut bytes = to_bytes(SHEET).expect("01's own text");
@@ -53,6 +55,10 @@ fn placed_two(sheet_bytes: &[u8]) -> State {
     step(sheet_bytes, &fresh, &[0; 32], [1, 0, 2]).fleet.vans[0].clone()
 }
 
+fn fresh(sheet: &Sheet) -> State {
+    Fleet::fresh(sheet).vans[0].clone()
+}
+
 fn route_facts(changes: &[(usize, u32)]) -> Facts {
     Facts::of(&sheet_with(changes), 0, &placed_two(&bytes_with(changes)))
 }
@@ -60,7 +66,7 @@ fn route_facts(changes: &[(usize, u32)]) -> Facts {
 /// Open sets of nodes 1 and 2, rounds and verdict once the fresh state is settled.
 fn fresh_settled(changes: &[(usize, u32)]) -> (u64, u64, u64, bool) {
     let sheet = sheet_with(changes);
-    let (state, rounds) = settle(&sheet, 0, &State::fresh(4));
+    let (state, rounds) = settle(&sheet, 0, &fresh(&sheet));
     (state.sets[1], state.sets[2], rounds, van_alive(&sheet, 0, &state))
 }
 
@@ -72,7 +78,7 @@ fn one_left_after_two_placed(changes: &[(usize, u32)]) -> u64 {
 pub fn table() -> Vec<(&'static str, bool)> {
     let p11 = sheet_with(&[(LATEST_3, 10)]);
     let p12 = sheet_with(&[]);
-    let rounds = rounds_of(4, &State::fresh(4));
+    let rounds = rounds_of(4, &fresh(&p12));
     let kept: Vec<_> = rounds.iter().filter(|r| keeps_rules(&p12, 0, r)).cloned().collect();
     vec![
         ("listing", listing(&bytes_with(&[])) == LISTING),
@@ -86,7 +92,7 @@ pub fn table() -> Vec<(&'static str, bool)> {
         ("P8", p8()),
         ("P9", p9()),
         ("P10", fresh_settled(&[(LATEST_2, 19)]) == (0, 0, 2, true)),
-        ("P11", Facts::of(&p11, 0, &State::fresh(4)).l[0] == -20 && !van_alive(&p11, 0, &State::fresh(4))),
+        ("P11", Facts::of(&p11, 0, &fresh(&p11)).l[0] == -20 && !van_alive(&p11, 0, &fresh(&p11))),
         ("P12", rounds.len() == 5 && kept == [vec![0, 3]]),
     ]
 }
@@ -112,17 +118,18 @@ fn p9() -> bool {
 
 /// The examples that 01 marks as run only, and capacity 1, which was P9 before 02 (No. 5).
 pub fn run_only() -> Vec<(&'static str, bool)> {
-    let two = to_bytes("2 0 0 | 2, 0 0 0, 0 9 0 | 0 | 4, 0 1 1 0 | 4, 0 0 0 0 | 3, 5 0 0, 1 0 1, 3 1 0")
-        .expect("text");
+    let two =
+        to_bytes("3 0 0 1 | 2, 0 0 0 1, 0 9 0 1 | 0 | 4, 0 1 1 0 | 4, 0 0 0 0 | 3, 5 0 0, 1 0 1, 3 1 0")
+            .expect("text");
     let listed = "step 1 answer 0 open 0 records 0 rounds 0 alive 1\n\
         step 2 answer 12 open 0 records 0 rounds 0 alive 1\n\
         step 3 answer 12 open 0 records 0 rounds 0 alive 1\nroute 0 1\n";
     let bytes = bytes_with(&[]);
-    let fresh = Fleet::fresh(4, 1);
+    let fresh = face::open(&bytes).1;
     let too_small = bytes_with(&[(CAPACITY, 1)]);
     vec![
         ("empty input", face::open(&[]).0 == 1 && listing(&[]) == "refused 1\n"),
-        ("65 nodes", face::open(&bytes_with(&[(3, 65)])).0 == 2),
+        ("65 nodes", face::open(&bytes_with(&[(NODES, 65)])).0 == 2),
         ("2 nodes", listing(&two) == listed),
         ("capacity 1", face::open(&too_small).0 == 6 && listing(&too_small) == "refused 6\n"),
         (

@@ -1,12 +1,15 @@
-//! The day sheet as numbers, and refusals 1 to 4 and 6.
+//! The day sheet as numbers, and refusals 1 to 3. Those of the sheet as a whole stand in `whole.rs`.
 
 use crate::slips;
+use crate::whole;
 
 pub struct Node {
     pub earliest: i64,
     /// The door is shut then: the service must be over.
     pub latest: i64,
     pub service: i64,
+    /// The bits of the van classes that may come here.
+    pub classes: i64,
 }
 
 /// Kind 1 clean, 2 soiled, 3 transfer, as the sheet writes them; b is 0 but for a transfer.
@@ -20,6 +23,8 @@ pub struct Job {
 pub struct Van {
     pub capacity: i64,
     pub limit: i64,
+    /// Its class, one of the eight bits.
+    pub bit: i64,
 }
 
 pub struct Sheet {
@@ -64,6 +69,10 @@ impl Sheet {
     pub fn metres(&self, from: usize, to: usize) -> i64 {
         self.metres[from * self.n() + to]
     }
+    /// May the van come to the node?
+    pub fn admits(&self, node: usize, van: usize) -> bool {
+        self.nodes[node].classes & self.vans[van].bit != 0
+    }
     /// The last moment to start at a node: latest less service. Below 0 where the service alone
     /// takes longer than that.
     pub fn last_moment(&self, node: usize) -> i64 {
@@ -80,8 +89,10 @@ impl Sheet {
     }
 }
 
-pub const PROGRAM_BYTES: usize = 60_104;
+pub const PROGRAM_BYTES: usize = 60_392;
 const MILLION: i64 = 1_000_000;
+/// The eight classes.
+const BITS: [i64; 8] = [1, 2, 4, 8, 16, 32, 64, 128];
 
 pub fn words(bytes: &[u8]) -> Vec<i64> {
     bytes.chunks_exact(4).map(|c| i64::from(u32::from_le_bytes([c[0], c[1], c[2], c[3]]))).collect()
@@ -109,27 +120,44 @@ fn within(value: i64, low: i64, high: i64) -> Result<i64, u64> {
     Ok(value)
 }
 
-/// Capacity and metre limit, pair by pair. An odd count is as much out of range as 0 or 18.
+/// Three numbers a van. A count that three does not divide is as much out of range as 0 or 27.
 fn vans(w: &[i64], at: &mut usize) -> Result<((usize, usize), Vec<Van>), u64> {
-    if w.first().is_some_and(|count| count % 2 == 1) {
+    let no_threes = w.first().is_some_and(|count| count % 3 != 0);
+    if no_threes && !slips::on(slips::LIMITS_SHORT_BEFORE_THEIR_COUNT) {
         return Err(2);
     }
-    let span = section(w, at, 2, 16, 1)?;
-    let pair = |c: &[i64]| -> Result<Van, u64> {
-        Ok(Van { capacity: within(c[0], 0, 1000)?, limit: within(c[1], 0, MILLION)? })
-    };
-    let vans = w[span.0..span.1].chunks(2).map(pair).collect::<Result<_, _>>()?;
+    let span = section(w, at, 3, 24, 1)?;
+    if no_threes {
+        return Err(2);
+    }
+    let vans = w[span.0..span.1].chunks(3).map(van).collect::<Result<_, _>>()?;
     Ok((span, vans))
 }
 
+fn van(w: &[i64]) -> Result<Van, u64> {
+    let van = Van { capacity: within(w[0], 0, 1000)?, limit: within(w[1], 0, MILLION)?, bit: w[2] };
+    let two_taken =
+        slips::on(slips::TWO_BITS_TAKEN) && (0..256).contains(&van.bit) && van.bit.count_ones() == 2;
+    if !BITS.contains(&van.bit) && !two_taken {
+        return Err(3);
+    }
+    Ok(van)
+}
+
 fn node(w: &[i64]) -> Result<Node, u64> {
-    let node = Node {
+    let least = i64::from(!slips::on(slips::CLASS_SET_0_TAKEN));
+    let most = 255 + i64::from(slips::on(slips::CLASS_SET_256_TAKEN));
+    let mut node = Node {
         earliest: within(w[0], 0, MILLION)?,
         latest: within(w[1], 0, MILLION)?,
         service: within(w[2], 0, MILLION)?,
+        classes: within(w[3], least, most)?,
     };
     if node.earliest > node.latest {
         return Err(3);
+    }
+    if slips::on(slips::CLASSES_FROM_THE_SERVICE) {
+        node.classes = node.service;
     }
     Ok(node)
 }
@@ -149,30 +177,25 @@ fn table(w: &[i64]) -> Result<Vec<i64>, u64> {
     w.iter().map(|&v| within(v, 0, MILLION)).collect()
 }
 
-/// A sheet that 1 to 4 and 6 let pass; the triangles (5) are judged elsewhere, by opening alone.
+/// A sheet that 1 to 4, 6 and 7 let pass; the triangles (5) are judged elsewhere, by opening alone.
 pub fn read(bytes: &[u8]) -> Result<Sheet, u64> {
-    let sheet = read_unweighed(bytes)?;
-    if never_rides(&sheet) {
-        return Err(6);
-    }
+    read_unless([slips::NONE; 2], bytes)
+}
+
+/// The same for a call that, by one of these slips, would not ask 6 or would not ask 7.
+pub fn read_unless(slips: [u64; 2], bytes: &[u8]) -> Result<Sheet, u64> {
+    let sheet = read_unjudged(bytes)?;
+    whole::judge(&sheet, slips)?;
     Ok(sheet)
 }
 
-/// The same for a call that, by this slip, would not ask 6.
-pub fn read_unless(slip: u64, bytes: &[u8]) -> Result<Sheet, u64> {
-    if slips::on(slip) {
-        return read_unweighed(bytes);
-    }
-    read(bytes)
-}
-
 /// A sheet that 1 to 4 let pass.
-pub fn read_unweighed(bytes: &[u8]) -> Result<Sheet, u64> {
+pub fn read_unjudged(bytes: &[u8]) -> Result<Sheet, u64> {
     let sheet = read_values(bytes)?;
-    if slips::on(slips::SIX_BEFORE_4) && never_rides(&sheet) {
+    if slips::on(slips::SIX_BEFORE_4) && whole::never_rides(&sheet) {
         return Err(6);
     }
-    if doubled(&sheet.jobs) {
+    if whole::doubled(&sheet.jobs) {
         return Err(4);
     }
     Ok(sheet)
@@ -186,8 +209,8 @@ pub fn read_values(bytes: &[u8]) -> Result<Sheet, u64> {
     let w = words(bytes);
     let mut at = 0;
     let (limits, vans) = vans(&w, &mut at)?;
-    let of_nodes = section(&w, &mut at, 2, 64, 3)?;
-    let nodes: Vec<Node> = w[of_nodes.0..of_nodes.1].chunks(3).map(node).collect::<Result<_, _>>()?;
+    let of_nodes = section(&w, &mut at, 2, 64, 4)?;
+    let nodes: Vec<Node> = w[of_nodes.0..of_nodes.1].chunks(4).map(node).collect::<Result<_, _>>()?;
     let n = nodes.len() as i64;
     let of_jobs = section(&w, &mut at, 0, 155, 4)?;
     let jobs: Vec<Job> = w[of_jobs.0..of_jobs.1].chunks(4).map(|c| job(c, n)).collect::<Result<_, _>>()?;
@@ -205,63 +228,12 @@ pub fn read_values(bytes: &[u8]) -> Result<Sheet, u64> {
     Ok(Sheet { vans, nodes, jobs, seconds, metres, steps, spans })
 }
 
-/// Two jobs of one kind at a node, where both ends of a transfer count.
-fn doubled(jobs: &[Job]) -> bool {
-    for (i, one) in jobs.iter().enumerate() {
-        for other in &jobs[i + 1..] {
-            if one.kind != other.kind {
-                continue;
-            }
-            let shared = if one.kind == 3 {
-                one.a == other.a || one.a == other.b || one.b == other.a || one.b == other.b
-            } else {
-                one.a == other.a
-            };
-            if shared {
-                return true;
-            }
-        }
-    }
-    false
-}
-
-/// Refusal 6: some job, taken alone, is above what any van can take.
-pub fn never_rides(sheet: &Sheet) -> bool {
-    let most = sheet.largest_capacity();
-    if slips::on(slips::LOADS_TOGETHER_FOR_6) {
-        return sheet.jobs.iter().map(|job| job.load).sum::<i64>() > most;
-    }
-    let just_full = slips::on(slips::AT_LEAST_FOR_ABOVE_IN_6);
-    sheet.jobs.iter().any(|job| job.load > most || (just_full && job.load == most))
-}
-
-/// Refusal 5: some three different nodes where the way round is shorter than the way itself.
-pub fn triangle_broken(sheet: &Sheet) -> bool {
-    let n = sheet.n();
-    for i in 0..n {
-        for j in 0..n {
-            for k in 0..n {
-                if i == j || j == k || i == k {
-                    continue;
-                }
-                if sheet.seconds(i, k) > sheet.seconds(i, j) + sheet.seconds(j, k) {
-                    return true;
-                }
-                if sheet.metres(i, k) > sheet.metres(i, j) + sheet.metres(j, k) {
-                    return true;
-                }
-            }
-        }
-    }
-    false
-}
-
 /// The bytes of one section's entries.
 pub fn stretch(bytes: &[u8], number: u64) -> &[u8] {
     if !(1..=6).contains(&number) {
         return &[];
     }
-    match read_unless(slips::SECTION_DOES_NOT_ASK_6, bytes) {
+    match read_unless([slips::SECTION_DOES_NOT_ASK_6, slips::SECTION_DOES_NOT_ASK_7], bytes) {
         Ok(sheet) => {
             let (begin, end) = sheet.spans[number as usize - 1];
             &bytes[4 * begin..4 * end]

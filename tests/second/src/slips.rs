@@ -1,7 +1,7 @@
-//! Wrong variants on purpose. The slips that 01 names, those that a fleet, a shut door and loads
-//! that can never ride invite, and a few more, can be switched on in `listing`, `probe` and `check`
-//! by SECOND_BREAK, so that one can see the comparison and the checks fail. Nothing else reads the
-//! switch: the side that judges is never broken.
+//! Wrong variants on purpose. The slips that 01 names, those that a fleet, a shut door, loads that
+//! can never ride and van classes invite, and a few more, can be switched on in `listing`, `probe`
+//! and `check` by SECOND_BREAK, so that one can see the comparison and the checks fail. Nothing else
+//! reads the switch: the side that judges is never broken.
 
 use std::sync::atomic::{AtomicU64, Ordering};
 
@@ -46,7 +46,28 @@ pub const ONLY_OPENING_ASKS_6: u64 = 38;
 pub const SECTION_DOES_NOT_ASK_6: u64 = 39;
 pub const LOADS_TOGETHER_FOR_6: u64 = 40;
 pub const CAPACITIES_TOGETHER_FOR_6: u64 = 41;
-pub const LAST: u64 = 41;
+pub const CLASS_SET_0_TAKEN: u64 = 42;
+pub const CLASS_SET_256_TAKEN: u64 = 43;
+pub const TWO_BITS_TAKEN: u64 = 44;
+pub const SEVEN_BEFORE_6: u64 = 45;
+pub const SEVEN_AFTER_5: u64 = 46;
+pub const SEVEN_OF_THE_FIRST_VAN_ONLY: u64 = 47;
+pub const SEVEN_OF_THE_START_ONLY: u64 = 48;
+pub const SECTION_DOES_NOT_ASK_7: u64 = 49;
+pub const A_STEP_DOES_NOT_ASK_7: u64 = 50;
+pub const FRESH_OPENS_WHAT_THE_SET_LACKS: u64 = 51;
+pub const CLASSES_FROM_THE_SERVICE: u64 = 52;
+pub const FRESH_READS_THE_BIT_OF_THE_FIRST_VAN: u64 = 53;
+pub const SEVEN_OF_WARDS_TOO: u64 = 54;
+pub const A_QUESTION_DOES_NOT_ASK_7: u64 = 55;
+pub const LIMITS_SHORT_BEFORE_THEIR_COUNT: u64 = 56;
+pub const CLASSES_IN_THE_FORM: u64 = 57;
+pub const SETTLING_READS_CLASSES: u64 = 58;
+pub const VERDICT_READS_CLASSES: u64 = 59;
+pub const REQUIRING_READS_CLASSES: u64 = 60;
+pub const LAST: u64 = 60;
+/// No number that SECOND_BREAK names: what hangs on it is never left out.
+pub const NONE: u64 = u64::MAX;
 
 static SLIP: AtomicU64 = AtomicU64::new(0);
 

@@ -28,7 +28,8 @@ impl State {
         }
     }
 
-    pub fn fresh(n: usize) -> State {
+    /// Route 0, n−1, and every ward open: fresh, where every ward admits the van.
+    pub fn all_open(n: usize) -> State {
         let mut state = State::zero();
         state.route[1] = n as u64 - 1;
         state.stops = 2;

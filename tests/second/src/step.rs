@@ -7,6 +7,7 @@ use crate::slips;
 use crate::state::{bit, State};
 use crate::trail::{part, room};
 use crate::verdict::owed;
+use crate::whole;
 
 pub struct Outcome {
     pub answer: u64,
@@ -30,8 +31,8 @@ impl Step {
 }
 
 pub fn step(bytes: &[u8], fleet: &Fleet, trail: &[u64], words: [u64; 3]) -> Outcome {
-    match sheet::read_unless(slips::ONLY_OPENING_ASKS_6, bytes) {
-        Ok(sheet) if slips::on(slips::FIVE_ON_A_STEP) && sheet::triangle_broken(&sheet) => {
+    match sheet::read_unless([slips::ONLY_OPENING_ASKS_6, slips::A_STEP_DOES_NOT_ASK_7], bytes) {
+        Ok(sheet) if slips::on(slips::FIVE_ON_A_STEP) && whole::triangle_broken(&sheet) => {
             refused(5, fleet, trail)
         }
         Ok(sheet) => step_on(&sheet, fleet, trail, words),
@@ -102,6 +103,11 @@ fn named(sheet: &Sheet, fleet: &Fleet, step: &Step) -> Result<(), u64> {
     in_range(sheet, step)?;
     match step.kind {
         1 | 2 => place_named(&fleet.vans[step.van as usize], step.first as usize, step.second as usize),
+        4 if slips::on(slips::REQUIRING_READS_CLASSES)
+            && !sheet.admits(step.first as usize, step.van as usize) =>
+        {
+            Err(15)
+        }
         3 | 4 => off_route(&fleet.vans[step.van as usize], step.first as usize),
         8 if slips::on(slips::MUST_ON_THE_ROUTE_REFUSED) => off_route(&fleet.vans[0], step.first as usize),
         _ => Ok(()),

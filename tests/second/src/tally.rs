@@ -16,6 +16,13 @@ impl Tally {
         *self.counts.entry(name.into()).or_insert(0) += 1;
     }
 
+    /// Those of the names that hold.
+    pub fn add_held<const N: usize>(&mut self, names: [(&str, bool); N]) {
+        for (name, _) in names.iter().filter(|one| one.1) {
+            self.add(*name);
+        }
+    }
+
     pub fn count(&self, name: &str) -> u64 {
         self.counts.get(name).copied().unwrap_or(0)
     }

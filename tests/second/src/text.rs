@@ -1,6 +1,6 @@
 //! The text form of 01: numbers, with commas, bars and spaces between them. A `#` starts a
 //! remark that runs to the end of its line, so that a sample can say what it is about. The
-//! limits of several vans stand pair by pair; one van's stand as 01 has them.
+//! limits of several vans stand van by van; one van's stand in a row, as 01 has them.
 
 use crate::sheet::words;
 
@@ -34,7 +34,10 @@ fn word(token: &str) -> Result<u32, String> {
 }
 
 /// Words that each section's count counts, grouped between commas; 0 is no commas within.
-const WIDTHS: [usize; 6] = [0, 3, 4, 0, 0, 3];
+const WIDTHS: [usize; 6] = [0, 4, 4, 0, 0, 3];
+
+/// Numbers of a van in the limits.
+const A_VAN: usize = 3;
 
 /// Bytes to text, as 01 prints its sheet, in one line; or, `long`, a line for each section and
 /// row. What does not read as sections follows as plain numbers, so nothing is lost.
@@ -55,15 +58,15 @@ pub fn from_bytes(bytes: &[u8], long: bool) -> Result<String, String> {
         if i == 1 {
             n = count as usize;
         }
-        let pairs = i == 0 && count > 2;
-        let row = if long && pairs {
+        let several = i == 0 && count > A_VAN as i64;
+        let row = if long && several {
             1
         } else if long {
             n
         } else {
             0
         };
-        parts.push(section(&rest[..length], if pairs { 2 } else { *width }, row));
+        parts.push(section(&rest[..length], if several { A_VAN } else { *width }, row));
         rest = &rest[length..];
     }
     if !rest.is_empty() {
@@ -87,7 +90,7 @@ fn section(words: &[i64], width: usize, row: usize) -> String {
             .collect::<Vec<_>>()
             .join(&format!(",{gap}"));
     }
-    if entries.len() <= 2 {
+    if entries.len() <= A_VAN {
         return plain(words);
     }
     let rows: Vec<String> = entries.chunks(if row == 0 { entries.len() } else { row }).map(plain).collect();

@@ -38,7 +38,9 @@ pub fn van_alive(sheet: &Sheet, van: usize, state: &State) -> bool {
         let ends = (facts.position(job.a), facts.position(job.b));
         job.kind == 3 && matches!(ends, (Some(a), Some(b)) if a > b)
     });
-    !(stranded || late(sheet, &facts) || far || heavy || turned)
+    let by_class =
+        slips::on(slips::VERDICT_READS_CLASSES) && facts.path.iter().any(|&x| !sheet.admits(x, van));
+    !(stranded || late(sheet, &facts) || far || heavy || turned || by_class)
 }
 
 /// E's check: some start of the route is above the last moment there, first and last included.

@@ -15,11 +15,12 @@ use second::state::State;
 use second::step::Outcome;
 use second::text::to_bytes;
 
-const NODES: &str = "0 0 0, 0 100 5, 0 25 5, 0 100 0";
+const NODES: &str = "0 0 0 1, 0 100 5 1, 0 25 5 1, 0 100 0 1";
 
-/// 01's sheet with these nodes and without jobs.
+/// 01's sheet with these nodes, all of class set 1, and without jobs.
 fn text_of(nodes: &str) -> String {
-    SHEET.replacen(NODES, nodes, 1).replacen("1, 3 1 2 2", "0", 1)
+    let nodes = nodes.replace(',', " 1,") + " 1";
+    SHEET.replacen(NODES, &nodes, 1).replacen("1, 3 1 2 2", "0", 1)
 }
 
 fn sheet_of(nodes: &str) -> Vec<u8> {
@@ -38,11 +39,11 @@ fn settled(nodes: &str) -> (u64, u64, u64, u64) {
 }
 
 fn alive(nodes: &str) -> bool {
-    verdict(&sheet_of(nodes), &Fleet::fresh(4, 1)) == (0, 1)
+    verdict(&sheet_of(nodes), &Fleet::all_open(4, 1)) == (0, 1)
 }
 
 fn last_starts(nodes: &str, path: &[usize]) -> Vec<i64> {
-    let mut state = State::fresh(4);
+    let mut state = State::all_open(4);
     state.put_path(path);
     Facts::of(&read(&sheet_of(nodes)).ok().unwrap(), 0, &state).l
 }
@@ -72,7 +73,7 @@ fn a_the_end_is_asked_with_its_service() {
 #[test]
 fn a_no_sheet_is_refused_for_it() {
     let never = "0 0 1000000, 0 0 1000000, 7 7 1000000, 0 0 1";
-    assert_eq!(open(&sheet_of(never)), (0, Fleet::fresh(4, 1)));
+    assert_eq!(open(&sheet_of(never)), (0, Fleet::all_open(4, 1)));
     assert_eq!(open(&sheet_of("0 0 0, 0 100 5, 26 25 5, 0 100 0")).0, 3);
 }
 

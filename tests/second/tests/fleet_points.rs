@@ -2,8 +2,10 @@
 //! worked by hand on 01's sheet with two vans: wards 1 and 2, a transfer of 2 from 1 to 2. The door
 //! of ward 2 is shut at 30, not at 25, so that 25 is the last moment there and 0 1 2 3 can be driven.
 
+mod limits;
 mod runs;
 
+use limits::of_class_1;
 use runs::run_on;
 use second::choices::{all_keep_rules, choices};
 use second::face::{open, open_places, verdict};
@@ -22,16 +24,16 @@ const fn in_van(van: u64, kind: u64) -> u64 {
     256 * van + kind
 }
 
-fn text_of(limits: &str) -> String {
-    SHEET.replacen("2 2 60", limits, 1).replacen("0 25 5", "0 30 5", 1)
+fn text_of(vans: &str) -> String {
+    SHEET.replacen("3 2 60 1", &of_class_1(vans), 1).replacen("0 25 5", "0 30 5", 1)
 }
 
-fn sheet_of(limits: &str) -> Vec<u8> {
-    to_bytes(&text_of(limits)).unwrap()
+fn sheet_of(vans: &str) -> Vec<u8> {
+    to_bytes(&text_of(vans)).unwrap()
 }
 
 fn two_vans() -> Vec<u8> {
-    sheet_of("4 2 60 2 60")
+    sheet_of("2 60, 2 60")
 }
 
 fn run(steps: &[[u64; 3]]) -> Outcome {
@@ -48,25 +50,24 @@ fn records(out: &Outcome) -> [u64; 2] {
 
 #[test]
 fn a_counts_of_limits() {
-    for count in [0, 1, 3, 5, 15, 17, 18, 20, u32::MAX] {
+    for count in [0, 27, 30, 255, u32::MAX] {
         assert_eq!(open(&words_to_bytes(&[count, 1, 1])).0, 2, "{count}");
     }
-    assert_eq!(open(&words_to_bytes(&[3])).0, 2);
-    assert_eq!(open(&words_to_bytes(&[4, 1, 1, 1001])).0, 1);
-    for (limits, number) in [("4 2 60 1001 60", 3), ("4 2 60 2 1000001", 3), ("6 2 60 2 60 2 60", 0)] {
-        assert_eq!(open(&sheet_of(limits)).0, number, "{limits}");
+    assert_eq!(open(&words_to_bytes(&[6, 1, 1, 1, 1001, 1])).0, 1);
+    for (vans, number) in [("2 60, 1001 60", 3), ("2 60, 2 1000001", 3), ("2 60, 2 60, 2 60", 0)] {
+        assert_eq!(open(&sheet_of(vans)).0, number, "{vans}");
     }
-    assert_eq!(open(&sheet_of(&("16".to_string() + &" 2 60".repeat(8)))).0, 0);
+    assert_eq!(open(&sheet_of(&["2 60"; 8].join(", "))).0, 0);
 }
 
 #[test]
 fn b_eight_states_are_held_and_those_that_are_no_van_are_zero() {
     let (answer, fleet) = open(&two_vans());
-    assert_eq!((answer, &fleet), (0, &Fleet::fresh(4, 2)));
+    assert_eq!((answer, &fleet), (0, &Fleet::all_open(4, 2)));
     assert_eq!(fleet.vans[2], State::zero());
-    assert_eq!(open_places(&two_vans(), &Fleet::fresh(4, 3)).0, 19);
-    assert_eq!(open_places(&two_vans(), &Fleet::fresh(4, 1)).0, 19);
-    let mut fleet = Fleet::fresh(4, 2);
+    assert_eq!(open_places(&two_vans(), &Fleet::all_open(4, 3)).0, 19);
+    assert_eq!(open_places(&two_vans(), &Fleet::all_open(4, 1)).0, 19);
+    let mut fleet = Fleet::all_open(4, 2);
     fleet.vans[7].records = 1;
     assert_eq!(verdict(&two_vans(), &fleet), (19, 0));
 }
@@ -74,7 +75,7 @@ fn b_eight_states_are_held_and_those_that_are_no_van_are_zero() {
 /// 11 words: parts of 5, room 2 each; words 4 and 9 are never used, word 10 is left over.
 #[test]
 fn b_the_trail_is_cut_into_equal_parts() {
-    let out = step(&two_vans(), &Fleet::fresh(4, 2), &[9; 11], [in_van(1, 1), 0, 2]);
+    let out = step(&two_vans(), &Fleet::all_open(4, 2), &[9; 11], [in_van(1, 1), 0, 2]);
     assert_eq!((out.answer, out.trail), (0, vec![258, 1, 9, 9, 9, 514, 1, 9, 9, 9, 9]));
     assert_eq!((room(11, 2), room(7, 2), room(3, 2), room(1, 2)), (2, 1, 0, 0));
 }
@@ -82,7 +83,7 @@ fn b_the_trail_is_cut_into_equal_parts() {
 #[test]
 fn c_marks_of_the_fleet_are_for_wards_only() {
     for x in [0, 3, 4, 63] {
-        let mut fleet = Fleet::fresh(4, 2);
+        let mut fleet = Fleet::all_open(4, 2);
         fleet.must = 1 << x;
         assert_eq!(verdict(&two_vans(), &fleet), (19, 0), "{x}");
     }
@@ -165,8 +166,8 @@ fn back_from(fleet: Fleet, trail: &[u64]) -> Outcome {
 fn i_kind_4_is_the_first_vans() {
     let marked = run(&[[6, 0, 0], [in_van(1, 8), 2, 0]]);
     assert_eq!((marked.fleet.must, records(&marked), &marked.trail[..2]), (4, [1, 0], &[1026, 0][..]));
-    assert_eq!(run(&[[6, 0, 0], [in_van(1, 8), 2, 0], [7, 0, 0]]).fleet, Fleet::fresh(4, 2));
-    let mut fleet = Fleet::fresh(4, 2);
+    assert_eq!(run(&[[6, 0, 0], [in_van(1, 8), 2, 0], [7, 0, 0]]).fleet, Fleet::all_open(4, 2));
+    let mut fleet = Fleet::all_open(4, 2);
     assert_eq!(back_from(fleet.clone(), &[1026, 0, 0, 0]).answer, 20);
     fleet.must = 0b100;
     assert_eq!(back_from(fleet.clone(), &[1026, 0, 0, 0]).fleet.must, 0);
@@ -182,7 +183,7 @@ fn i_kind_4_is_the_first_vans() {
 fn j_the_rule_between_vans_is_asked_once_of_the_whole() {
     for van in 0..2 {
         let out = run(&[[6, 0, 0], [in_van(van, 1), 0, 2], [7, 0, 0]]);
-        assert_eq!((out.answer, out.fleet), (0, Fleet::fresh(4, 2)));
+        assert_eq!((out.answer, out.fleet), (0, Fleet::all_open(4, 2)));
     }
     // Van 1's record alone fits its van, but opens a ward that stays on van 0's route.
     let mut fleet = run(&[[1, 0, 2]]).fleet;
@@ -194,7 +195,7 @@ fn j_the_rule_between_vans_is_asked_once_of_the_whole() {
 #[test]
 fn k_whose_trail_needs_room() {
     let full = |van: usize| {
-        let mut fleet = Fleet::fresh(4, 2);
+        let mut fleet = Fleet::all_open(4, 2);
         fleet.vans[van].records = 1;
         fleet
     };
@@ -217,7 +218,7 @@ fn k_whose_trail_needs_room() {
 #[test]
 fn l_the_listing_shows_sums_and_a_route_a_van() {
     let steps = "6, 8 1 0, 257 0 2, 261 0 0, 1 0 1, 5 0 0, 257 0 1";
-    let text = text_of("4 2 60 2 60");
+    let text = text_of("2 60, 2 60");
     let (day, _) = text.rsplit_once('|').unwrap();
     let listed = "\
         step 1 answer 0 open 4 records 1 rounds 0 alive 1\n\
@@ -232,14 +233,14 @@ fn l_the_listing_shows_sums_and_a_route_a_van() {
 
 #[test]
 fn m_open_places_and_verdict_are_the_fleets() {
-    assert_eq!(open_places(&two_vans(), &Fleet::fresh(4, 2)), (0, 4));
-    assert_eq!(verdict(&two_vans(), &Fleet::fresh(4, 2)), (0, 1));
+    assert_eq!(open_places(&two_vans(), &Fleet::all_open(4, 2)), (0, 4));
+    assert_eq!(verdict(&two_vans(), &Fleet::all_open(4, 2)), (0, 1));
 }
 
 /// With capacity 1 in van 1 its places fall and those of van 0 stay.
 #[test]
 fn n_settling_is_of_the_van_named() {
-    let bytes = sheet_of("4 2 60 1 60");
+    let bytes = sheet_of("2 60, 1 60");
     let out = run_on(&bytes, 80, &[[5, 0, 0]]);
     assert_eq!((out.rounds, out.fleet.open_places()), (0, 4));
     let out = run_on(&bytes, 80, &[[in_van(1, 5), 0, 0]]);
@@ -294,7 +295,7 @@ fn q_runs_that_end_alike_settle_as_worked_out() {
 #[test]
 fn r_a_choice_is_one_round_for_each_van() {
     let sheet = read(&two_vans()).ok().unwrap();
-    let all = choices(&sheet, &Fleet::fresh(4, 2));
+    let all = choices(&sheet, &Fleet::all_open(4, 2));
     assert_eq!(all.len(), 11);
     assert!(all.contains(&vec![vec![0, 3], vec![0, 3]]));
     let kept: Vec<_> = all.into_iter().filter(|choice| all_keep_rules(&sheet, choice)).collect();
@@ -311,8 +312,8 @@ fn s_each_part_holds_the_first_vans_bound() {
 
 #[test]
 fn t_an_idle_van_can_make_the_fleet_dead() {
-    let bytes = sheet_of("4 2 60 2 29");
-    assert_eq!(verdict(&bytes, &Fleet::fresh(4, 2)), (0, 0));
+    let bytes = sheet_of("2 60, 2 29");
+    assert_eq!(verdict(&bytes, &Fleet::all_open(4, 2)), (0, 0));
     assert!(listing(&bytes).starts_with("step 1 answer 0 open 4 records 0 rounds 0 alive 0\n"));
 }
 

@@ -7,7 +7,7 @@ use second::face::{open, open_places, verdict};
 use second::fleet::Fleet;
 use second::gen::draft::to_bytes as words_to_bytes;
 use second::listing::listing;
-use second::papers::{bytes_with, SHEET};
+use second::papers::{bytes_with, LATEST_3, SHEET};
 use second::sheet::stretch;
 use second::state::State;
 use second::step::{step, Outcome};
@@ -32,23 +32,23 @@ fn run(bytes: &[u8], steps: &[[u64; 3]]) -> Outcome {
 
 #[test]
 fn length_comes_first() {
-    assert_eq!(open(&[3, 0, 0, 0, 9]).0, 1);
-    assert_eq!(opened(&[3]), 2);
+    assert_eq!(open(&[4, 0, 0, 0, 9]).0, 1);
+    assert_eq!(opened(&[4]), 2);
 }
 
 #[test]
 fn count_then_shortness_then_values() {
-    assert_eq!(opened(&[2, 9999]), 1);
-    assert_eq!(opened(&[2, 9999, 0]), 3);
-    assert_eq!(opened(&[2, 9, 0]), 1);
-    assert_eq!(opened(&[2, 9, 0, 1]), 2);
+    assert_eq!(opened(&[3, 9999, 0]), 1);
+    assert_eq!(opened(&[3, 9999, 0, 1]), 3);
+    assert_eq!(opened(&[3, 9, 0, 1]), 1);
+    assert_eq!(opened(&[3, 9, 0, 1, 1]), 2);
 }
 
 #[test]
 fn the_library_has_no_length_limit_but_the_program_has() {
-    for (head, number) in [(vec![3], 2), (vec![2, 1001], 3)] {
+    for (head, number) in [(vec![4], 2), (vec![3, 1001], 3)] {
         let mut words = head;
-        words.resize(15_027, 0);
+        words.resize(15_099, 0);
         let bytes = words_to_bytes(&words);
         assert_eq!(open(&bytes).0, number);
         assert_eq!(listing(&bytes), "refused 1\n");
@@ -100,9 +100,9 @@ fn triangles_of_roads_nobody_drives_count_too() {
 #[test]
 fn a_sheet_refused_by_five_still_has_sections_and_takes_steps() {
     let bytes = to_bytes(&SHEET.replacen("10 30 20 10 0", "10 31 20 10 0", 1)).unwrap();
-    assert_eq!(stretch(&bytes, 1), &bytes[4..12]);
-    assert_eq!(step(&bytes, &Fleet::fresh(4, 1), &[0; 8], [1, 0, 2]).answer, 0);
-    assert_eq!(verdict(&bytes, &Fleet::fresh(4, 1)), (0, 1));
+    assert_eq!(stretch(&bytes, 1), &bytes[4..16]);
+    assert_eq!(step(&bytes, &Fleet::all_open(4, 1), &[0; 8], [1, 0, 2]).answer, 0);
+    assert_eq!(verdict(&bytes, &Fleet::all_open(4, 1)), (0, 1));
     assert_eq!(stretch(&bytes, 7), &[] as &[u8]);
     assert_eq!(stretch(&bytes, 1 << 32 | 1), &[] as &[u8]);
 }
@@ -110,14 +110,14 @@ fn a_sheet_refused_by_five_still_has_sections_and_takes_steps() {
 #[test]
 fn a_refused_sheet_beats_a_broken_state() {
     assert_eq!(open_places(&[], &Fleet::zero()), (1, 0));
-    assert_eq!(verdict(&bytes_with(&[(0, 3)]), &Fleet::fresh(4, 1)), (2, 0));
+    assert_eq!(verdict(&bytes_with(&[(0, 4)]), &Fleet::all_open(4, 1)), (2, 0));
     assert_eq!(step(&bytes_with(&[]), &Fleet::zero(), &[], [9, 9, 9]).answer, 19);
 }
 
 #[test]
 fn records_above_the_room_are_a_broken_state() {
     let bytes = bytes_with(&[]);
-    let mut fleet = Fleet::fresh(4, 1);
+    let mut fleet = Fleet::all_open(4, 1);
     fleet.vans[0].records = 5;
     assert_eq!(step(&bytes, &fleet, &[0; 9], [4, 1, 0]).answer, 19);
     assert_eq!(step(&bytes, &fleet, &[0; 10], [4, 1, 0]).answer, 17);
@@ -143,7 +143,7 @@ fn order_of_a_steps_refusals() {
         ([3, 3, 0], 12),
         ([4, 0, 0], 12),
     ] {
-        assert_eq!(step(&bytes, &Fleet::fresh(4, 1), &[0; 32], words).answer, answer, "{words:?}");
+        assert_eq!(step(&bytes, &Fleet::all_open(4, 1), &[0; 32], words).answer, answer, "{words:?}");
     }
     assert_eq!(run(&bytes, &[[1, 0, 2], [1, 1, 2]]).answer, 13);
 }
@@ -166,14 +166,14 @@ fn a_placed_node_keeps_its_mark() {
 #[test]
 fn stepping_back_without_records_reads_no_trail() {
     let bytes = bytes_with(&[]);
-    let level = step(&bytes, &Fleet::fresh(4, 1), &[], [6, 0, 0]);
+    let level = step(&bytes, &Fleet::all_open(4, 1), &[], [6, 0, 0]);
     let back = step(&bytes, &level.fleet, &[], [7, 0, 0]);
-    assert_eq!((back.answer, back.fleet), (0, Fleet::fresh(4, 1)));
+    assert_eq!((back.answer, back.fleet), (0, Fleet::all_open(4, 1)));
 }
 
 /// Route 0 2 3 with node 1 open in leg 2 only, and a record that placed 2.
 fn placed_by_hand() -> Fleet {
-    let mut state = State::fresh(4);
+    let mut state = State::all_open(4);
     state.put_path(&[0, 2, 3]);
     state.sets = [0; 64];
     state.sets[1] = 0b100;
@@ -230,6 +230,6 @@ fn the_verdict_does_not_settle() {
 
 #[test]
 fn a_dead_state_is_settled_like_any_other() {
-    let out = run(&bytes_with(&[(14, 10)]), &[[5, 0, 0]]);
+    let out = run(&bytes_with(&[(LATEST_3, 10)]), &[[5, 0, 0]]);
     assert_eq!((out.answer, out.rounds, out.fleet.open_places()), (0, 1, 0));
 }

@@ -29,3 +29,12 @@ fn the_cages_are_refused_for_the_slip_alone() {
     assert_eq!(open(&to_bytes(&text).unwrap()).0, 6);
     assert_eq!(open(&to_bytes(&text.replacen("2 1 0 20", "2 1 0 2", 1)).unwrap()).0, 0);
 }
+
+/// As its remarks say: the class alone keeps the maternity ward out of van 1.
+#[test]
+fn the_morning_refuses_a_placing_for_the_class_alone() {
+    let text = stored("morning.txt");
+    let fifth = |text: &str| listing(&to_bytes(text).unwrap()).lines().nth(4).map(String::from).unwrap();
+    assert!(fifth(&text).starts_with("step 5 answer 15 "));
+    assert!(fifth(&text.replacen("0 3600 120 6", "0 3600 120 7", 1)).starts_with("step 5 answer 0 "));
+}

@@ -13,12 +13,12 @@ fn prints_the_sheet_as_01_does() {
 fn there_and_back_for_any_words() {
     let sheets: [&[u32]; 7] = [
         &[],
-        &[2],
-        &[2, 1, 1, 64, 5],
-        &[2, 1, 1, 0, 0, 0, 0, 0, 7, 7],
+        &[3],
+        &[3, 1, 1, 1, 64, 5],
+        &[3, 1, 1, 1, 0, 0, 0, 0, 0, 7, 7],
         &[u32::MAX, 1],
-        &[3, 1, 1, 1, 2],
-        &[4, 1, 1, 1],
+        &[4, 1, 1, 1, 1, 2],
+        &[6, 1, 1, 1],
     ];
     for words in sheets {
         let bytes: Vec<u8> = words.iter().flat_map(|w| w.to_le_bytes()).collect();
@@ -28,14 +28,14 @@ fn there_and_back_for_any_words() {
     }
 }
 
-/// One van's limits stand as 01 prints them; those of more stand pair by pair.
+/// One van's limits stand as 01 prints them; those of more stand van by van.
 #[test]
-fn limits_of_a_fleet_stand_pair_by_pair() {
-    let fleet = "6, 10 1800, 6 1200, 8 900 | 2, 0 0 0, 0 9 0 | 0 | 4, 0 1 1 0 | 4, 0 0 0 0 | 0\n";
+fn limits_of_a_fleet_stand_van_by_van() {
+    let fleet = "9, 10 1800 2, 6 1200 1, 8 900 4 | 2, 0 0 0 7, 0 9 0 7 | 0 | 4, 0 1 1 0 | 4, 0 0 0 0 | 0\n";
     let bytes = to_bytes(fleet).unwrap();
     assert_eq!(from_bytes(&bytes, false).unwrap(), fleet);
     let long = from_bytes(&bytes, true).unwrap();
-    assert!(long.starts_with("6,\n  10 1800,\n  6 1200,\n  8 900 |\n2,\n  0 0 0"), "{long}");
+    assert!(long.starts_with("9,\n  10 1800 2,\n  6 1200 1,\n  8 900 4 |\n2,\n  0 0 0 7"), "{long}");
     assert_eq!(to_bytes(&long).unwrap(), bytes);
 }
 

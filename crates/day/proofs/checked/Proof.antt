@@ -10,7 +10,7 @@ use Rattle.sheet.proofs.PlaceLaws.{found-laid, found-stops, found-judged}
 use Rattle.sheet.specs.Section.{readRefusal, mOf}
 use Rattle.sheet.specs.Place.{Laid, found}
 use Rattle.day.specs.Tell.{jobIn, largestOf}
-use Rattle.day.specs.Refuse.{apart, canRide, callRefusal}
+use Rattle.day.specs.Refuse.{apart, canRide, endsAdmit, callRefusal}
 use Rattle.day.specs.declared.jobs.Looked.{Looked}
 use borrow.Author.Needs.{needs}
 use Rattle.day.proofs.checked.Statement.{statement}
@@ -20,9 +20,13 @@ use Rattle.day.proofs.checked.Tie as tie
 abbrev apartRefusal : List ℕ → ℕ
 apartRefusal s = orElse (readRefusal s) (unless (apart (jobIn s) (mOf s)) refusal.TWICE)
 
-then-heavy : (s : List ℕ) → callRefusal s ≡ orElse (apartRefusal s) (unless (canRide (jobIn s) (mOf s) (largestOf s)) refusal.HEAVY)
+-- what is asked before the classes
+abbrev lightRefusal : List ℕ → ℕ
+lightRefusal s = orElse (apartRefusal s) (unless (canRide (jobIn s) (mOf s) (largestOf s)) refusal.HEAVY)
+
+then-class : (s : List ℕ) → callRefusal s ≡ orElse (lightRefusal s) (unless (endsAdmit s) refusal.CLASS)
 unfolding callRefusal
-then-heavy s = or-else-assoc _ _ _
+then-class s = or-else-assoc _ _ _ ∙ or-else-assoc _ _ _
 
 read-laid : (c : tie.Else1) → Laid (c .before .before .before .before .args .s .now) (c .before .before .sections .result .layout)
 read-laid c = found-laid readRefusal _ (λ z. z) (c .before .before .sections .ensures) (c .if1 .left)
@@ -36,6 +40,19 @@ found-apart c =
 
 apart-laid : (c : tie.Else2) → Laid (c .before .before .before .before .before .before .before .before .args .s .now) (c .before .before .judged .result .layout)
 apart-laid c = found-laid apartRefusal _ (λ z. or-else-zero _ _ z .0) (found-apart (c .before .before)) (c .if2 .left)
+
+found-light : (c : tie.After-judged2) → c .judged2 .result ≡ found lightRefusal (c .before .before .before .before .before .before .before .before .before .before .before .args .s .now)
+unfolding canRide
+found-light c =
+    let m = c .before .before in
+    let a = m .before .before .before in
+    let j = a .before in
+    let heaviest = ap (λ (o : Looked). o .heaviest) (rw (read-laid (j .before) .jobs) at (j .look-over .ensures)) in
+    found-judged apartRefusal _ _ _ (found-apart a) (m .before .if2 .left) (c .judged2 .ensures)
+    (ap₂ leb heaviest (m .largest .ensures) ∙ peak-within _ _ _) refl
+
+light-laid : (c : tie.Else3) → Laid (c .before .before .before .before .before .before .before .before .before .before .before .before .before .args .s .now) (c .before .before .judged2 .result .layout)
+light-laid c = found-laid lightRefusal _ (λ z. or-else-zero _ _ (or-else-zero _ _ z .0) .0) (found-light (c .before .before)) (c .if3 .left)
 
 sections-requires : tie.Need-sections-requires
 sections-requires c κs = search needs
@@ -51,7 +68,8 @@ judged-requires : tie.Need-judged-requires
 judged-requires c κs = search needs
 
 returns-2 : tie.Need-returns-2
-returns-2 c = found-stops apartRefusal _ _ _ (found-apart (c .before .before)) (c .if2 .taken) (then-heavy _)
+unfolding callRefusal
+returns-2 c = found-stops apartRefusal _ _ _ (found-apart (c .before .before)) (c .if2 .taken) (or-else-assoc _ _ _)
 
 largest-requires : tie.Need-largest-requires
 largest-requires c κs = apart-laid c
@@ -60,14 +78,19 @@ judged-requires-2 : tie.Need-judged-requires-2
 judged-requires-2 c κs = search needs
 
 returns-3 : tie.Need-returns-3
-unfolding canRide
-returns-3 c =
-    let m = c .before .before in
-    let a = m .before .before .before in
-    let j = a .before in
-    let heaviest = ap (λ (o : Looked). o .heaviest) (rw (read-laid (j .before) .jobs) at (j .look-over .ensures)) in
-    found-judged apartRefusal _ _ _ (found-apart a) (m .before .if2 .left) (c .judged2 .ensures)
-    (ap₂ leb heaviest (m .largest .ensures) ∙ peak-within _ _ _) (then-heavy _)
+returns-3 c = found-stops lightRefusal _ _ _ (found-light (c .before .before)) (c .if3 .taken) (then-class _)
+
+ends-admit-requires : tie.Need-ends-admit-requires
+ends-admit-requires c κs = light-laid c
+
+judged-requires-3 : tie.Need-judged-requires-3
+judged-requires-3 c κs = search needs
+
+returns-4 : tie.Need-returns-4
+returns-4 c =
+    let e = c .before in
+    let l = e .before in
+    found-judged lightRefusal _ _ _ (found-light (l .before .before)) (l .if3 .left) (c .judged3 .ensures) (e .ends-admit .ensures) (then-class _)
 
 pub checked-spec : {M : Type 1} → statement M
 checked-spec =
@@ -80,4 +103,7 @@ checked-spec =
     returns-2
     largest-requires
     judged-requires-2
-    returns-3)
+    returns-3
+    ends-admit-requires
+    judged-requires-3
+    returns-4)

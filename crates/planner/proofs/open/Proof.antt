@@ -4,7 +4,6 @@ use Rattle.sheet.proofs.PlaceLaws.{found-answer}
 use Rattle.day.specs.Refuse.{openRefusal}
 use Rattle.day.proofs.RefuseLaws.{open-laid}
 use Rattle.planner.specs.Face.{openOf}
-use Rattle.planner.proofs.AskLaws.{sized}
 use borrow.Author.Needs.{needs}
 use Rattle.planner.proofs.open.Statement.{statement}
 use Rattle.planner.proofs.open.Tie as tie
@@ -16,7 +15,7 @@ opening-requires : tie.Need-opening-requires
 opening-requires c κs = search needs
 
 fresh-requires : tie.Need-fresh-requires
-fresh-requires c κs = let o = c .before .before .before in sized (open-laid _ (o .opening .ensures) (c .if1 .taken)) .most
+fresh-requires c κs = let o = c .before .before in open-laid _ (o .opening .ensures) (c .if1 .taken)
 
 none-requires : tie.Need-none-requires
 none-requires c κs = search needs
@@ -25,12 +24,12 @@ returns : tie.Need-returns
 unfolding openOf
 returns c =
     let t = c .before in
-    let o = t .before .before .before in
+    let o = t .before .before in
     rw (c .fresh .ensures, t .if1 .taken, sym (answer o) ∙ t .if1 .taken, open-laid _ (o .opening .ensures) (t .if1 .taken) .nodes, open-laid _ (o .opening .ensures) (t .if1 .taken) .vans)
 
 returns-2 : tie.Need-returns-2
 unfolding openOf
-returns-2 c = let e = c .before in rw (c .none .ensures, sym (answer (e .before .before .before)), ne-eqb _ _ (e .if1 .left))
+returns-2 c = let e = c .before in rw (c .none .ensures, sym (answer (e .before .before)), ne-eqb _ _ (e .if1 .left))
 
 pub open-spec : {M : Type 1} → statement M
 open-spec =

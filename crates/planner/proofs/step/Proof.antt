@@ -10,7 +10,7 @@ use Rattle.fleet.specs.Rows.{rowState}
 use Rattle.fleet.specs.declared.Fleet.{Fleet}
 use Rattle.fleet.proofs.Told.{is-held-all}
 use Rattle.fleet.proofs.FleetLaws.{fleetMade, state-any}
-use Rattle.fleet.proofs.RowLaws.{Turned, turned-none, turned-more, turned-all}
+use Rattle.laws.proofs.Turned.{Turned, turned-none, turned-more, turned-all}
 use Rattle.turns.specs.Together.{actedAll}
 use Rattle.planner.specs.Asked.{TakenIn}
 use Rattle.planner.proofs.TakeLaws.{Taking, taking-none, taking-more, taking-all}

@@ -17,13 +17,30 @@ add-word c = search needs
 word-requires-2 : tie.Need-word-requires-2
 word-requires-2 c κs = search needs
 
+add-word-2 : tie.Need-add-word-2
+add-word-2 c = search needs
+
+word-requires-3 : tie.Need-word-requires-3
+word-requires-3 c κs = search needs
+
 limits-ok-requires : tie.Need-limits-ok-requires
 limits-ok-requires c κs = search needs
 
 returns : tie.Need-returns
-returns c = rw (c .limits-ok .ensures, c .before .word2 .ensures .is, c .before .before .word .ensures .is)
+returns c =
+    let w = c .before in
+    rw (c .limits-ok .ensures, w .word3 .ensures .is, w .before .word2 .ensures .is, w .before .before .word .ensures .is)
 
 pub limits-at-ok-spec : {M : Type 1} → statement M
 limits-at-ok-spec =
     tie.close
-    (tie.spec mul-p add-p word-requires add-word word-requires-2 limits-ok-requires returns)
+    (tie.spec
+    mul-p
+    add-p
+    word-requires
+    add-word
+    word-requires-2
+    add-word-2
+    word-requires-3
+    limits-ok-requires
+    returns)

@@ -23,11 +23,20 @@ add-word-2 c = search needs
 word-requires-3 : tie.Need-word-requires-3
 word-requires-3 c κs = search needs
 
+add-word-3 : tie.Need-add-word-3
+add-word-3 c = search needs
+
+word-requires-4 : tie.Need-word-requires-4
+word-requires-4 c κs = search needs
+
 node-ok-requires : tie.Need-node-ok-requires
 node-ok-requires c κs = search needs
 
 returns : tie.Need-returns
-returns c = rw (c .node-ok .ensures, c .before .word3 .ensures .is, c .before .before .word2 .ensures .is, c .before .before .before .word .ensures .is)
+returns c =
+    let w = c .before in
+    let v = w .before in
+    rw (c .node-ok .ensures, w .word4 .ensures .is, v .word3 .ensures .is, v .before .word2 .ensures .is, v .before .before .word .ensures .is)
 
 pub node-at-ok-spec : {M : Type 1} → statement M
 node-at-ok-spec =
@@ -40,5 +49,7 @@ node-at-ok-spec =
     word-requires-2
     add-word-2
     word-requires-3
+    add-word-3
+    word-requires-4
     node-ok-requires
     returns)

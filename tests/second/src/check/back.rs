@@ -69,7 +69,7 @@ fn bound(rng: &mut Rng, scene: &Scene, tally: &mut Tally) -> Result<(), Trouble>
     let (n, v) = (scene.sheet.n(), scene.sheet.v());
     let trail = vec![0; ample(n, v)];
     let room = room(trail.len(), v);
-    let mut now = Outcome { answer: 0, rounds: 0, fleet: Fleet::fresh(n, v), trail };
+    let mut now = Outcome { answer: 0, rounds: 0, fleet: Fleet::fresh(&scene.sheet), trail };
     let greedy = rng.one_in(2);
     for _ in 0..40 {
         let kinds: &[u64] = if greedy { &[2, 2, 1, 4, 8] } else { &[1, 2, 3, 4, 5, 6, 7, 8] };

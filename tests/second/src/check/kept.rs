@@ -3,10 +3,11 @@
 use super::trouble::hold;
 use super::{Scene, Trouble};
 use crate::choices::{choices, holds, Choice};
-use crate::fleet::Fleet;
+use crate::face::open;
 use crate::gen::steps;
 use crate::rng::Rng;
 use crate::rounds::{all_rounds, uses_place};
+use crate::sheet::words;
 use crate::step::{step_on, Step};
 use crate::tally::Tally;
 
@@ -21,7 +22,8 @@ pub const NAMES: &[&str] = &[
     "kept: with 1 vans",
     "kept: with 2 vans",
     "kept: with 3 vans",
-    "fresh: every round belongs",
+    "fresh: the choices whose wards admit their vans",
+    "fresh: some choice falls by a class",
 ];
 
 pub fn check(rng: &mut Rng, scene: &Scene, tally: &mut Tally) -> Result<(), Trouble> {
@@ -36,17 +38,34 @@ pub fn check(rng: &mut Rng, scene: &Scene, tally: &mut Tally) -> Result<(), Trou
     Ok(())
 }
 
-/// A fresh fleet stands for every choice of lists that share no ward.
+/// What opening makes stands for every choice of lists that share no ward and whose wards admit
+/// their vans.
 fn fresh(scene: &Scene, tally: &mut Tally) -> Result<(), Trouble> {
-    let (n, v) = (scene.sheet.n(), scene.sheet.v());
-    let fresh = Fleet::fresh(n, v);
-    let mut every: Vec<Choice> = vec![vec![]];
-    for _ in 0..v {
-        every = every.iter().flat_map(|choice| longer(n, choice)).collect();
+    if !scene.opened {
+        return Ok(());
     }
-    hold(choices(&scene.sheet, &fresh) == every, NAMES[10], scene, &fresh, String::new)?;
+    let mut every: Vec<Choice> = vec![vec![]];
+    for _ in 0..scene.sheet.v() {
+        every = every.iter().flat_map(|choice| longer(scene.sheet.n(), choice)).collect();
+    }
+    let words = words(&scene.bytes);
+    let admitted: Vec<Choice> =
+        every.iter().filter(|choice| all_admitted(scene, &words, choice)).cloned().collect();
+    let (answer, fresh) = open(&scene.bytes);
+    let well = answer == 0 && choices(&scene.sheet, &fresh) == admitted;
+    hold(well, NAMES[10], scene, &fresh, || format!("opened {answer}, to belong {admitted:?}\n"))?;
     tally.add(NAMES[10]);
+    if admitted.len() < every.len() {
+        tally.add(NAMES[11]);
+    }
     Ok(())
+}
+
+/// Straight from the words of the sheet: the van's bit goes into the node's set an odd number of times.
+fn all_admitted(scene: &Scene, words: &[i64], choice: &Choice) -> bool {
+    let (limits, nodes) = (scene.sheet.spans[0].0, scene.sheet.spans[1].0);
+    let admits = |x: usize, van: usize| words[nodes + 4 * x + 3] / words[limits + 3 * van + 2] % 2 == 1;
+    choice.iter().enumerate().all(|(van, round)| round.iter().all(|&x| admits(x, van)))
 }
 
 /// The choice with any one list more that shares no ward with it.

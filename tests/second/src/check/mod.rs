@@ -12,8 +12,9 @@ use crate::doors;
 use crate::fleet::Fleet;
 use crate::gen::{damage, edges, fleets, parts, sheets};
 use crate::rng::Rng;
-use crate::sheet::{triangle_broken, Sheet};
+use crate::sheet::Sheet;
 use crate::tally::Tally;
+use crate::whole::triangle_broken;
 pub use trouble::Trouble;
 
 /// A sheet, a fleet in form for it, and a trail with room.
@@ -32,7 +33,7 @@ pub fn expected() -> Tally {
     for group in groups.into_iter().chain([doors::NAMES]) {
         names.extend(group.iter().map(|name| name.to_string()));
     }
-    for number in (1..=6).chain(11..=22) {
+    for number in (1..=7).chain(11..=22) {
         names.push(format!("refusal {number}"));
     }
     Tally::expecting(names)

@@ -1,13 +1,13 @@
 //! What a comparison must have met, by name.
 
 use super::{back_coverage, fleet_coverage};
-use crate::doors;
 use crate::fleet::Fleet;
-use crate::heavy;
 use crate::probe::{Case, Heads, OPEN, PLACES, SECTION, STEP, VERDICT};
-use crate::sheet::{read, triangle_broken, Sheet};
+use crate::sheet::{read, Sheet, PROGRAM_BYTES};
 use crate::step::Step;
 use crate::tally::Tally;
+use crate::whole::triangle_broken;
+use crate::{class_calls, class_words, classes, doors, heavy, refused};
 
 /// Which refusals each kind of step can meet, besides those of the sheet, 11 and 19.
 const OF_KIND: [(u64, &[u64]); 8] = [
@@ -35,7 +35,7 @@ const MORE: &[&str] = &[
     "bad case: cut short",
     "bad case: sheet over its bound",
     "bad case: trail over its bound",
-    "sheet: above 60,104 bytes",
+    "sheet: above 60,392 bytes",
     "sheet: 64 nodes",
     "sheet: 2 nodes",
     "trail: odd length",
@@ -46,10 +46,10 @@ const MORE: &[&str] = &[
 
 pub fn of_probes() -> Tally {
     let mut names = vec![];
-    for number in 0..=6 {
+    for number in 0..=7 {
         names.push(format!("open: answer {number}"));
     }
-    for number in [0, 1, 2, 3, 4, 6].into_iter().chain(11..=22) {
+    for number in [0, 1, 2, 3, 4, 6, 7].into_iter().chain(11..=22) {
         names.push(format!("step: answer {number}"));
     }
     for (kind, numbers) in OF_KIND {
@@ -57,22 +57,26 @@ pub fn of_probes() -> Tally {
             names.push(format!("step kind {kind}: answer {number}"));
         }
     }
-    for number in [0, 1, 2, 3, 4, 6, 19] {
+    for number in [0, 1, 2, 3, 4, 6, 7, 19] {
         names.push(format!("open places: answer {number}"));
         names.push(format!("verdict: answer {number}"));
     }
     for number in 1..=6 {
         names.push(format!("section {number}: bytes"));
     }
-    for number in [1, 2, 3, 4, 6] {
+    for number in [1, 2, 3, 4, 6, 7] {
         names.push(format!("section: empty by refusal {number}"));
     }
     for vans in 1..=8 {
         names.push(format!("step: accepted with {vans} vans"));
     }
     let fleets = [fleet_coverage::NAMES, back_coverage::NAMES];
-    let groups = [MORE, doors::NAMES, heavy::OF_SHEETS, heavy::OF_CALLS];
-    names.extend(fleets.into_iter().chain(groups).flatten().map(|name| name.to_string()));
+    let groups = [MORE, doors::NAMES, heavy::OF_SHEETS, &heavy::REFUSED.all(), heavy::OF_SETTLING];
+    let of_classes =
+        [classes::NAMES, &class_calls::REFUSED.all(), class_calls::OF_STEPS, class_calls::OF_FLEETS];
+    let all = fleets.into_iter().chain(groups).chain(of_classes);
+    names.extend(all.flatten().map(|name| name.to_string()));
+    names.extend(class_words::names());
     Tally::expecting(names)
 }
 
@@ -85,8 +89,12 @@ pub fn note_probe(tally: &mut Tally, case: &Case) {
     let (heads, after, _) = case.ask();
     note_answer(tally, case, &heads);
     match (case.question, heads.answer) {
-        (OPEN, answer) => heavy::note_opened(tally, &case.bytes, answer),
-        (_, 6) => heavy::note_call(tally, case),
+        (OPEN, answer) => {
+            note_opened(tally, &case.bytes, answer);
+            class_words::note_opened(tally, &case.bytes, answer);
+        }
+        (_, 6) => refused::note_call(tally, case, &heavy::REFUSED),
+        (_, 7) => refused::note_call(tally, case, &class_calls::REFUSED),
         (_, answer) => {
             if let Ok(sheet) = sheet {
                 note_call(tally, &sheet, case, answer, &after);
@@ -111,8 +119,16 @@ fn note_answer(tally: &mut Tally, case: &Case, heads: &Heads) {
     }
 }
 
+fn note_opened(tally: &mut Tally, bytes: &[u8], answer: u64) {
+    heavy::note_opened(tally, bytes, answer);
+    classes::note_opened(tally, bytes, answer);
+}
+
 /// Of a step or a question on a sheet that is not refused.
 fn note_call(tally: &mut Tally, sheet: &Sheet, case: &Case, answer: u64, after: &Fleet) {
+    if answer != 19 {
+        class_calls::note(tally, sheet, case, answer);
+    }
     match (case.question, answer) {
         (_, 19) => fleet_coverage::note_form(tally, sheet, case),
         (STEP, answer) => {
@@ -171,8 +187,8 @@ fn note_step(tally: &mut Tally, case: &Case, answer: u64, rounds: u64) {
 }
 
 fn note_shape(tally: &mut Tally, case: &Case, (n, v): (usize, usize)) {
-    if case.bytes.len() > crate::sheet::PROGRAM_BYTES {
-        tally.add("sheet: above 60,104 bytes");
+    if case.bytes.len() > PROGRAM_BYTES {
+        tally.add("sheet: above 60,392 bytes");
     }
     if n == 64 || n == 2 {
         tally.add(format!("sheet: {n} nodes"));
@@ -190,7 +206,7 @@ fn note_shape(tally: &mut Tally, case: &Case, (n, v): (usize, usize)) {
 
 pub fn of_listings() -> Tally {
     let mut names = vec![];
-    for number in 1..=6 {
+    for number in 1..=7 {
         names.push(format!("refused {number}"));
     }
     for number in [0, 11, 12, 13, 14, 15, 16, 18, 21, 22] {
@@ -206,8 +222,8 @@ pub fn of_listings() -> Tally {
         "alive 0",
         "alive 1",
         "no steps",
-        "above 60,104 bytes",
-        "exactly 60,104 bytes",
+        "above 60,392 bytes",
+        "exactly 60,392 bytes",
         "64 nodes",
         "2 nodes",
         "empty input",
@@ -215,25 +231,27 @@ pub fn of_listings() -> Tally {
     ] {
         names.push(more.to_string());
     }
-    names.extend([doors::NAMES, heavy::OF_SHEETS].concat().iter().map(|name| name.to_string()));
+    let groups = [doors::NAMES, heavy::OF_SHEETS, classes::NAMES, class_calls::OF_STEPS];
+    names.extend(groups.concat().iter().map(|name| name.to_string()));
     Tally::expecting(names)
 }
 
-/// Reads the counts off the expected listing itself, but for doors and loads, which are the sheet's.
+/// Reads the counts off the expected listing itself, but for doors, loads and classes, which are the
+/// sheet's.
 pub fn note_listing(tally: &mut Tally, bytes: &[u8], expected: &str) {
-    if bytes.len() > crate::sheet::PROGRAM_BYTES {
-        tally.add("above 60,104 bytes");
+    if bytes.len() > PROGRAM_BYTES {
+        tally.add("above 60,392 bytes");
     } else if expected.starts_with("refused") {
         tally.add(expected.trim_end());
     }
-    if bytes.len() == crate::sheet::PROGRAM_BYTES && expected.starts_with("step") {
-        tally.add("exactly 60,104 bytes");
+    if bytes.len() == PROGRAM_BYTES && expected.starts_with("step") {
+        tally.add("exactly 60,392 bytes");
     }
     note_listed_sheet(tally, bytes, expected);
     if bytes.is_empty() {
         tally.add("empty input");
     }
-    if bytes.get(12..16) == Some(&[65, 0, 0, 0]) && expected == "refused 2\n" {
+    if bytes.get(16..20) == Some(&[65, 0, 0, 0]) && expected == "refused 2\n" {
         tally.add("65 nodes");
     }
     if expected.starts_with("route") {
@@ -249,17 +267,21 @@ pub fn note_listing(tally: &mut Tally, bytes: &[u8], expected: &str) {
 
 fn note_listed_sheet(tally: &mut Tally, bytes: &[u8], expected: &str) {
     let number = expected.trim_end().strip_prefix("refused ");
-    heavy::note_opened(tally, bytes, number.map_or(0, |no| no.parse().expect("a number")));
+    note_opened(tally, bytes, number.map_or(0, |no| no.parse().expect("a number")));
     let Ok(sheet) = read(bytes) else { return };
     tally.add(format!("{} vans", sheet.v()));
     if sheet.n() == 64 || sheet.n() == 2 {
         tally.add(format!("{} nodes", sheet.n()));
     }
     if expected.starts_with("step") {
-        let fresh = Fleet::fresh(sheet.n(), sheet.v());
+        let fresh = Fleet::fresh(&sheet);
         if sheet.steps.iter().any(|&words| Step::of(words).kind == 5) {
             doors::note_settled(tally, &sheet, &fresh.vans[0]);
         }
         doors::note_judged(tally, &sheet, &fresh);
+        for (&words, line) in sheet.steps.iter().zip(expected.lines()) {
+            let answer = line.split(' ').nth(3).and_then(|word| word.parse().ok());
+            class_calls::note_step(tally, &sheet, &Step::of(words), answer.expect("an answer"));
+        }
     }
 }

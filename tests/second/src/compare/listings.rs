@@ -5,9 +5,9 @@ use std::path::Path;
 use super::coverage::{note_listing, of_listings};
 use super::runner::{self, End};
 use super::{Plan, SHOWN};
-use crate::gen::{damage, edges, fleets, full, heavy, sheets, steps};
+use crate::gen::{classes, damage, edges, fleets, full, refused, sheets, steps};
 use crate::listing::listing;
-use crate::papers::bytes_with;
+use crate::papers::{bytes_with, CAPACITY, LATEST_2, LATEST_3, LIMIT, NODES};
 use crate::rng::Rng;
 use crate::tally::Tally;
 
@@ -15,24 +15,22 @@ use crate::tally::Tally;
 pub fn sheet(seed: u64, number: u64) -> Vec<u8> {
     let mut rng = Rng::of(seed ^ 0x6c69_7374, number);
     let rng = &mut rng;
-    match number % 16 {
-        0 if number % 64 == 0 => fullest(rng, 0),
-        0 if number % 64 == 16 => fullest(rng, 1 + number as usize % 5),
-        0 if number % 64 == 32 => examples(rng, number),
-        0 => without_steps(rng),
+    let turn = number / 18;
+    match number % 18 {
+        0 => now_and_then(rng, turn),
         1 => whole_day(rng),
-        2..=5 => {
+        family @ 2..=7 => {
             let size = sheets::any_size(rng);
             let made = sheets::with_steps(rng, size, 6);
-            if number % 2 == 0 {
-                damage::sheet(rng, made)
-            } else {
-                heavy::sheet(rng, made)
+            match family {
+                2 | 3 => damage::sheet(rng, made),
+                4 | 5 => refused::sheet(rng, made, damage::heavy),
+                _ => refused::sheet(rng, made, classes::shut_out),
             }
         }
-        6 => levels_only(rng),
-        7 => two_nodes(rng),
-        8..=11 => at_the_edge(rng),
+        8 => levels_only(rng),
+        9 => two_nodes(rng),
+        10..=13 => at_the_edge(rng),
         _ => {
             let size = sheets::any_size(rng);
             let count = 5 + rng.below(50);
@@ -41,9 +39,20 @@ pub fn sheet(seed: u64, number: u64) -> Vec<u8> {
     }
 }
 
+/// What need not be met so often, by turns.
+fn now_and_then(rng: &mut Rng, turn: u64) -> Vec<u8> {
+    match turn % 4 {
+        0 => fullest(rng, 0),
+        1 => fullest(rng, 1 + turn as usize % 5),
+        2 => examples(rng, turn / 4),
+        _ => without_steps(rng),
+    }
+}
+
 /// The longest sheet there is, or with some bytes too many.
 fn fullest(rng: &mut Rng, more: usize) -> Vec<u8> {
     let mut draft = full::day(rng, 64, 8);
+    classes::deal(rng, &mut draft);
     draft.steps = (0..2000).map(|_| [*rng.pick(&[6, 7, 9]), 0, 0]).collect();
     let mut bytes = draft.bytes();
     bytes.resize(bytes.len() + more, 0);
@@ -51,14 +60,14 @@ fn fullest(rng: &mut Rng, more: usize) -> Vec<u8> {
 }
 
 /// 01's own examples: nothing at all, 65 nodes, and its sheet with one number altered.
-fn examples(rng: &mut Rng, number: u64) -> Vec<u8> {
-    match number / 64 % 4 {
+fn examples(rng: &mut Rng, turn: u64) -> Vec<u8> {
+    match turn % 4 {
         0 => vec![],
-        1 => bytes_with(&[(3, 65)]),
+        1 => bytes_with(&[(NODES, 65)]),
         _ => {
-            let altered = [(11, 24), (11, 30), (2, 30), (2, 29), (1, 1), (11, 19), (14, 10), (1, 2)];
-            let (word, value) = *rng.pick(&altered);
-            bytes_with(&[(word, value)])
+            let doors = [(LATEST_2, 24), (LATEST_2, 30), (LATEST_2, 19), (LATEST_3, 10)];
+            let limits = [(LIMIT, 30), (LIMIT, 29), (CAPACITY, 1), (CAPACITY, 2)];
+            bytes_with(&[*rng.pick(&[doors, limits].concat())])
         }
     }
 }
@@ -72,6 +81,7 @@ fn without_steps(rng: &mut Rng) -> Vec<u8> {
 fn whole_day(rng: &mut Rng) -> Vec<u8> {
     let vans = sheets::any_vans(rng);
     let mut draft = full::day(rng, 64, vans);
+    classes::deal(rng, &mut draft);
     draft.steps = full::story(rng, &draft.sheet(), 60);
     draft.bytes()
 }

@@ -1,5 +1,6 @@
 //! Sheets that are refused, one way for each rule, and some that are damaged twice.
 
+use super::classes;
 use super::draft::Draft;
 use super::loads;
 use super::steps::odd;
@@ -19,10 +20,9 @@ fn wrong_count(rng: &mut Rng, good: usize, most: usize) -> u32 {
 
 pub fn count(rng: &mut Rng, draft: &mut Draft) {
     let square = draft.seconds.len();
-    let good = [2 * draft.v(), draft.n(), draft.jobs.len(), square, square, draft.steps.len()];
-    let most = [16, 64, 155, square, square, 2000];
+    let most = [24, 64, 155, square, square, 2000];
     let which = rng.below(6);
-    let value = wrong_count(rng, good[which], most[which]);
+    let value = wrong_count(rng, draft.sections()[which].0, most[which]);
     draft.false_counts.push((which, value));
 }
 
@@ -54,8 +54,9 @@ fn above(rng: &mut Rng) -> u32 {
 /// A word of sections 1 to 5 against its rule (or just within it).
 pub fn value(rng: &mut Rng, draft: &mut Draft) {
     let (n, v) = (draft.n(), draft.v());
-    match rng.below(10) {
+    match rng.below(12) {
         0 => draft.limits[rng.below(v)][0] = *rng.pick(&[1001, 1000, u32::MAX]),
+        10 | 11 => classes::wrong_word(rng, draft),
         1 => draft.limits[rng.below(v)][1] = above(rng),
         2 => draft.nodes[rng.below(n)][rng.below(3)] = above(rng),
         3 => {
@@ -105,8 +106,8 @@ pub fn heavy(rng: &mut Rng, draft: &mut Draft) {
         }
     }
     // A load is at most 1,000, so there must be room above the largest capacity.
-    for pair in draft.limits.iter_mut() {
-        pair[0] = pair[0].min(999);
+    for van in draft.limits.iter_mut() {
+        van[0] = van[0].min(999);
     }
     let above = loads::largest(draft) + 1;
     let more = rng.between(above.into(), 1000) as u32;
@@ -144,9 +145,8 @@ pub fn length(rng: &mut Rng, bytes: &mut Vec<u8>) {
 
 /// A wrong value in a section that is also cut short, often by one word: the shortness counts.
 pub fn short_and_wrong(rng: &mut Rng, mut draft: Draft) -> Vec<u8> {
-    let n = draft.n();
     value(rng, &mut draft);
-    let lengths = [2 * draft.v(), 3 * n, 4 * draft.jobs.len(), n * n, n * n, 3 * draft.steps.len()];
+    let lengths: Vec<usize> = draft.sections().iter().map(|section| section.1.len()).collect();
     let last = rng.below(6);
     let end: usize = lengths[..=last].iter().map(|length| 1 + length).sum();
     let cut = if rng.one_in(2) { 1 } else { 1 + rng.below(lengths[last] + 1) };
@@ -156,11 +156,12 @@ pub fn short_and_wrong(rng: &mut Rng, mut draft: Draft) -> Vec<u8> {
 }
 
 fn one(rng: &mut Rng, draft: &mut Draft) {
-    match rng.below(8) {
+    match rng.below(9) {
         0 | 5 => count(rng, draft),
         1 | 2 => value(rng, draft),
         3 | 6 => doubled(rng, draft),
         7 => heavy(rng, draft),
+        8 => classes::shut_out(rng, draft),
         _ => triangle(rng, draft),
     }
 }

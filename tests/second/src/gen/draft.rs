@@ -4,9 +4,9 @@ use crate::sheet::{read, Sheet};
 
 #[derive(Clone)]
 pub struct Draft {
-    /// Capacity and metre limit of each van.
-    pub limits: Vec<[u32; 2]>,
-    pub nodes: Vec<[u32; 3]>,
+    /// Capacity, metre limit and class of each van.
+    pub limits: Vec<[u32; 3]>,
+    pub nodes: Vec<[u32; 4]>,
     pub jobs: Vec<[u32; 4]>,
     pub seconds: Vec<u32>,
     pub metres: Vec<u32>,
@@ -24,9 +24,10 @@ impl Draft {
         self.limits.len()
     }
 
-    fn sections(&self) -> Vec<(usize, Vec<u32>)> {
+    /// Count and words of each; the limits' count is of words.
+    pub fn sections(&self) -> Vec<(usize, Vec<u32>)> {
         vec![
-            (2 * self.limits.len(), self.limits.concat()),
+            (3 * self.limits.len(), self.limits.concat()),
             (self.nodes.len(), self.nodes.concat()),
             (self.jobs.len(), self.jobs.concat()),
             (self.seconds.len(), self.seconds.clone()),
@@ -49,7 +50,7 @@ impl Draft {
         to_bytes(&self.words())
     }
 
-    /// Only of drafts that keep 1 to 4 and 6.
+    /// Only of drafts that keep 1 to 4, 6 and 7.
     pub fn sheet(&self) -> Sheet {
         read(&self.bytes()).unwrap_or_else(|no| panic!("a draft made whole is refused by {no}"))
     }

@@ -12,7 +12,9 @@ use crate::state::State;
 
 /// Everything else as wide as can be, so that one test alone decides.
 pub fn loosen(rng: &mut Rng, draft: &mut Draft) {
-    draft.limits.fill([1000, 1_000_000]);
+    for van in draft.limits.iter_mut() {
+        [van[0], van[1]] = [1000, 1_000_000];
+    }
     for node in draft.nodes.iter_mut() {
         node[1] = 1_000_000;
         if rng.one_in(2) {
@@ -26,7 +28,7 @@ pub fn loosen(rng: &mut Rng, draft: &mut Draft) {
 
 /// Shuts the door of a node so that this is its last moment, as far as the form allows it.
 fn last_moment(draft: &mut Draft, node: usize, value: i64) {
-    let [earliest, _, service] = draft.nodes[node].map(i64::from);
+    let [earliest, _, service, _] = draft.nodes[node].map(i64::from);
     draft.nodes[node][1] = (value + service).clamp(earliest, 1_000_000) as u32;
 }
 

@@ -10,7 +10,7 @@ use crate::trail::ample;
 
 /// From fresh by random steps, with the trail they left (zeros behind each van's records).
 pub fn reached(rng: &mut Rng, sheet: &Sheet, count: usize) -> (Fleet, Vec<u64>) {
-    let mut fleet = Fleet::fresh(sheet.n(), sheet.v());
+    let mut fleet = Fleet::fresh(sheet);
     let mut trail = vec![0; ample(sheet.n(), sheet.v())];
     for _ in 0..count {
         let words = steps::pick(rng, sheet, &fleet);
@@ -82,7 +82,7 @@ pub fn few_records(rng: &mut Rng, sheet: &Sheet, most: u64) -> Vec<u64> {
 pub fn quiet_but(rng: &mut Rng, sheet: &Sheet, fleet: &mut Fleet, kept: usize) {
     let path = fleet.vans[kept].path();
     for van in (0..sheet.v()).filter(|&van| van != kept) {
-        fleet.vans[van] = State::fresh(sheet.n());
+        fleet.vans[van] = State::all_open(sheet.n());
         for &x in &path {
             fleet.vans[van].sets[x] = 0;
         }

@@ -49,7 +49,8 @@ fn all_jobs(rng: &mut Rng, n: usize) -> Vec<[u32; 4]> {
 }
 
 /// n nodes, v vans, no steps yet. With 64 nodes it has 155 jobs. Each van could drive the whole
-/// sweep, the later ones with a little less aboard and a little farther.
+/// sweep, the later ones with a little less aboard and a little farther. Each is of a class of its
+/// own, and every node admits all of them.
 pub fn day(rng: &mut Rng, n: usize, v: usize) -> Draft {
     let metres = table(&corners(rng, n));
     // Rounded up, the parts of a way never come to less than the whole: still metric.
@@ -67,14 +68,15 @@ pub fn day(rng: &mut Rng, n: usize, v: usize) -> Draft {
         let late = if x == n - 1 { 1_800 } else { rng.between(300, 6_000) };
         let early = if x == 0 { 0 } else { rng.between(0, 4_000) };
         let latest = (time + late + service).min(1_000_000);
-        nodes.push([(time - early).max(0) as u32, latest as u32, service as u32]);
+        nodes.push([(time - early).max(0) as u32, latest as u32, service as u32, (1 << v) - 1]);
         time += service;
     }
     let total: u32 = jobs.iter().filter(|j| j[0] == 1).map(|j| j[3]).sum();
     let capacity = (total + total / 4).clamp(loads::heaviest(&jobs), 1000);
     let limit = (length + length / 3) as u32;
+    let van = |i: u32| [capacity - i * capacity / 40, limit + 50 * i, 1 << i];
     Draft {
-        limits: (0..v as u32).map(|van| [capacity - van * capacity / 40, limit + 50 * van]).collect(),
+        limits: (0..v as u32).map(van).collect(),
         nodes,
         jobs,
         seconds: seconds.iter().map(|&v| v as u32).collect(),
@@ -86,7 +88,7 @@ pub fn day(rng: &mut Rng, n: usize, v: usize) -> Draft {
 
 /// Steps of someone who tries: place, settle, step back when the fleet is dead.
 pub fn story(rng: &mut Rng, sheet: &Sheet, count: usize) -> Vec<[u32; 3]> {
-    let mut fleet = Fleet::fresh(sheet.n(), sheet.v());
+    let mut fleet = Fleet::fresh(sheet);
     let mut trail = vec![0; ample(sheet.n(), sheet.v())];
     let mut out: Vec<[u32; 3]> = vec![];
     while out.len() < count {

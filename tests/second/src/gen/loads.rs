@@ -10,7 +10,7 @@ pub fn heaviest(jobs: &[[u32; 4]]) -> u32 {
 }
 
 pub fn largest(draft: &Draft) -> u32 {
-    draft.limits.iter().map(|pair| pair[0]).max().unwrap_or(0)
+    draft.limits.iter().map(|van| van[0]).max().unwrap_or(0)
 }
 
 /// Sees to it that every job rides in some van; in a share of the sheets the heaviest just does.
@@ -36,8 +36,8 @@ pub fn just_ride(rng: &mut Rng, draft: &mut Draft) {
         return;
     }
     let strong = rng.below(draft.v());
-    for (van, pair) in draft.limits.iter_mut().enumerate() {
-        pair[0] = if van == strong { load } else { rng.below(load as usize) as u32 };
+    for (van, limits) in draft.limits.iter_mut().enumerate() {
+        limits[0] = if van == strong { load } else { rng.below(load as usize) as u32 };
     }
 }
 

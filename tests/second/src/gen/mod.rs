@@ -2,19 +2,21 @@
 //! to steer towards interesting cases, never to decide what is right.
 
 pub mod back;
+pub mod classes;
 pub mod damage;
 pub mod doors;
 pub mod draft;
 pub mod edges;
 pub mod fleets;
 pub mod full;
-pub mod heavy;
 pub mod loads;
 pub mod parts;
 pub mod probes;
+pub mod refused;
 pub mod sheets;
 pub mod spoil;
 pub mod states;
 pub mod steps;
 pub mod tables;
 pub mod trails;
+pub mod unadmitted;

@@ -2,7 +2,7 @@
 //! question and every refusal.
 
 use super::draft::{self, Draft};
-use super::{back, damage, edges, fleets, heavy, sheets, spoil, steps};
+use super::{back, classes, damage, edges, fleets, refused, sheets, spoil, steps, unadmitted};
 use crate::fleet::Fleet;
 use crate::probe::{Case, MOST_BYTES, MOST_TRAIL, OPEN, PLACES, SECTION, STEP, VERDICT};
 use crate::rng::Rng;
@@ -13,7 +13,7 @@ use crate::step::step_on;
 pub fn case(seed: u64, number: u64) -> Case {
     let mut rng = Rng::of(seed, number);
     let rng = &mut rng;
-    match number % 21 {
+    match number % 23 {
         0..=2 => opening(rng),
         3 | 10 => stepping(rng, true),
         4 => section(rng),
@@ -30,7 +30,9 @@ pub fn case(seed: u64, number: u64) -> Case {
         12 => back::along_steps(rng),
         13 | 14 => back::made_up(rng),
         15..=18 => at_the_edge(rng),
-        19 => heavy::case(rng),
+        19 => refused::case(rng, damage::heavy),
+        20 => refused::case(rng, classes::shut_out),
+        21 => unadmitted::case(rng),
         _ => anything(rng),
     }
 }
@@ -63,10 +65,15 @@ pub fn draft_for_steps(rng: &mut Rng) -> Draft {
 
 fn damaged(rng: &mut Rng) -> Vec<u8> {
     let size = sized(rng, 90);
-    let made = sheets::with_steps(rng, size, 3);
-    match rng.below(14) {
+    let mut made = sheets::with_steps(rng, size, 3);
+    match rng.below(17) {
         0 => vec![],
         12 | 13 => damage::short_and_wrong(rng, made),
+        14 => classes::miscounted(rng, made),
+        15 | 16 => {
+            classes::wrong_word(rng, &mut made);
+            made.bytes()
+        }
         1 => (0..4 * rng.below(40)).map(|_| rng.any() as u8).collect(),
         2 => overlong(rng),
         _ => damage::sheet(rng, made),
@@ -75,14 +82,16 @@ fn damaged(rng: &mut Rng) -> Vec<u8> {
 
 /// More than the program reads; here judged in the normal order.
 fn overlong(rng: &mut Rng) -> Vec<u8> {
-    let heads: [&[u32]; 7] = [
-        &[3],
-        &[18],
-        &[2, 1001],
-        &[6, 1, 1, 1, 1, 1, 1_000_001],
-        &[2, 1, 1, 65],
-        &[2, 1, 1, 2, 5, 4, 0],
-        &[2, 1, 1, 2, 0, 0, 0, 0, 0, 0, 0],
+    let heads: [&[u32]; 9] = [
+        &[4],
+        &[27],
+        &[3, 1001, 1, 1],
+        &[3, 1, 1, 3],
+        &[9, 1, 1, 1, 1, 1, 1, 1, 1_000_001, 1],
+        &[3, 1, 1, 1, 65],
+        &[3, 1, 1, 1, 2, 5, 4, 0, 1],
+        &[3, 1, 1, 1, 2, 0, 0, 0, 0],
+        &[3, 1, 1, 1, 2, 0, 0, 0, 1, 0, 0, 0, 1],
     ];
     let mut words = rng.pick(&heads).to_vec();
     words.resize(MOST_BYTES as usize / 4 - rng.below(300), 0);
@@ -92,7 +101,7 @@ fn overlong(rng: &mut Rng) -> Vec<u8> {
 fn opening(rng: &mut Rng) -> Case {
     let size = sized(rng, 40);
     let bytes = if rng.one_in(4) { sheets::with_steps(rng, size, 4).bytes() } else { damaged(rng) };
-    let fleet = if rng.one_in(4) { fleets::garbage(rng) } else { Fleet::fresh(5, 3) };
+    let fleet = if rng.one_in(4) { fleets::garbage(rng) } else { Fleet::all_open(5, 3) };
     let trail = (0..rng.below(5)).map(|_| rng.any()).collect();
     Case { question: OPEN, words: [rng.any(), 1, 2], fleet, bytes, trail }
 }
@@ -133,7 +142,7 @@ fn must_alone(rng: &mut Rng) -> Case {
     let mut made = sheets::plain(rng, size, vans);
     edges::loosen(rng, &mut made);
     let sheet = made.sheet();
-    let mut fleet = Fleet::fresh(size, vans);
+    let mut fleet = Fleet::all_open(size, vans);
     let (x, kept) = (1 + rng.below(size - 2), rng.below(vans));
     for van in 0..vans {
         fleet.vans[van].sets[x] = u64::from(van == kept && rng.one_in(2));
@@ -194,7 +203,7 @@ fn tight_room(rng: &mut Rng) -> Case {
     let (bytes, sheet) = runnable(rng);
     let v = sheet.v();
     let (mut fleet, trail) =
-        if rng.one_in(4) { (Fleet::fresh(sheet.n(), v), vec![]) } else { reached(rng, &sheet) };
+        if rng.one_in(4) { (Fleet::fresh(&sheet), vec![]) } else { reached(rng, &sheet) };
     if v > 1 && rng.one_in(2) {
         fleet.vans[rng.below(v)].records += 1 + rng.below(4) as u64;
     }

@@ -1,6 +1,7 @@
 //! Whole sheets that opening accepts: metric, with windows, metres and loads that are tight
 //! around some tour, so that the tests of settling have something to strike.
 
+use super::classes;
 use super::doors;
 use super::draft::Draft;
 use super::loads;
@@ -25,7 +26,7 @@ fn clip(value: i64) -> u32 {
 
 /// Windows around the times of the tour, shut when the service can be over; nodes off it get
 /// windows around any time.
-fn windows(rng: &mut Rng, n: usize, path: &[usize], seconds: &[i64]) -> Vec<[u32; 3]> {
+fn windows(rng: &mut Rng, n: usize, path: &[usize], seconds: &[i64]) -> Vec<[u32; 4]> {
     let most_service = *rng.pick(&[0, 3, 6, 20]);
     let slack = *rng.pick(&[0, 2, 8, 30, 200, 3_000_000]);
     let open_early = rng.one_in(2);
@@ -45,7 +46,7 @@ fn windows(rng: &mut Rng, n: usize, path: &[usize], seconds: &[i64]) -> Vec<[u32
             let at = if times[x] >= 0 { times[x] } else { rng.between(0, end.max(1)) };
             let earliest = if open_early && x > 0 { 0 } else { clip(at - rng.between(0, slack)) };
             let latest = clip(at + services[x] + rng.between(0, slack)).max(earliest);
-            [earliest, latest, clip(services[x])]
+            [earliest, latest, clip(services[x]), 1]
         })
         .collect()
 }
@@ -73,8 +74,8 @@ fn jobs(rng: &mut Rng, n: usize, most_load: i64) -> Vec<[u32; 4]> {
     list
 }
 
-/// A sheet of v vans without steps. Each van has limits of its own around the same tour, and now
-/// and then a door is shut too early for anyone.
+/// A sheet of v vans without steps. Each van has limits of its own around the same tour, now and
+/// then a door is shut too early for anyone, and some wards do not admit every van.
 pub fn plain(rng: &mut Rng, n: usize, v: usize) -> Draft {
     let seconds = tables::any(rng, n);
     let metres = if rng.one_in(3) { seconds.clone() } else { tables::any(rng, n) };
@@ -82,12 +83,12 @@ pub fn plain(rng: &mut Rng, n: usize, v: usize) -> Draft {
     let length: i64 = path.windows(2).map(|w| metres[w[0] * n + w[1]]).sum();
     let most_load = *rng.pick(&[1, 2, 5, 5, 1000]);
     let most_more = *rng.pick(&[3, 20, 60, 2_000_000]);
-    let mut pair = || {
+    let mut van = || {
         let capacity = rng.between(0, (most_load * (n as i64 / 2 + 2)).min(1000));
-        [capacity as u32, clip(length + rng.between(-3, most_more))]
+        [capacity as u32, clip(length + rng.between(-3, most_more)), 1]
     };
     let mut draft = Draft {
-        limits: (0..v).map(|_| pair()).collect(),
+        limits: (0..v).map(|_| van()).collect(),
         nodes: windows(rng, n, &path, &seconds),
         jobs: jobs(rng, n, most_load),
         seconds: seconds.iter().map(|&v| clip(v)).collect(),
@@ -97,6 +98,7 @@ pub fn plain(rng: &mut Rng, n: usize, v: usize) -> Draft {
     };
     loads::ride(rng, &mut draft);
     doors::shut_some(rng, &mut draft);
+    classes::deal(rng, &mut draft);
     draft
 }
 

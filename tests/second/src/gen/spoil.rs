@@ -20,7 +20,7 @@ pub fn break_one(rng: &mut Rng, sheet: &Sheet, fleet: &mut Fleet) {
         10 => no_van_with_a_number(rng, v, fleet),
         11 => fleet.vans.swap(van, rng.below(MOST_VANS)),
         12 => fleet.vans[van] = fleet.vans[rng.below(v)].clone(),
-        _ => fleet.vans[van] = State::fresh(n),
+        _ => fleet.vans[van] = State::all_open(n),
     }
 }
 

@@ -138,7 +138,7 @@ pub fn pick_in(rng: &mut Rng, sheet: &Sheet, fleet: &Fleet, van: usize, kinds: &
 /// Steps for a sheet, chosen along the fleets they lead through. A share of the lists opens
 /// levels only, to meet the 65th.
 pub fn list(rng: &mut Rng, sheet: &Sheet, count: usize) -> Vec<[u32; 3]> {
-    let mut fleet = Fleet::fresh(sheet.n(), sheet.v());
+    let mut fleet = Fleet::fresh(sheet);
     let mut trail = vec![0; ample(sheet.n(), sheet.v())];
     let only_levels = rng.one_in(12);
     let mut out = vec![];

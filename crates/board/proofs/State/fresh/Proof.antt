@@ -10,13 +10,13 @@ none-requires : tie.Need-none-requires
 none-requires c κs = search needs
 
 returns : tie.Need-returns
-returns c = c .none .ensures ∙ sym (fresh-small _ (c .before .if1 .taken))
+returns c = c .none .ensures ∙ sym (fresh-small _ _ (c .before .if1 .taken))
 
 none-requires-2 : tie.Need-none-requires-2
 none-requires-2 c κs = search needs
 
 returns-2 : tie.Need-returns-2
-returns-2 c = c .none2 .ensures ∙ sym (fresh-large _ (c .before .if2 .taken))
+returns-2 c = c .none2 .ensures ∙ sym (fresh-large _ _ (c .before .if2 .taken))
 
 sub-route : tie.Need-sub-route
 sub-route c = search needs

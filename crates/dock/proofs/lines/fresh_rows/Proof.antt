@@ -1,10 +1,11 @@
 use native.Mathlib.Omega.{arith}
 use mathlib.Core.Path.{_≡_, sym, subst, _∙_}
 use Prim.Native.Nat.{_≤_, _-_}
-use Rattle.board.specs.Fresh.{freshState}
-use Rattle.fleet.specs.Fleet.{freshFleet, HeldAll}
+use Rattle.day.specs.Tell.{admitted}
+use Rattle.fleet.specs.Fleet.{HeldAll}
 use Rattle.fleet.specs.Rows.{fleetWith}
-use Rattle.planner.proofs.Kept.{fresh-held-all}
+use Rattle.planner.specs.Face.{freshOf}
+use Rattle.planner.proofs.FreshFleet.{fresh-in-form}
 use Rattle.dock.proofs.Reach.{rows-held}
 use Rattle.dock.proofs.FreshRows.{Freshly, freshly-none, freshly-more, freshly-all}
 use borrow.Author.Needs.{needs}
@@ -12,16 +13,24 @@ use Rattle.dock.proofs.lines.fresh_rows.Statement.{statement}
 use Rattle.dock.proofs.lines.fresh_rows.Tie as tie
 
 abbrev Inv-loop : tie.InvT-loop
-Inv-loop n v routes₀ sets₀ levels₀ figures₀ one j₀ routes sets levels figures j = (j ≤ v) × (v ≤ 8) × (one ≡ freshState n) × Freshly n j routes sets levels figures
+Inv-loop sheet at routes₀ sets₀ levels₀ figures₀ classes v j₀ routes sets levels figures j =
+    (j ≤ v) × (v ≤ 8) × Freshly (at .nodes) (admitted sheet) j routes sets levels figures
 
 abbrev μ-loop : tie.MeasureT-loop
-μ-loop n v routes₀ sets₀ levels₀ figures₀ one j₀ routes sets levels figures j = v - j
+μ-loop sheet at routes₀ sets₀ levels₀ figures₀ classes v j₀ routes sets levels figures j = v - j
 
-fresh-requires : tie.Need-fresh-requires Inv-loop μ-loop
-fresh-requires c κs = search needs
+read-classes-requires : tie.Need-read-classes-requires Inv-loop μ-loop
+read-classes-requires c κs = search needs
 
 loop-holds : tie.Need-loop-holds Inv-loop μ-loop
-loop-holds c = let p = c .before .pre in (omega arith, p .0, c .fresh .ensures, freshly-none _ (p .3) (p .4) (p .5) (p .6))
+loop-holds c =
+    let p = c .before .before .before .pre in
+    (omega arith, omega (arith, p .1 .vans, p .1 .fine .vans-high), freshly-none _ _ (p .2) (p .3) (p .4) (p .5))
+
+fresh-van-requires : tie.Need-fresh-van-requires Inv-loop μ-loop
+fresh-van-requires c κs =
+    let r = c .before .before .before in
+    (r .before .before .before .pre .1, c .before .loop-test .taken, r .read-classes .ensures)
 
 mul-unpack : tie.Need-mul-unpack Inv-loop μ-loop
 mul-unpack c = omega arith
@@ -49,9 +58,9 @@ index-1-unpack-4 c = omega arith
 
 unpack-requires : tie.Need-unpack-requires Inv-loop μ-loop
 unpack-requires c κs =
-    let l = c .before .before .before .before in
+    let l = c .before .before .before .before .before .before in
     let v = l .before .loop .inv in
-    v .3 .rows .3 .wide (l .before .loop .j) (omega (arith, l .loop-test .taken, v .1))
+    v .2 .rows .3 .wide (l .before .loop .j) (omega (arith, l .loop-test .taken, v .1))
 
 add-j : tie.Need-add-j Inv-loop μ-loop
 add-j c = omega arith
@@ -61,17 +70,20 @@ loop-less c = omega arith
 
 loop-again : tie.Need-loop-again Inv-loop μ-loop
 loop-again c =
-    let l = c .before .before .before .before .before in
+    let f = c .before .before .before .before .before in
+    let l = f .before .before in
     let v = l .before .loop .inv in
-    (omega arith, v .1, v .2, freshly-more (c .unpack .last .1 .1 .1 .1 .0) (v .3) (omega (arith, l .loop-test .taken, v .1)) (c .unpack .ensures .0 ∙ v .2) (c .unpack .ensures .1))
+    (omega arith, v .1, freshly-more (c .unpack .last .1 .1 .1 .1 .0) (v .2) (omega (arith, l .loop-test .taken, v .1)) (c .unpack .ensures .0 ∙ f .fresh-van .ensures) (c .unpack .ensures .1))
 
 returns : tie.Need-returns Inv-loop μ-loop
 returns c =
     let l = c .before .loop in
-    let d = c .before .before .before in
-    let e : l .j ≡ d .args .v = omega (arith, l .inv .0, c .loop-test .left) in
-    let all : fleetWith (l .routes) (l .sets) (l .levels) (l .figures) ≡ freshFleet (d .args .n) (d .args .v) = freshly-all (rw e at (l .inv .3)) in
-    (all, rows-held _ _ _ _ (subst HeldAll (sym all) (fresh-held-all (d .args .n) (d .args .v) (d .pre .1) (d .pre .2))) (l .inv .3 .rows))
+    let d = c .before .before .before .before .before in
+    let p = d .pre .1 in
+    let e : l .j ≡ d .args .at .vans = omega (arith, l .inv .0, c .loop-test .left) in
+    let all : fleetWith (l .routes) (l .sets) (l .levels) (l .figures) ≡ freshOf (d .args .sheet .now) =
+    freshly-all (rw (e ∙ p .vans, p .nodes) at (l .inv .2)) in
+    (all, rows-held _ _ _ _ (subst HeldAll (sym all) (fresh-in-form _ (d .pre .0) .1)) (l .inv .2 .rows))
 
 pub fresh-rows-spec : {M : Type 1} → statement M
 fresh-rows-spec =
@@ -79,8 +91,9 @@ fresh-rows-spec =
     (tie.spec
     Inv-loop
     μ-loop
-    fresh-requires
+    read-classes-requires
     loop-holds
+    fresh-van-requires
     mul-unpack
     index-1-unpack
     mul-unpack-2

@@ -1,6 +1,5 @@
 use native.Mathlib.Omega.{arith}
-use mathlib.Core.Path.{refl, ap₂, _∙_}
-use Rattle.fleet.specs.Fleet.{freshFleet}
+use mathlib.Core.Path.{refl}
 use Rattle.listing.proofs.PutLaws.{put-length}
 use Rattle.dock.proofs.Reach.{row-stops}
 use Rattle.dock.proofs.LineLaws.{reached-at, whole-made}
@@ -20,7 +19,7 @@ put-lines-requires c κs =
     let u = n .before .before in
     let d = u .before .before .before .before .before .before .before .before in
     let l = d .pre .1 in
-    ((d .pre .0, l, omega (arith, d .pre .2, l .steps, l .fine .k-high), n .by-node .ensures), (u .fresh-rows .ensures .1, u .fresh-rows .ensures .0 ∙ ap₂ freshFleet (l .nodes) (l .vans)))
+    ((d .pre .0, l, omega (arith, d .pre .2, l .steps, l .fine .k-high), n .by-node .ensures), (u .fresh-rows .ensures .1, u .fresh-rows .ensures .0))
 
 put-routes-requires : tie.Need-put-routes-requires
 put-routes-requires c κs =

@@ -14,7 +14,7 @@ use Rattle.board.specs.Board.{placesOf, routeOf, setOf, openAt}
 use Rattle.stands.specs.Stands.{planOf}
 use Rattle.stands.proofs.Formed.{stands-formed}
 use Rattle.fleet.specs.Rows.{figuresIn, rowBoard}
-use Rattle.fleet.proofs.RowLaws.{Turned, turned-none, turned-more}
+use Rattle.laws.proofs.Turned.{Turned, turned-none, turned-more}
 use Rattle.dock.proofs.VanLaws.{toldOr, told-anew, told-left, told-rows, turned-kept, turned-ahead, all-told}
 use Rattle.dock.proofs.telling.tell_vans.Statement.{statement}
 use Rattle.dock.proofs.telling.tell_vans.Tie as tie

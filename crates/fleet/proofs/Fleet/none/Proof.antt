@@ -3,7 +3,7 @@ use lib.ListN.{replicate}
 use Rattle.board.specs.Fresh.{noState}
 use Rattle.board.specs.declared.State.{State}
 use Rattle.fleet.specs.Fleet.{noFleet}
-use Rattle.fleet.proofs.RowLaws.{tab-replicate}
+use Rattle.laws.proofs.Turned.{tab-replicate}
 use Rattle.fleet.proofs.FleetLaws.{fleetMade}
 use borrow.Author.Needs.{needs}
 use Rattle.fleet.proofs.Fleet.none.Statement.{statement}

@@ -53,6 +53,15 @@ turned-more {n = n} {f = f} {g = g} {d = d} {j = j} {l = l} v p h e =
           (λ z. rw (eqb-true k j z, lt-ltb j (j + 1) (omega arith)) (getD-set-same l j v d (subst (λ (m : ℕ). j < m) (sym (p .long)) h) ∙ e))
           (λ z. let ne = eqb-false k j z in getD-set-other l j k v d ne ∙ p .at k b ∙ ap (λ (t : Bool). cond t (f k) (g k)) (ltb-more k j ne));
     }
+
+-- an entry that is the same either way is passed over
+pub turned-skip : {A : Type 0} {n : ℕ} {f g : ℕ → A} {d : A} {j : ℕ} {l : List A} → Turned n f g d j l → f j ≡ g j → Turned n f g d (j + 1) l
+turned-skip {f = f} {g = g} {j = j} p e = record {
+  long = p .long;
+  at = λ k b. p .at k b ∙ decided (eqb k j)
+      (λ z. rw (eqb-true k j z, lt-ltb j (j + 1) (omega arith), le-ltb j j (omega arith)) (sym e))
+      (λ z. ap (λ (t : Bool). cond t (f k) (g k)) (ltb-more k j (eqb-false k j z)));
+}
 
 pub turned-all : {A : Type 0} {n : ℕ} {f g : ℕ → A} {d : A} {j : ℕ} {l : List A} → Turned n f g d j l → l ≡ tab n (λ k. cond (ltb k j) (f k) (g k))
 turned-all {n = n} {f = f} {g = g} {d = d} {j = j} {l = l} p =
