@@ -6,16 +6,16 @@ ghost use Rattle.laws.specs.Basic.{Filled};
 ghost use Rattle.sheet.specs.Place.{Laid};
 ghost use Rattle.day.specs.Tell.{bitOf, classOf};
 ghost use Rattle.day.specs.Refuse.{endsAdmit};
+use crate::look::entry_word;
 use rules::Node;
 use sheet::Layout;
-use sheet::word;
 
 // The bit of the i-th van.
 pub fn bit(s: &[u8], l: Layout, i: usize) -> u32
     requires { ⌜ Laid (now s) l × (i < l .vans) ⌝ }
     ensures { λ r. ⌜ r ≡ bitOf (now (s .entry)) i ⌝ }
 {
-    word(s, l.van + Layout::VAN * i + 2)
+    entry_word(s, l.van, Layout::VAN, i, 2) as u32
 }
 
 // The class set of node x.
@@ -23,7 +23,7 @@ fn class(s: &[u8], l: Layout, x: usize) -> u32
     requires { ⌜ Laid (now s) l × (x < l .nodes) ⌝ }
     ensures { λ r. ⌜ r ≡ classOf (now (s .entry)) x ⌝ }
 {
-    word(s, l.node + Layout::NODE * x + 3)
+    entry_word(s, l.node, Layout::NODE, x, 3) as u32
 }
 
 // The class sets of all nodes, each read once, whatever the number of vans that ask for them.

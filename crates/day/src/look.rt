@@ -40,7 +40,7 @@ pub fn largest(s: &[u8], l: Layout) -> usize
 }
 
 // Word k of the i-th entry of a section whose entries begin at word `from` and have `width` words.
-fn entry_word(s: &[u8], from: usize, width: usize, i: usize, k: usize) -> usize
+pub fn entry_word(s: &[u8], from: usize, width: usize, i: usize, k: usize) -> usize
     requires { ⌜ (from + width * i + width ≤ words (now s)) × (k < width) ⌝ }
     ensures { λ r. ⌜ Reads (wordAt (now (s .entry)) (from + width * i + k)) r ⌝ }
 {

@@ -5,6 +5,7 @@ use Rattle.planner.specs.Promises.{Promised}
 use Rattle.planner.proofs.One.{equated, equating, jobs-read}
 use Rattle.planner.proofs.Answers.{unchanged}
 use Rattle.planner.proofs.FreshFleet.{fresh-in-form, fresh-sets}
+use Rattle.planner.proofs.Admitted.{only-admitted}
 use Rattle.planner.proofs.Kept as kept
 use Rattle.planner.proofs.Courses.{steps-back, records-bounded}
 use Rattle.planner.proofs.Never.{never-short}
@@ -22,6 +23,7 @@ promised = record {
   fresh-in-form = fresh-in-form;
   form-kept = kept.form-kept;
   fresh-sets = fresh-sets;
+  only-admitted = only-admitted;
   placing-keeps = kept.placing-keeps;
   closing-keeps = kept.closing-keeps;
   excluding-keeps = kept.excluding-keeps;

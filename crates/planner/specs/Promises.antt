@@ -17,8 +17,9 @@ use Rattle.rules.specs.Leg.{onLeg}
 use Rattle.rules.specs.Plan.{Plan, Places}
 use Rattle.rules.specs.Tests.{stays}
 use Rattle.rules.specs.Settle.{strikes, settled, rounds}
+use Rattle.rules.specs.Day.{inner}
 use Rattle.rules.specs.Every.{RoundOf}
-use Rattle.rules.specs.Fleet.{Plans, ShareNone, MayAll, BelongAll, KeepAll, aliveAll, settledAll, workedAll}
+use Rattle.rules.specs.Fleet.{Plans, ShareNone, MayAll, served, BelongAll, KeepAll, aliveAll, settledAll, workedAll}
 use Rattle.bits.specs.Places.{has}
 use Rattle.trail.specs.Trail.{Wordy}
 use Rattle.rules.specs.Numbers.{refusal, kinds, vanWeight}
@@ -113,6 +114,11 @@ FormKept = (sheet : List ℕ) (f f′ : Fleet) (t t′ : List ℕ) (word a b k :
 abbrev pub FreshSets : Type 0
 FreshSets = (sheet : List ℕ) → callRefusal sheet ≡ 0 → (R : ℕ → List ℕ) → BelongAll (dayOf sheet) (plansOf sheet (freshOf sheet)) R
     ↔ (((j : ℕ) → j < vansOf sheet → RoundOf (dayOf sheet) (R j)) × ShareNone (dayOf sheet) (vansOf sheet) R × MayAll (dayOf sheet) (vansOf sheet) (admitted sheet) R)
+
+-- from there on, whatever steps were accepted: a ward that does not admit a van is never open in it, nor on its route
+abbrev pub OnlyAdmitted : Type 0
+OnlyAdmitted = (sheet : List ℕ) (f : Fleet) (t t′ : List ℕ) → callRefusal sheet ≡ 0 → Steps sheet 0 (freshOf sheet) t f t′
+    → (j x : ℕ) → j < vansOf sheet → T (mem x (inner (dayOf sheet))) → T (served (planAt f j) x) → T (admitted sheet j x)
 
 -- placing keeps the sets whose round of the van uses the place
 abbrev pub PlacingKeeps : Type 0
@@ -237,6 +243,7 @@ pub record Promised : Type 0 where
   pub fresh-in-form : FreshInForm
   pub form-kept : FormKept
   pub fresh-sets : FreshSets
+  pub only-admitted : OnlyAdmitted
   pub placing-keeps : PlacingKeeps
   pub closing-keeps : ClosingKeeps
   pub excluding-keeps : ExcludingKeeps

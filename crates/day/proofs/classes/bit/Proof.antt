@@ -2,20 +2,14 @@ use borrow.Author.Needs.{needs}
 use Rattle.day.proofs.classes.bit.Statement.{statement}
 use Rattle.day.proofs.classes.bit.Tie as tie
 
-mul-word : tie.Need-mul-word
-mul-word c = search needs
+entry-word-requires : tie.Need-entry-word-requires
+entry-word-requires c κs = search needs
 
-add-word : tie.Need-add-word
-add-word c = search needs
-
-add-word-2 : tie.Need-add-word-2
-add-word-2 c = search needs
-
-word-requires : tie.Need-word-requires
-word-requires c κs = search needs
+cast-result : tie.Need-cast-result
+cast-result c = search needs
 
 returns : tie.Need-returns
-returns c = rw (c .before .before .before .pre .0 .van) at (c .word .ensures .is)
+returns c = rw (c .before .before .pre .0 .van) at (c .entry-word .ensures .is)
 
 pub bit-spec : {M : Type 1} → statement M
-bit-spec = tie.close (tie.spec mul-word add-word add-word-2 word-requires returns)
+bit-spec = tie.close (tie.spec entry-word-requires cast-result returns)
