@@ -7,7 +7,7 @@ use Prim.Native.Nat.{ℕ, zero, suc, _+_, _-_, _<_, _≤_}
 use native.Mathlib.Numerals.{add-one}
 use native.Mathlib.Omega.{arith}
 use lib.Dec.{T, leb, ltb, eqb, eqb→eq, leb→le, le→leb, ltb→lt, lt→ltb}
-use lib.ListN.{getD, set, replicate, take, drop, length, length-take, length-set, List·getD-eq-default}
+use lib.ListN.{getD, set, replicate, take, drop, length, length-take, length-set}
 use lib.Seq.{getD-set-same, getD-set-other, getD-take}
 use borrow.Author.Tests.{eqb-true, eqb-false, eq-eqb, ltb-true, ltb-false}
 use Rattle.laws.proofs.Logic.{decided, T-ext, and-i, and-l, and-r, or-l, or-r, or-e, true→T}

@@ -6,7 +6,7 @@ use native.Mathlib.Nat.{pow-succ', mod-eq-of-lt, zero-add}
 use native.Mathlib.Numerals.{one-add}
 use native.Mathlib.Omega.{arith}
 use lib.Pow.{pow-lt}
-use lib.Bits.{bitAnd, bitOr, and-step, and-shr, and-high, and-lt, and-self, and-mask, and-le-r, or-zero-l, or-add-and, or-step, or-shr, or-lt}
+use lib.Bits.{bitAnd, bitOr, and-step, and-shr, and-high, and-lt, and-self, and-mask, and-le-r, or-zero-l, or-add-and, or-step, or-shr}
 use lib.Count.{trailingZeros}
 use lib.Dec.{eqb}
 use borrow.Author.Tests.{eqb-true, eqb-false, eq-eqb, ne-eqb}
@@ -86,10 +86,6 @@ has-join a b p =
     (λ h. decided (has b p)
     (λ k. rw (h, k) (has-digit _ p (omega (arith, or-digit a b p, digit-not a p h, digit-has b p k))))
     (λ k. rw (h, k) (not-digit _ p (omega (arith, or-digit a b p, digit-not a p h, digit-not b p k)))))
-
-pub join-fits : (a b : ℕ) → a < 2 ^ 64 → b < 2 ^ 64 → join a b < 2 ^ 64
-unfolding join
-join-fits a b f g = or-lt 64 a b f g
 
 -- a & b == a asks whether a is within b
 pub within-mask : (a b : ℕ) → a < 2 ^ 64 → b < 2 ^ 64 → eqb (bitAnd a b) a ≡ within a b

@@ -1,6 +1,6 @@
 -- The place of a node, nodes put in and taken out, and the entries as a set.
 use mathlib.Core.Path.{_≡_, refl, ap, sym, _∙_}
-use mathlib.Core.Bool.{Bool, true, false, cond}
+use mathlib.Core.Bool.{true, false}
 use mathlib.Core.List.{List, [], _∷_, _++_}
 use Prim.Native.Nat.{suc-le-suc, ℕ, zero, suc, _+_, _≤_, _<_, min}
 use native.Mathlib.Omega.{arith}
@@ -18,15 +18,6 @@ use Rattle.rules.proofs.AlongLaws.{mem-at}
 use Rattle.board.specs.Route.{indexOf, insertIn, removeIn, wordOf}
 
 -- ---- the place of a node
-
-pub index-le : (p : ℕ) (l : List ℕ) → indexOf p l ≤ length l
-unfolding indexOf
-index-le p [] = omega arith
-index-le p (y ∷ ys) = go (eqb y p) (index-le p ys)
-  where
-    go : (b : Bool) → indexOf p ys ≤ length ys → cond b 0 (suc (indexOf p ys)) ≤ suc (length ys)
-    go true h = omega arith
-    go false h = omega arith
 
 pub index-at : (p i : ℕ) (l : List ℕ) → ((k : ℕ) → k < i → getD l k 0 ≡ p → ⊥) → i < length l → getD l i 0 ≡ p → indexOf p l ≡ i
 unfolding indexOf

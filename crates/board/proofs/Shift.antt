@@ -5,9 +5,9 @@ use Prim.Native.Nat.{ℕ, zero, suc, _+_, _-_, _≤_, _<_}
 use native.Mathlib.Numerals.{add-one}
 use native.Mathlib.Omega.{arith}
 use lib.ListN.{length, getD, drop, set, take-append-drop}
-use Rattle.laws.proofs.Sweep.{swept, swept-behind, sweep-down, sweep-up, swept-ahead, swept-end}
-use Rattle.board.specs.Route.{insertIn, removeIn}
-use Rattle.board.proofs.RouteLaws.{length-insert, insert-at, insert-below, insert-above, length-remove, remove-below, remove-above, remove-last}
+use Rattle.laws.proofs.Sweep.{swept, swept-behind, sweep-down, swept-end}
+use Rattle.board.specs.Route.{insertIn}
+use Rattle.board.proofs.RouteLaws.{length-insert, insert-at, insert-below, insert-above}
 
 module _ (k at x : ℕ) (l : List ℕ) (e : length l ≡ suc k) (h : at ≤ k) where
   pub shift-start : l ≡ swept (insertIn k at x l) l (k + 1)
@@ -33,20 +33,3 @@ module _ (k at x : ℕ) (l : List ℕ) (e : length l ≡ suc k) (h : at ≤ k) w
       (sym (insert-at k at x l (omega arith)))
       ∙ ap (λ (t : List ℕ). t ++ drop at (insertIn k at x l)) (sym (insert-below k at x l (omega arith)))
       ∙ take-append-drop at (insertIn k at x l)
-
-module _ (k at : ℕ) (l : List ℕ) (e : length l ≡ suc k) (h : at ≤ k) where
-  pub close-start : l ≡ swept l (removeIn at l) at
-  unfolding swept
-  close-start = sym (ap (λ (t : List ℕ). t ++ drop at l) (remove-below at l (omega arith)) ∙ take-append-drop at l)
-
-  pub close-turn : (j : ℕ) (a : List ℕ) → at ≤ j → j < k → a ≡ swept l (removeIn at l) j → set a j (getD a (j + 1) 0) ≡ swept l (removeIn at l) (j + 1)
-  close-turn j a b c q =
-      let n = length-remove at l (omega arith) in
-      sweep-up l (removeIn at l) j n (omega arith) q
-      (ap (λ (t : List ℕ). getD t (j + 1) 0) q ∙ swept-ahead l (removeIn at l) j (j + 1) n (omega arith) ∙ ap (λ (i : ℕ). getD l i 0) (add-one j)
-      ∙ sym (remove-above at j l b (omega arith)))
-
-  pub close-end : (a : List ℕ) → a ≡ swept l (removeIn at l) k → set a k 0 ≡ removeIn at l
-  close-end a q =
-      let n = length-remove at l (omega arith) in
-      sweep-up l (removeIn at l) k n (omega arith) q (sym (remove-last at k l h e)) ∙ swept-end l (removeIn at l) (k + 1) (omega arith) (omega arith)

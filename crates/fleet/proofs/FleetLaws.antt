@@ -43,9 +43,6 @@ pub fleet-same : (f g : Fleet) → length (f .vans) ≡ mostVans → length (g .
 unfolding stateIn
 fleet-same f g lf lg e = ap fleetMade (ext-getD noState (f .vans) (g .vans) (lf ∙ sym lg) (λ j l. e j (rw lf at l)))
 
-pub fleet-of : (f : Fleet) → length (f .vans) ≡ mostVans → fleetOf (stateIn f) ≡ f
-fleet-of f l = fleet-same (fleetOf (stateIn f)) f (fleet-eight (stateIn f)) l (λ j h. state-of (stateIn f) j h)
-
 -- a state of eight, whatever stands for one that is not there
 pub state-any : (f : Fleet) (j : ℕ) (d : State) → length (f .vans) ≡ mostVans → j < mostVans → getD (f .vans) j d ≡ stateIn f j
 unfolding stateIn

@@ -3,26 +3,25 @@ use mathlib.Core.Path.{_≡_, refl, ap, sym, _∙_}
 use mathlib.Core.Bool.{Bool, true, false, cond, not, _&&_, _||_, and-assoc}
 use mathlib.Core.List.{List}
 use mathlib.Core.Logic.{_≢_}
-use Prim.Native.Nat.{ℕ, _/_, _≤_, _<_}
+use Prim.Native.Nat.{ℕ, _≤_, _<_}
 use native.Mathlib.Omega.{arith}
 use lib.Dec.{eqb, leb, ltb}
 use borrow.Author.Tests.{eqb-true, eqb-false, eq-eqb, ne-eqb, leb-true, le-leb, ltb-true, ltb-false, lt-ltb, le-ltb, not-true}
 use Rattle.laws.specs.Basic.{allBelow}
 use Rattle.laws.proofs.Logic.{decided, and-true, or-false}
-use Rattle.laws.proofs.Below.{below-at, below-make, below-same}
+use Rattle.laws.proofs.Below.{below-at, below-make}
 use Rattle.bits.proofs.Members.{false-true}
 use Rattle.rules.specs.Numbers.{mostVans}
 use Rattle.rules.specs.Day.{isInner}
 use Rattle.rules.proofs.Inner.{is-inner}
-use Rattle.board.specs.Board.{Board, boardOf, onRoute, setOf}
-use Rattle.board.specs.Fresh.{noState}
+use Rattle.board.specs.Board.{Board, onRoute, setOf}
 use Rattle.board.specs.Form.{inForm, formWith}
 use Rattle.board.specs.declared.State.{State}
 use Rattle.trail.specs.Trail.{roomOf}
-use Rattle.fleet.specs.Fleet.{fleetOf, stateIn, boardIn, shareOf, trailIn, HeldAll}
+use Rattle.fleet.specs.Fleet.{fleetOf, stateIn, boardIn, trailIn}
 use Rattle.fleet.specs.Form.{hasWard, clearOf, sharesNone, vanFits, vanOk, idle, inFormAll, formWithAll}
 use Rattle.fleet.specs.declared.Fleet.{Fleet}
-use Rattle.fleet.proofs.FleetLaws.{state-of, fleet-eight, fleet-same, room-part, idle-none}
+use Rattle.fleet.proofs.FleetLaws.{state-of}
 use Rattle.fleet.proofs.TestLaws.{together}
 
 -- ---- the rule between vans
@@ -155,33 +154,6 @@ unfolding formWith
 form-with-van n v f t small l e j h =
     let a = form-with-all n v f t e in
     rw (in-form-all n v f small l (a .0) .each j h) (le-leb _ _ (a .1 j h))
-
--- as the code asks it: every part has the same room
-pub form-with-split : (n v : ℕ) (f : Fleet) (t : List ℕ) → formWithAll n v f t ≡ inFormAll n v f && allBelow v (λ j. leb (stateIn f j .records) (shareOf v t / 2))
-unfolding formWithAll
-form-with-split n v f t =
-    ap (λ (b : Bool). inFormAll n v f && b) (below-same v _ _ (λ j h. ap (λ (r : ℕ). leb (stateIn f j .records) r) (room-part v t j h)))
-
--- ---- what is asked of the vans looks at them alone
-
-module _ (n v : ℕ) (f g : Fleet) (some : 1 ≤ v) (same : (j : ℕ) → j < v → stateIn f j ≡ stateIn g j) where
-  shares-same : sharesNone n v f ≡ sharesNone n v g
-  unfolding sharesNone
-  shares-same = below-same v _ _ (λ i l. below-same v _ _ (λ j h. λ u. eqb i j || clearOf n (boardOf (same i l u)) (boardOf (same j h u))))
-
-  pub vans-same : (allBelow v (vanOk n f) && sharesNone n v f) ≡ (allBelow v (vanOk n g) && sharesNone n v g)
-  vans-same = λ u. below-same v (vanOk n f) (vanOk n g) (λ j l. λ u. vanFits n (same j l u) (same 0 some u .depth) (eqb j 0)) u && shares-same u
-
-  pub room-same : (room : ℕ) → allBelow v (λ j. leb (stateIn f j .records) room) ≡ allBelow v (λ j. leb (stateIn g j .records) room)
-  room-same room = below-same v _ _ (λ j l. ap (λ (s : State). leb (s .records) room) (same j l))
-
--- the vans of a fleet, and nothing but zeros beside them: the fleet itself, if what is no van is idle
-pub vans-alone : (v : ℕ) (f : Fleet) → HeldAll f → ((j : ℕ) → v ≤ j → j < mostVans → idle (stateIn f j) ≡ true)
-    → fleetOf (λ j. cond (ltb j v) (stateIn f j) noState) ≡ f
-vans-alone v f h r =
-    fleet-same (fleetOf (λ j. cond (ltb j v) (stateIn f j) noState)) f (fleet-eight (λ j. cond (ltb j v) (stateIn f j) noState)) (h .eight) (λ j l.
-    state-of (λ j. cond (ltb j v) (stateIn f j) noState) j l
-    ∙ decided (ltb j v) (λ q. rw q refl) (λ q. rw q (sym (idle-none (stateIn f j) (h .each j l) (r j (ltb-false j v q) l)))))
 
 -- its vans
 pub van-alone : (v : ℕ) (g h : ℕ → State) (j : ℕ) → v ≤ mostVans → j < v → stateIn (fleetOf (λ j. cond (ltb j v) (g j) (h j))) j ≡ g j

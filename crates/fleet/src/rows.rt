@@ -1,7 +1,6 @@
 // A fleet in arrays, a row of each for every van: route, sets, levels, and its other numbers. A State goes in and out by value, van by van; what
 // is no van is not copied.
 ghost use mathlib.Core.Path.{_≡_};
-ghost use Prim.Native.Nat.{ℕ};
 ghost use lib.ListN.{length};
 ghost use Rattle.board.specs.Board.{stateWith};
 ghost use Rattle.fleet.specs.Rows.{figuresIn, rowOf};

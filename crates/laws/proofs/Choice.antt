@@ -1,7 +1,7 @@
 -- The first refusal: the first number of several that is not 0. (A choice by a test is mathlib's `cond`.)
 use Prim.Native.Nat.{ℕ, zero, suc}
 use mathlib.Core.Bool.{Bool, true, false}
-use mathlib.Core.Path.{_≡_, refl, sym, _∙_}
+use mathlib.Core.Path.{_≡_, refl, _∙_}
 use native.Mathlib.Nat.{suc-ne-zero}
 use lib.Dec.{eqb}
 use borrow.Author.Tests.{eqb-false}
@@ -39,6 +39,3 @@ passed false k n e = absurd (eqb-false k 0 n e)
 -- ---- code that asks for h, returns it if it is not 0 and goes on to r otherwise
 pub first-stops : {h a : ℕ} (b : ℕ) → h ≡ a → (h ≡ 0 → ⊥) → h ≡ orElse a b
 first-stops {h} {a} b e f = e ∙ or-else-first a b (λ z. f (e ∙ z))
-
-pub first-goes : {h a r : ℕ} (b : ℕ) → h ≡ a → h ≡ 0 → r ≡ b → r ≡ orElse a b
-first-goes {h} {a} b e z q = q ∙ sym (or-else-next a b (sym e ∙ z))

@@ -1,7 +1,6 @@
 -- A list cut into parts of equal length: what putting another part in leaves, and all parts one after another.
 use Prim.Native.Nat.{ℕ, zero, suc, _+_, _-_, _*_, _≤_, _<_}
 use mathlib.Core.Path.{_≡_, refl, sym, ap, ap₂, subst, _∙_}
-use mathlib.Core.Bool.{true, false}
 use mathlib.Core.List.{List, [], _++_}
 use mathlib.Core.Logic.{_≢_}
 use native.Mathlib.Nat.{zero-mul, suc-mul, mul-le-mul-right}

@@ -1,5 +1,5 @@
 -- A list by its entries, and the laws of a loop that fills one.
-use Prim.Native.Nat.{ℕ, zero, suc, _+_, _<_, _≤_}
+use Prim.Native.Nat.{ℕ, zero, suc, _+_, _<_}
 use mathlib.Core.Path.{_≡_, refl, sym, ap, subst, _∙_}
 use mathlib.Core.List.{List, [], _∷_}
 use mathlib.Core.Logic.{⊎-elim, _⊎_, inl, inr}
@@ -8,7 +8,7 @@ use native.Mathlib.Nat.{le-of-suc-le-suc, not-suc-le-zero, ne-of-lt}
 use native.Mathlib.Omega.{arith}
 use borrow.Author.Count.{below-more}
 use lib.ListN.{length, getD, set, length-set}
-use lib.Seq.{ext-getD, getD-set-same, getD-set-other}
+use lib.Seq.{getD-set-same, getD-set-other}
 
 pub length-tab : {A : Type 0} (n : ℕ) (f : ℕ → A) → length (tab n f) ≡ n
 unfolding tab
@@ -32,11 +32,6 @@ filled-more {n = n} {f = f} {d = d} {i = i} {l = l} v p h e =
           (λ k b. getD-set-other l i k v d (ne-of-lt b) ∙ p .at k b)
           (getD-set-same l i v d (subst (λ (m : ℕ). i < m) (sym (p .long)) h) ∙ e);
     }
-
-pub filled-all : {A : Type 0} {n : ℕ} {f : ℕ → A} {d : A} {i : ℕ} {l : List A} → Filled n f d i l → n ≤ i → l ≡ tab n f
-filled-all {n = n} {f = f} {d = d} {i = i} {l = l} p h =
-    ext-getD d l (tab n f) (p .long ∙ sym (length-tab n f))
-    (λ k b. let b2 : k < n = subst (λ (m : ℕ). k < m) (p .long) b in p .at k (omega arith) ∙ sym (getD-tab n f d k b2))
 
 -- a member of the list is f at an index
 pub record At {A : Type 0} (n : ℕ) (f : ℕ → A) (a : A) : Type 0 where

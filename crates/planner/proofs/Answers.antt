@@ -29,7 +29,7 @@ use Rattle.van.proofs.Called.{Called, call-taken}
 use Rattle.van.proofs.Moves.{act-moves}
 use Rattle.van.proofs.Plans.{settled-plan}
 use Rattle.fleet.specs.Fleet.{stateIn, boardIn, trailIn, HeldAll}
-use Rattle.fleet.specs.Form.{sharesNone, inFormAll, formWithAll}
+use Rattle.fleet.specs.Form.{inFormAll, formWithAll}
 use Rattle.fleet.specs.declared.Fleet.{Fleet}
 use Rattle.fleet.proofs.FormLaws.{form-with-van}
 use Rattle.turns.specs.Together.{RanAll, actedAll}
@@ -239,21 +239,6 @@ levelling sheet f t {k} {f′} {t′} held i a b e = go (moved-in sheet f t i ki
     go (level q z to) = (z, to)
     go (back q z to h) = absurd (eqb-false kinds.LEVEL kinds.BACK refl q)
     go (obliged q z did others) = absurd (eqb-false kinds.LEVEL kinds.OBLIGE refl q)
-
--- step 7: every van steps back, and the rule between vans holds
-pub backing : (sheet : List ℕ) (f : Fleet) (t : List ℕ) {k : ℕ} {f′ : Fleet} {t′ : List ℕ} → HeldAll f → (i a b : ℕ) → Took sheet f t (inVanWord i kinds.BACK) a b k f′ t′
-    → (k ≡ 0) × ((j : ℕ) → j < vansOf sheet → trail.backStep (nOf sheet) (stateIn f j) (trailIn (vansOf sheet) t j) ≡ acted 0 0 (stateIn f′ j) (trailIn (vansOf sheet) t′ j))
-    × (sharesNone (nOf sheet) (vansOf sheet) f′ ≡ true)
-backing sheet f t {k} {f′} {t′} held i a b e = go (moved-in sheet f t i kinds.BACK a b (omega arith) held e)
-  where
-    go : MovedAll (vanOf sheet) (dayOf sheet) (vansOf sheet) f t (stepIn i kinds.BACK a b) k f′ t′
-        → (k ≡ 0) × ((j : ℕ) → j < vansOf sheet → trail.backStep (nOf sheet) (stateIn f j) (trailIn (vansOf sheet) t j) ≡ acted 0 0 (stateIn f′ j) (trailIn (vansOf sheet) t′ j))
-        × (sharesNone (nOf sheet) (vansOf sheet) f′ ≡ true)
-    go (placed q z h s c turn) = absurd (eqb-false kinds.BACK kinds.PLACE refl q)
-    go (alone q n h did others) = absurd (eqb-false 0 1 refl (ap (λ (c : Bool). cond c 1 0) q))
-    go (level q z to) = absurd (eqb-false kinds.BACK kinds.LEVEL refl q)
-    go (back q z to h) = (z, to, h)
-    go (obliged q z did others) = absurd (eqb-false kinds.BACK kinds.OBLIGE refl q)
 
 -- ---- one van's part in any accepted step: an accepted step of the trail, or nothing
 

@@ -4,9 +4,9 @@ use mathlib.Core.Path.{_≡_, refl, sym, ap, subst, _∙_}
 use mathlib.Core.Bool.{Bool, true, false, cond, _&&_, _||_}
 use mathlib.Core.List.{List}
 use native.Mathlib.Omega.{arith}
-use lib.Dec.{T, ltb}
-use borrow.Author.Tests.{ltb-true, ltb-false, lt-ltb, le-ltb}
-use Rattle.laws.specs.Basic.{allBelow, orElse, unless}
+use lib.Dec.{ltb}
+use borrow.Author.Tests.{ltb-true, lt-ltb}
+use Rattle.laws.specs.Basic.{allBelow, orElse}
 use Rattle.laws.proofs.Logic.{decided, T→true, true→T, T-ext, and-true}
 use Rattle.laws.proofs.Choice.{or-else-first, or-else-zero, passed}
 use Rattle.laws.proofs.Below.{below-at, below-make}

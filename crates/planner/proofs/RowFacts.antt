@@ -11,7 +11,7 @@ use Rattle.sheet.specs.Place.{Laid}
 use Rattle.sheet.specs.declared.Layout.{Layout}
 use Rattle.day.specs.Refuse.{callRefusal}
 use Rattle.board.specs.Board.{boardOf}
-use Rattle.board.specs.Held.{Held, Sound, Words, Ends}
+use Rattle.board.specs.Held.{Held, Sound, Ends}
 use Rattle.board.specs.declared.State.{State}
 use Rattle.board.proofs.FormLaws.{in-form}
 use Rattle.board.proofs.EndLaws.{sets-end}

@@ -6,8 +6,8 @@ use mathlib.Core.List.{List}
 use native.Mathlib.Omega.{arith}
 use lib.ListN.{length}
 use lib.Dec.{eqb, ltb, leb}
-use borrow.Author.Tests.{eqb-true, eqb-false, ltb-true, ltb-false}
-use Rattle.laws.specs.Basic.{allBelow, orElse, unless, tab}
+use borrow.Author.Tests.{eqb-true, eqb-false, ltb-false}
+use Rattle.laws.specs.Basic.{allBelow, orElse, unless}
 use Rattle.laws.proofs.Logic.{decided}
 use Rattle.laws.proofs.Below.{below-same}
 use Rattle.rules.specs.Numbers.{refusal, mostVans, stepSaid}
@@ -16,18 +16,16 @@ use Rattle.sheet.specs.Place.{Laid}
 use Rattle.sheet.specs.declared.Layout.{Layout}
 use Rattle.day.specs.Refuse.{callRefusal}
 use Rattle.day.specs.Tell.{dayOf, vanOf}
-use Rattle.board.specs.declared.State.{State}
 use Rattle.trail.specs.Trail.{roomOf}
 use Rattle.fleet.specs.Fleet.{fleetOf, stateIn, shareOf, trailIn, HeldAll}
 use Rattle.fleet.specs.Form.{inFormAll, formWithAll}
 use Rattle.fleet.specs.Rows.{rowState, fleetWith, Rows, Figured}
 use Rattle.fleet.specs.declared.Fleet.{Fleet}
 use Rattle.fleet.proofs.FleetLaws.{state-of, fleet-eight, fleet-same, room-part}
-use Rattle.turns.specs.Together.{RanAll, actedAll, ranAll}
+use Rattle.turns.specs.Together.{RanAll, actedAll}
 use Rattle.turns.specs.Act.{actAll}
 use Rattle.turns.specs.Known.{KnownRows, Did}
 use Rattle.turns.specs.declared.Outcomes.{Outcomes}
-use Rattle.turns.specs.declared.Turned.{Turned}
 use Rattle.planner.specs.Face.{askRefusal, stepRefusal, stepOf}
 use Rattle.planner.proofs.Answers.{call-made, call-yes, call-no}
 use Rattle.turns.proofs.Moves.{act-all-moves, act-all-leaves}

@@ -1,13 +1,13 @@
 -- Several vans: the fresh fleet is in form, and the steps keep the form.
 use mathlib.Core.Path.{sym, subst, _∙_}
-use Prim.Native.Nat.{ℕ, _≤_, _<_}
-use mathlib.Core.Bool.{cond, not, _&&_, _||_, Bool}
+use Prim.Native.Nat.{ℕ, _<_}
+use mathlib.Core.Bool.{cond, not, _&&_, _||_}
 use mathlib.Core.List.{List, [], _∷_}
 use mathlib.Core.Logic.{_⊎_, inl, inr, ⊎-elim, _≢_}
 use lib.Dec.{T, T-not, not-T, eqb, eqb→eq, eqb-refl}
 use Rattle.rules.specs.Day.{Day, inner}
 use Rattle.rules.specs.declared.Van.{Van}
-use Rattle.rules.specs.Plan.{Plan, Places, fresh}
+use Rattle.rules.specs.Plan.{Plan, Places}
 use Rattle.rules.specs.Steps.{putAfter, split, placed, closed, excluded, required}
 use Rattle.rules.specs.Settle.{settled}
 use Rattle.rules.specs.Verdict.{hasPlace}
@@ -16,18 +16,11 @@ use Rattle.rules.specs.Fleet.{Plans, served, inVan, placedIn, obliged, F
 use Rattle.rules.proofs.Left.{_⊆_}
 use Rattle.rules.proofs.Placing.{split-old}
 use Rattle.rules.proofs.Fixpoint.{settle-less}
-use Rattle.rules.proofs.Forms.{fresh-off, fresh-plan-formed, placed-formed, closed-formed, excluded-formed, settled-formed, required-formed}
+use Rattle.rules.proofs.Forms.{placed-formed, closed-formed, excluded-formed, settled-formed, required-formed}
 use Rattle.rules.proofs.FleetRounds.{open-served, open-off, SamePlans, van-same}
 use Rattle.laws.proofs.Logic.{and-l, and-r, or-l, or-r, or-e, or-mono, not-or-i, contra, by-test}
 use Rattle.laws.specs.Basic.{mem, any, In}
-use Rattle.laws.proofs.Lists.{any-i, any-e, any-none, mem-in}
-
--- the fresh fleet: no ward is on a route
-pub fresh-in-form-all : (d : Day) (k : ℕ) (may : ℕ → ℕ → Bool) (m : (ℕ → Bool)) → 2 ≤ d .n → FormedAll d (record { vans = k; plan = λ i. fresh d (may i); must = m })
-fresh-in-form-all d k may m low = record {
-  each = λ i l. fresh-plan-formed d (may i) low;
-  apart = λ i j x l l′ ne n on. absurd (T-not (mem x (fresh d (may i) .route)) (fresh-off d (may i) (mem-in x (inner d) n)) on);
-}
+use Rattle.laws.proofs.Lists.{any-i, any-e, any-none}
 
 -- ---- what a step serves
 

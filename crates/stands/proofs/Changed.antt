@@ -12,7 +12,7 @@ use Rattle.bits.specs.Places.{without}
 use Rattle.bits.proofs.Members.{false-true}
 use Rattle.board.specs.Route.{indexOf}
 use Rattle.board.specs.Board.{Board, routeOf, onRoute, setOf, openAt}
-use Rattle.board.specs.Change.{putSet, placedAfter, marked, obliged, unobliged}
+use Rattle.board.specs.Change.{putSet, placedAfter, marked, obliged}
 use Rattle.board.specs.Held.{FormedBoard, Wide, Splits}
 use Rattle.board.proofs.Inverse.{placed-route}
 use Rattle.board.proofs.PlaceLaws.{open-closed, open-excluded, open-placed, mark-marked}
@@ -57,7 +57,3 @@ required-stands b x h = plan-ext _ _ refl (λ y q. refl) (λ y. mark-marked b x 
 pub obliged-stands : (b : Board) (x : ℕ) → planOf (obliged b x) ≡ planOf b
 unfolding obliged routeOf openAt setOf
 obliged-stands b x = refl
-
-pub unobliged-stands : (b : Board) (x : ℕ) → planOf (unobliged b x) ≡ planOf b
-unfolding unobliged routeOf openAt setOf
-unobliged-stands b x = refl

@@ -29,11 +29,10 @@ use Rattle.board.specs.Held.{Words, FormedBoard, Sound, Splits}
 use Rattle.board.specs.declared.State.{State}
 use Rattle.board.proofs.Keep.{must-inner, put-same, put-other, placed-set, placed-on, placed-others, heir-yes, heir-no}
 use Rattle.trail.specs.Trail.{shrunk}
-use Rattle.trail.specs.Undo.{strictly, Undone}
-use Rattle.trail.specs.Steps.{undoLevel, baseOf}
+use Rattle.trail.specs.Undo.{strictly}
 use Rattle.trail.proofs.StepLaws.{Free}
 use Rattle.trail.proofs.Small.{Small, shrinks, places, marks, obliges, put-marks, placed-marks}
-use Rattle.trail.proofs.Spells.{Spells, none, more, spells-sound, spells-undo}
+use Rattle.trail.proofs.Spells.{Spells, none, more, spells-sound}
 use Rattle.trail.specs.Run.{Smaller, Runs}
 use Rattle.trail.specs.Run as run
 use Rattle.trail.proofs.Since.{Since, strict, changed-free, move-since}
@@ -326,12 +325,3 @@ module _ (n : ℕ) (may : ℕ → Bool) (two : 2 ≤ n) (small : n ≤ 64) (t : 
   pub settle-room : (new : List ℕ) → Smaller (r .sets) new → r .records + shrunk (r .sets) new 64 ≤ n * (n - 2) + members 64 (r .must)
   unfolding worth
   settle-room new g = omega (arith, all-records, settle-less n (boardOf r) new sound (reached .held .words) g 64 (omega arith))
-
-  -- and every record above the last level fits
-  pub reached-fits : 0 < r .depth → undoLevel n r u .0 ≡ true
-  unfolding undoLevel baseOf
-  reached-fits h =
-      let low = reached .form .levels .held (r .depth - 1) (omega arith) in
-      let w = spells-undo fresh-sound (reached .spelled) (r .records - getD (r .levels) (r .depth - 1) 0) (getD (r .levels) (r .depth - 1) 0) (omega (arith, low)) in
-      let all : 0 + (r .records - 0) ≡ r .records = omega arith in
-      ap (λ (o : Undone). o .0) (rw all at (w .2))

@@ -2,7 +2,7 @@
 use mathlib.Core.Path.{_≡_, refl, ap, sym, _∙_}
 use mathlib.Core.Bool.{Bool, true, false, not, _&&_, _||_}
 use mathlib.Core.List.{List}
-use Prim.Native.Nat.{ℕ, _+_, _-_, _*_, _/_, _≤_, _<_}
+use Prim.Native.Nat.{ℕ, _+_, _-_, _*_, _/_, _≤_}
 use native.Mathlib.Omega.{arith}
 use lib.Dec.{eqb, leb, ltb}
 use borrow.Author.Tests.{eqb-false, ltb-false, leb-false, not-true}
@@ -21,12 +21,11 @@ use Rattle.board.proofs.Keep.{obliged-formed}
 use Rattle.board.specs.declared.State.{State}
 use Rattle.trail.specs.Trail.{roomOf, change, firstWord, shrunk}
 use Rattle.trail.specs.Refusals.{placeShut, placeRefusal, excludeRefusal, requireRefusal, obligeRefusal}
-use Rattle.trail.specs.Steps.{undoLevel}
 use Rattle.trail.proofs.StepLaws.{not-shut}
 use Rattle.trail.proofs.Small.{shrinks, places, marks, obliges, put-marks, placed-marks}
 use Rattle.trail.specs.Run.{Smaller, Runs}
 use Rattle.trail.proofs.Since.{strict}
-use Rattle.trail.proofs.Bound.{one-more, mark-must, must-most, reached, record-room, settle-room, reached-fits}
+use Rattle.trail.proofs.Bound.{one-more, mark-must, must-most, reached, record-room, settle-room}
 
 -- a test of another number was passed where the refusal is the room's
 skip : (t : Bool) (k b : ℕ) → eqb k 0 ≡ false → eqb k refusal.ROOM ≡ false → orElse (unless t k) b ≡ refusal.ROOM → (t ≡ true) × (b ≡ refusal.ROOM)
@@ -125,11 +124,3 @@ module _ (n : ℕ) (may : ℕ → Bool) (two : 2 ≤ n) (small : n ≤ 64) (t : 
         settle-room n may two small t r u run new g,
         leb-false (r .records + shrunk (r .sets) new 64) (roomOf u) (last (leb (r .records + shrunk (r .sets) new 64) (roomOf u)) e),
       )
-
-  -- the records stay within the trail's room
-  pub records-room : r .records ≤ roomOf u
-  records-room = reached n may two small t r u run .room
-
-  -- every record above the last level fits
-  pub back-fitting : 0 < r .depth → unless (undoLevel n r u .0) refusal.MISFIT ≡ 0
-  back-fitting h = rw (reached-fits n may two small t r u run h)

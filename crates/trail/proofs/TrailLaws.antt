@@ -1,6 +1,6 @@
 -- What was pushed is read back; the loops that count and write a settling's records.
 use mathlib.Core.Path.{_≡_, refl, ap, sym, _∙_}
-use mathlib.Core.Bool.{Bool, true, false, cond}
+use mathlib.Core.Bool.{cond}
 use mathlib.Core.List.{List}
 use Prim.Native.Nat.{ℕ, zero, suc, _+_, _-_, _*_, _/_, _≤_, _<_}
 use native.Mathlib.Numerals.{add-one}
@@ -57,15 +57,6 @@ shrunk-none old new = refl
 pub shrunk-next : (old new : List ℕ) (k : ℕ) {i r : ℕ} → i ≡ shrunk old new k → r ≡ i + cond (eqb (getD old k 0) (getD new k 0)) 0 1 → r ≡ shrunk old new (k + 1)
 unfolding shrunk
 shrunk-next old new k e f = rw (add-one k) (f ∙ ap (λ (i : ℕ). i + cond (eqb (getD old k 0) (getD new k 0)) 0 1) e)
-
-pub shrunk-low : (old new : List ℕ) (k : ℕ) → shrunk old new k ≤ k
-unfolding shrunk
-shrunk-low old new zero = omega arith
-shrunk-low old new (suc k) = go (eqb (getD old k 0) (getD new k 0)) (shrunk-low old new k)
-  where
-    go : (b : Bool) → shrunk old new k ≤ k → shrunk old new k + cond b 0 1 ≤ suc k
-    go true h = omega arith
-    go false h = omega arith
 
 shrunk-more : (old new : List ℕ) (j k : ℕ) → shrunk old new k ≤ shrunk old new (j + k)
 unfolding shrunk

@@ -11,13 +11,13 @@ use lib.Seq.{ext-getD, getD-set-same, getD-set-other}
 use borrow.Author.Tests.{eqb-true, eqb-false, ltb-true, ltb-false, le-leb}
 use Rattle.laws.proofs.Logic.{decided, and-true}
 use Rattle.laws.proofs.Sweep.{swept, swept-ahead, swept-behind, getD-map}
-use Rattle.bits.specs.Places.{has, with, without, within}
+use Rattle.bits.specs.Places.{has, without, within}
 use Rattle.bits.proofs.Members.{has-none, has-high, has-ext, with-fits, without-same, without-other, without-fits}
 use Rattle.bits.proofs.Masks.{has-and, within-mask}
 use Rattle.rules.specs.Day.{isInner}
 use Rattle.rules.proofs.Inner.{is-inner}
 use Rattle.board.specs.Route.{indexOf, removeIn, wordOf}
-use Rattle.board.specs.Board.{Board, board, routeOf, onRoute, legsOf, setOf}
+use Rattle.board.specs.Board.{Board, routeOf, onRoute, legsOf, setOf}
 use Rattle.board.specs.Change.{strike, putSet, unplaced, unmarked, unobliged}
 use Rattle.board.specs.Held.{Sound}
 use Rattle.board.proofs.EndLaws.{sets-end}

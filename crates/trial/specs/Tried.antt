@@ -1,9 +1,9 @@
 -- A place tried, and kept only if the fleet stays alive.
-use Prim.Native.Nat.{ℕ, _+_, _*_}
+use Prim.Native.Nat.{ℕ}
 use mathlib.Core.Bool.{Bool, cond, _&&_}
 use mathlib.Core.List.{List}
 use lib.Dec.{eqb}
-use Rattle.rules.specs.Numbers.{kinds, vanWeight}
+use Rattle.rules.specs.Numbers.{kinds}
 use Rattle.fleet.specs.declared.Fleet.{Fleet}
 use Rattle.turns.specs.declared.Turned.{Turned}
 use Rattle.planner.specs.Face.{stepOf, judgeOf}

@@ -14,7 +14,7 @@ use Rattle.rules.proofs.Inner.{is-inner}
 use Rattle.sheet.specs.Section.{nOf}
 use Rattle.day.specs.Refuse.{callRefusal}
 use Rattle.day.proofs.RefuseLaws.{call-fine}
-use Rattle.day.specs.Tell.{dayOf, vanOf}
+use Rattle.day.specs.Tell.{dayOf}
 use Rattle.bits.specs.Places.{has}
 use Rattle.bits.proofs.Members.{has-none, has-low}
 use Rattle.rules.specs.Asked.{Formed}

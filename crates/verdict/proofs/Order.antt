@@ -1,23 +1,19 @@
 -- Which transfers are in wrong order, by where their nodes stand, and who is on the route.
-use mathlib.Core.Path.{_≡_, refl, ap, _∙_, subst}
-use Prim.Native.Nat.{ℕ, zero, suc, _<_, _≤_}
+use mathlib.Core.Path.{_≡_, subst}
+use Prim.Native.Nat.{ℕ, zero, suc, _<_}
 use mathlib.Core.Bool.{false, not, _&&_}
 use mathlib.Core.List.{List, [], _∷_}
 use mathlib.Core.Logic.{⊎-elim}
 use native.Mathlib.Omega.{arith}
-use lib.Dec.{T, ltb, eqb, eqb→eq, ltb→lt, lt→ltb}
+use lib.Dec.{T, eqb, eqb→eq}
 use borrow.Author.Tests.{eq-eqb}
-use lib.ListN.{getD, take, length, length-take}
-use lib.Seq.{getD-take}
-use Rattle.laws.proofs.Logic.{T-ext, and-i, and-l, and-r, cond-yes, cond-no, tf}
+use lib.ListN.{getD, length}
+use Rattle.laws.proofs.Logic.{and-r, cond-yes, cond-no, tf}
 use Rattle.laws.specs.Basic.{mem}
 use Rattle.rules.specs.Rounds.{Distinct, none, more}
-use Rattle.rules.specs.Verdict.{wrong, wrongWay}
-use Rattle.rules.specs.declared.Job.{Job}
-use Rattle.rules.specs.declared.Job.the-variants.{Clean, Soiled, Transfer}
+use Rattle.rules.specs.Verdict.{wrong}
 use Rattle.rules.proofs.AlongLaws.{mem-at, stops-apart}
-use Rattle.along.specs.Spots.{spot, Spots}
-use Rattle.along.proofs.SpotLaws.{spot-cases, mem-found, spot-found}
+use Rattle.along.proofs.SpotLaws.{mem-found}
 
 -- b at the i-th stop, a at the j-th behind it
 pub record Before (a b : ℕ) (l : List ℕ) : Type 0 where

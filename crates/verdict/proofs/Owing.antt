@@ -8,7 +8,7 @@ use native.Mathlib.Omega.{arith}
 use lib.Dec.{T, T-not, eqb, eqb→eq}
 use borrow.Author.Tests.{eq-eqb}
 use lib.ListN.{getD}
-use Rattle.laws.proofs.Logic.{decided, T-ext, tf, true→T, T→true, and-i, and-l, and-r, or-l, or-r, or-e, imp-i, imp-e}
+use Rattle.laws.proofs.Logic.{decided, T-ext, tf, true→T, T→true, and-i, and-l, and-r, or-e, imp-i, imp-e}
 use Rattle.laws.proofs.Lists.{mem-in, all-in, all-i, any-i, any-e}
 use Rattle.laws.specs.Basic.{mem, all, any, In, allBelow}
 use Rattle.laws.proofs.Below.{below-at, below-make}

@@ -11,7 +11,7 @@ use lib.Bits.{bitAnd, and-lt}
 use borrow.Author.Tests.{eq-eqb, ne-eqb, eqb-true, not-true, not-false}
 use Rattle.laws.proofs.Logic.{decided, T-ext, true→T, T→true, N→false, false→N, and-i, and-l, and-r, and-true, or-l, or-r, or-e}
 use Rattle.laws.proofs.Lists.{any-i, any-e}
-use Rattle.laws.specs.Basic.{mem, any, In, allBelow, anyBelow, tab}
+use Rattle.laws.specs.Basic.{mem, any, allBelow, anyBelow, tab}
 use Rattle.laws.proofs.Below.{below-at, below-find, below-fails}
 use Rattle.bits.specs.Places.{has, with, join}
 use Rattle.bits.proofs.Members.{has-none, has-ext, has-low, false-true}

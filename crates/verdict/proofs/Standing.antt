@@ -2,36 +2,35 @@
 use mathlib.Core.Path.{_≡_, refl, sym, ap, _∙_, subst}
 use Prim.Native.Nat.{ℕ, _+_, _^_, _<_}
 use mathlib.Core.Bool.{Bool, true, false, not, _&&_, _||_}
-use mathlib.Core.List.{List, _∷_}
+use mathlib.Core.List.{List}
 use mathlib.Core.Logic.{⊎-elim}
 use native.Mathlib.Omega.{arith}
 use lib.Dec.{T, T-not, eqb, eqb→eq}
 use lib.ListN.{getD, take}
-use Rattle.laws.specs.Basic.{mem, all, any, In, allBelow}
+use Rattle.laws.specs.Basic.{mem, any, In, allBelow}
 use Rattle.laws.proofs.Logic.{T-ext, tf, true→T, T→true, and-i, and-l, and-r, or-l, or-r, or-e}
 use Rattle.laws.proofs.Lists.{any-i, any-e, mem-hd}
 use Rattle.laws.proofs.Table.{in-tab}
 use Rattle.bits.specs.Places.{has, join, minus}
 use Rattle.bits.proofs.Members.{has-low}
 use Rattle.bits.proofs.Masks.{has-join, has-minus}
-use Rattle.rules.specs.Day.{Day, inner}
+use Rattle.rules.specs.Day.{Day}
 use Rattle.rules.specs.declared.Van.{Van}
-use Rattle.rules.specs.Verdict.{partnered, owed, hasPlace, alive}
+use Rattle.rules.specs.Verdict.{partnered, alive}
 use Rattle.rules.specs.declared.Job.{Job}
 use Rattle.rules.specs.declared.Job.the-variants.{Clean, Soiled, Transfer}
-use Rattle.rules.proofs.Inner.{inner-low}
 use Rattle.sheet.specs.Section.{mOf}
 use Rattle.sheet.specs.declared.Layout.{Layout}
 use Rattle.day.specs.Tell.{dayOf, jobIn}
 use Rattle.day.proofs.Asked.{proper}
 use Rattle.along.specs.Sets.{planFrom}
 use Rattle.along.specs.Ready.{Ready}
-use Rattle.along.specs.Nodes.{ByNode, Mates, mateIn}
+use Rattle.along.specs.Nodes.{ByNode, Mates}
 use Rattle.along.proofs.Facts.{route-of}
 use Rattle.along.proofs.ReadyLaws.{jobs-are}
 use Rattle.verdict.specs.declared.Course.{Course}
 use Rattle.verdict.specs.Verdict.{joins, memberOpen, Routed, Coursed}
-use Rattle.verdict.proofs.Pairing.{Other, other, joined-on}
+use Rattle.verdict.proofs.Pairing.{other, joined-on}
 use Rattle.verdict.proofs.Mating.{in-at, mate-found}
 use Rattle.verdict.proofs.Carry.{mates, told}
 use Rattle.verdict.proofs.Owing.{owed-is}

@@ -1,19 +1,18 @@
 -- The verdict's parts: who is joined to whom, who is open, what a route keeps by itself.
 use Prim.Native.Nat.{ℕ}
-use mathlib.Core.Bool.{Bool, true, not, _&&_, _||_}
+use mathlib.Core.Bool.{Bool, not, _&&_, _||_}
 use mathlib.Core.List.{List, []}
 use mathlib.Core.Path.{_≡_}
-use lib.Dec.{leb, ltb, eqb}
+use lib.Dec.{leb, eqb}
 use lib.ListN.{getD}
 use Rattle.laws.specs.Basic.{all, mem}
 use Rattle.bits.specs.Places.{has}
-use Rattle.rules.specs.Day.{Day, inner}
+use Rattle.rules.specs.Day.{Day}
 use Rattle.rules.specs.declared.Van.{Van}
 use Rattle.rules.specs.Leg.{everyLeg}
 use Rattle.rules.specs.Time.{onTime, driven}
 use Rattle.rules.specs.Load.{carries}
-use Rattle.rules.specs.Plan.{Plan}
-use Rattle.rules.specs.Verdict.{partnered, owed, hasPlace, wrongWay}
+use Rattle.rules.specs.Verdict.{partnered, wrongWay}
 use Rattle.sheet.specs.Place.{Laid}
 use Rattle.sheet.specs.declared.Layout.{Layout}
 use Rattle.day.specs.Refuse.{callRefusal}
@@ -22,7 +21,6 @@ use Rattle.along.specs.Route.{Route}
 use Rattle.along.specs.Nodes.{ByNode, Mates}
 use Rattle.verdict.specs.declared.Course.{Course}
 use Rattle.rules.specs.declared.Job.{Job}
-use Rattle.rules.specs.declared.Job.the-variants.{Clean, Soiled, Transfer}
 
 -- the job is a transfer between x and y
 abbrev pub joins : ℕ → ℕ → Job → Bool

@@ -1,5 +1,4 @@
 use Rattle.board.specs.Board.{routeOf, setOf, openAt}
-use borrow.Author.Needs.{needs}
 use Rattle.van.proofs.alive.Statement.{statement}
 use Rattle.van.proofs.alive.Tie as tie
 

@@ -1,11 +1,11 @@
-use mathlib.Core.Path.{_≡_, sym, ap, _∙_}
-use mathlib.Core.List.{List, []}
-use Prim.Native.Nat.{ℕ, _+_, _-_, _*_, _≤_}
+use mathlib.Core.Path.{_≡_}
+use mathlib.Core.List.{[]}
+use Prim.Native.Nat.{_+_, _-_, _*_, _≤_}
 use native.Mathlib.Omega.{arith}
-use lib.ListN.{take, drop, getD, drop-of-length-le}
+use lib.ListN.{take, drop, getD}
 use Rattle.rules.specs.Load.{load}
 use Rattle.day.specs.Tell.{dayOf}
-use Rattle.verdict.proofs.Carry.{size, near, low, start-next, empty-load}
+use Rattle.verdict.proofs.Carry.{near, low, start-next, empty-load}
 use Rattle.verdict.proofs.at_start.Statement.{statement}
 use Rattle.verdict.proofs.at_start.Tie as tie
 

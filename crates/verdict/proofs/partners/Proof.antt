@@ -1,11 +1,9 @@
-use mathlib.Core.Path.{_≡_, sym, ap, _∙_}
-use mathlib.Core.Bool.{_||_}
+use mathlib.Core.Path.{_≡_, ap, _∙_}
 use Prim.Native.Nat.{ℕ, _-_, _≤_}
 use native.Mathlib.Omega.{arith}
 use Rattle.laws.specs.Basic.{any, anyBelow, tab}
 use Rattle.bits.specs.Places.{has}
 use Rattle.bits.proofs.Members.{has-none}
-use Rattle.rules.specs.declared.Job.{Job}
 use Rattle.day.specs.Tell.{jobIn}
 use Rattle.along.proofs.ReadyLaws.{jobs-are}
 use Rattle.day.proofs.Fit.{placed-read}

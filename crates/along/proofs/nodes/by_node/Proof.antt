@@ -1,5 +1,5 @@
 use mathlib.Core.Path.{_≡_, ap}
-use Prim.Native.Nat.{ℕ, _-_, _<_, _≤_}
+use Prim.Native.Nat.{_-_, _≤_}
 use native.Mathlib.Omega.{arith}
 use Rattle.day.specs.Tell.{jobIn}
 use Rattle.day.proofs.Fit.{placed-read}

@@ -1,7 +1,6 @@
-use mathlib.Core.Path.{_≡_, ap}
-use Prim.Native.Nat.{ℕ, _+_, _<_}
+use mathlib.Core.Path.{ap}
+use Prim.Native.Nat.{_+_, _<_}
 use native.Mathlib.Omega.{arith}
-use lib.ListN.{getD}
 use borrow.Author.Needs.{needs}
 use Rattle.rules.specs.Load.{loadOf}
 use Rattle.along.proofs.NodeLaws.{entered-clean, entered-soiled, entered-transfer, second-low}

@@ -1,4 +1,3 @@
-use borrow.Author.Needs.{needs}
 use Rattle.sheet.proofs.Found.judged.Statement.{statement}
 use Rattle.sheet.proofs.Found.judged.Tie as tie
 

@@ -12,7 +12,6 @@ use Rattle.fleet.specs.Fleet.{boardIn}
 use Rattle.fleet.specs.Rows.{fleetWith}
 use Rattle.fleet.specs.declared.Fleet.{Fleet}
 use Rattle.turns.proofs.BarLaws.{shut-row, readable-row, room-vans, bar-shut, bar-claimed, bar-room}
-use borrow.Author.Needs.{needs}
 use Rattle.turns.proofs.bars.place_bar.Statement.{statement}
 use Rattle.turns.proofs.bars.place_bar.Tie as tie
 use Rattle.turns.proofs.bars.place_bar.Reads as reads
