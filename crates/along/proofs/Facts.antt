@@ -8,7 +8,7 @@ use lib.Dec.{T, eqb→eq}
 use lib.ListN.{getD, take, length, length-take}
 use Rattle.laws.proofs.Logic.{decided, true→T}
 use Rattle.bits.specs.Places.{has}
-use Rattle.bits.proofs.Members.{has-none}
+use Rattle.bits.proofs.Members.{has-none, word-ext}
 use Rattle.rules.specs.Asked.{endsWith}
 use Rattle.rules.proofs.AlongLaws.{leg-index}
 use Rattle.rules.proofs.Inner.{inner-low}
@@ -20,7 +20,7 @@ use Rattle.along.specs.Route.{Route}
 use Rattle.along.proofs.RouteLaws.{node-at}
 use Rattle.along.proofs.SpotLaws.{node-low}
 use Rattle.along.specs.Sets.{placesIn}
-use Rattle.along.proofs.SetLaws.{Narrow, word-ext}
+use Rattle.along.proofs.SetLaws.{Narrow}
 use Rattle.along.specs.Ready.{Ready}
 use Rattle.along.proofs.ReadyLaws.{nodes-are, nodes-most}
 

@@ -4,12 +4,9 @@ pub mod Signed
 pub mod TimeLaws
 pub mod SpotLaws
 pub mod RouteLaws
-pub mod WalkLaws
 pub mod LoadLaws
 pub mod NodeLaws
 pub mod Told
 pub mod SetLaws
 pub mod ReadyLaws
 pub mod Facts
-pub mod OneOutcome
-pub mod Rides

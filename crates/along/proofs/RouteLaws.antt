@@ -8,10 +8,11 @@ use lib.Dec.{eqb}
 use lib.ListN.{getD, length-take}
 use lib.Seq.{getD-take}
 use Rattle.rules.specs.declared.Job.the-variants.{Clean, Soiled, Transfer}
-use Rattle.sheet.specs.Word.{size, wordAt}
+use Rattle.words.specs.Word.{size, wordAt}
 use Rattle.sheet.proofs.PlaceLaws.{word-low}
 use Rattle.sheet.specs.Section.{jobsAt}
-use Rattle.day.specs.Tell.{dayOf, cell, jobOf, jobAt, jobIn}
+use Rattle.day.specs.Tell.{dayOf, jobOf, jobAt, jobIn}
+use Rattle.tables.specs.Cell.{cell}
 use Rattle.rules.specs.Load.{loadOf}
 use Rattle.along.proofs.SpotLaws.{node-low}
 use Rattle.along.proofs.TimeLaws.{Low}

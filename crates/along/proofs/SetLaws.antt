@@ -1,9 +1,8 @@
 -- An array of words that has given places is the one, and words one after the other.
-use mathlib.Core.Path.{_≡_, refl, sym, ap, _∙_, subst}
+use mathlib.Core.Path.{_≡_, refl, sym, ap, _∙_}
 use mathlib.Core.Bool.{Bool, true, false, cond, _&&_}
 use mathlib.Core.List.{List}
-use Prim.Native.Nat.{ℕ, zero, suc, _+_, _^_, _<_, _≤_}
-use native.Mathlib.Nat.{pow-succ'}
+use Prim.Native.Nat.{ℕ, zero, suc, _^_, _<_, _≤_}
 use native.Mathlib.Omega.{arith}
 use lib.Dec.{T, eqb, ltb}
 use lib.ListN.{getD, length, List·getD-eq-default}
@@ -14,8 +13,7 @@ use Rattle.laws.proofs.Logic.{decided, true→T}
 use Rattle.laws.proofs.Table.{length-tab, getD-tab}
 use Rattle.laws.specs.Basic.{tab}
 use Rattle.bits.specs.Places.{has, with, without, lowest}
-use Rattle.bits.proofs.Digits.{digits-ext}
-use Rattle.bits.proofs.Members.{has-none, with-same, with-other, without-yes, same-has}
+use Rattle.bits.proofs.Members.{has-none, with-same, with-other, without-yes, word-ext}
 use Rattle.bits.proofs.Masks.{lowest-has}
 use Rattle.rules.specs.Plan.{Places}
 use Rattle.along.specs.Sets.{placesIn, wordFrom, setsOf}
@@ -45,15 +43,6 @@ unfolding wordFrom
 word-has zero f p h = has-none p ∙ sym (ap (λ (b : Bool). b && f p) (le-ltb p 0 (omega arith)))
 word-has (suc k) f p h =
     word-more f k (wordFrom k f) p h (word-has k f k (omega arith) ∙ ap (λ (b : Bool). b && f k) (le-ltb k k (omega arith))) (word-has k f p (omega arith))
-
-less-pow : (a b : ℕ) → a < 2 ^ (a + b)
-less-pow zero zero = omega arith
-less-pow (suc a) zero = let e : suc a + 0 ≡ suc (a + 0) = omega arith in rw e (omega (arith, less-pow a 0, pow-succ' 2 (a + 0)))
-less-pow a (suc b) = let e : a + suc b ≡ suc (a + b) = omega arith in rw e (omega (arith, less-pow a b, pow-succ' 2 (a + b)))
-
--- two words with the same members are one
-pub word-ext : (w v : ℕ) → ((p : ℕ) → has w p ≡ has v p) → w ≡ v
-word-ext w v e = digits-ext (w + v) w v (less-pow w v) (subst (λ (k : ℕ). v < 2 ^ k) (omega arith) (less-pow v w)) (λ p l. same-has w v p p (e p))
 
 -- the words of an array that has the places o, none past 63
 pub sets-ext : (ws : List ℕ) (o : Places) → length ws ≡ 64 → ((x p : ℕ) → placesIn ws x p ≡ o x p) → ((x p : ℕ) → 64 ≤ p → o x p ≡ false) → ws ≡ setsOf o

@@ -8,7 +8,7 @@ use native.Mathlib.Numerals.{add-one}
 use native.Mathlib.Omega.{arith}
 use lib.Dec.{T, leb, ltb, eqb, eqb→eq, leb→le, le→leb, ltb→lt, lt→ltb}
 use lib.ListN.{getD, set, replicate, take, drop, length, length-take, length-set}
-use lib.Seq.{getD-set-same, getD-set-other, getD-take}
+use lib.Seq.{ext-getD, getD-set-same, getD-set-other, getD-take}
 use borrow.Author.Tests.{eqb-true, eqb-false, eq-eqb, ltb-true, ltb-false}
 use Rattle.laws.proofs.Logic.{decided, T-ext, and-i, and-l, and-r, or-l, or-r, or-e, true→T}
 use Rattle.laws.specs.Basic.{mem}
@@ -196,3 +196,7 @@ module _ (l : List ℕ) (n : ℕ) (most : n ≤ 64) (fits : n ≤ length l) {k :
   aboard-is a p (Clean x w) i h = rw (p .at x, spot-ahead x i)
   aboard-is a p (Soiled x w) i h = rw (p .at x, spot-behind x i (omega arith))
   aboard-is a p (Transfer x y w) i h = rw (p .at x, p .at y, spot-behind x i (omega arith), spot-ahead y i)
+
+-- one array for a route: what the contract of `spots::spots` allows
+pub spots-once : {l : List ℕ} {n : ℕ} {a b : List ℕ} → Spots l n a → Spots l n b → a ≡ b
+spots-once {a = a} {b} p q = ext-getD 64 a b (p .long ∙ sym (q .long)) (λ x h. p .at x ∙ sym (q .at x))

@@ -1,12 +1,14 @@
 -- The laws of sets by their members.
-use mathlib.Core.Path.{_≡_, refl, ap, sym, _∙_}
+use mathlib.Core.Path.{_≡_, refl, ap, sym, _∙_, subst}
 use mathlib.Core.Bool.{Bool, true, false, not, _||_}
 use Prim.Native.Nat.{ℕ, zero, suc, _+_, _-_, _/_, _^_, _≤_, _<_}
+use mathlib.Core.Logic.{_↔_}
+use native.Mathlib.Nat.{pow-succ'}
 use native.Mathlib.Omega.{arith}
 use lib.Pow.{shr-le}
-use lib.Dec.{eqb, ltb, eqb·suc-zero}
+use lib.Dec.{T, eqb, ltb, eqb·suc-zero}
 use borrow.Author.Tests.{eqb-true, eqb-false, eq-eqb, ne-eqb, ltb-true, ltb-false, lt-ltb, le-ltb}
-use Rattle.laws.proofs.Logic.{decided, true→T, T→true, imp-i, imp-e}
+use Rattle.laws.proofs.Logic.{decided, T-ext, true→T, T→true, imp-i, imp-e}
 use Rattle.laws.proofs.Below.{below-at, below-make, below-find}
 use Rattle.bits.specs.Places.{digit, has, with, without, within}
 use Rattle.bits.proofs.Digits.{digit-zero, digit-suc, digit-shr, digit-lt, digit-high, digit-none, digits-ext, add-same, add-other, sub-same, sub-other, add-fits}
@@ -183,3 +185,18 @@ within-misses a b e =
     split : (x y : Bool) → not x || y ≡ false → (x ≡ true) × (y ≡ false)
     split true y h = (refl, h)
     split false y h = absurd (false-true (sym h))
+
+-- ---- words of any length
+
+less-pow : (a b : ℕ) → a < 2 ^ (a + b)
+less-pow zero zero = omega arith
+less-pow (suc a) zero = let e : suc a + 0 ≡ suc (a + 0) = omega arith in rw e (omega (arith, less-pow a 0, pow-succ' 2 (a + 0)))
+less-pow a (suc b) = let e : a + suc b ≡ suc (a + b) = omega arith in rw e (omega (arith, less-pow a b, pow-succ' 2 (a + b)))
+
+-- two words with the same members are one
+pub word-ext : (w v : ℕ) → ((p : ℕ) → has w p ≡ has v p) → w ≡ v
+word-ext w v e = digits-ext (w + v) w v (less-pow w v) (subst (λ (k : ℕ). v < 2 ^ k) (omega arith) (less-pow v w)) (λ p l. same-has w v p p (e p))
+
+-- two words that have the members one thing says
+pub members-once : {P : ℕ → Type 0} {r v : ℕ} → ((q : ℕ) → T (has r q) ↔ P q) → ((q : ℕ) → T (has v q) ↔ P q) → r ≡ v
+members-once {P} {r} {v} a b = word-ext r v (λ q. T-ext (has r q) (has v q) (λ t. b q .1 (a q .0 t)) (λ t. a q .1 (b q .0 t)))

@@ -4,14 +4,15 @@ use mathlib.Core.Path.{_≡_, refl}
 use mathlib.Core.Bool.{true, false}
 use mathlib.Core.List.{List, [], _∷_}
 use Rattle.laws.specs.Basic.{allBelow, anyBelow, orElse, peak}
-use Rattle.sheet.specs.Word.{wordAt}
+use Rattle.words.specs.Word.{wordAt}
 use Rattle.sheet.specs.Section.{headRefusal, limitsRefusal, nodesRefusal, jobsRefusal, tableRefusal, stepsRefusal, laterRefusal, readRefusal}
 use Rattle.rules.specs.Class.{oneBit, admits}
 use Rattle.rules.specs.Day.{isInner, shortestLine, shortestRow, triangle}
 use Rattle.rules.specs.declared.Job.the-variants.{Transfer}
 use Rattle.day.specs.Refuse.{callRefusal, openRefusal, clash, apart, canRide, endsAdmit}
 use Rattle.day.specs.Section.{spanOf, sectionOf}
-use Rattle.day.specs.Tell.{vanOf, bitOf, classOf, admitted, dayOf, cell, jobAt, jobIn}
+use Rattle.day.specs.Tell.{vanOf, bitOf, classOf, admitted, dayOf, jobAt, jobIn}
+use Rattle.tables.specs.Cell.{cell}
 use Rattle.day.specs.Example.{_▸_, nodesWith, paperJobs, tableWith, stepsWith, sheetOf, sheetWith}
 
 abbrev paper : List ℕ

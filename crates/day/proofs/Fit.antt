@@ -8,7 +8,7 @@ use lib.Dec.{eqb}
 use borrow.Author.Tests.{eqb-true}
 use Rattle.laws.proofs.Logic.{decided, and-true}
 use Rattle.laws.proofs.Below.{below-at}
-use Rattle.sheet.specs.Word.{size, wordAt, jobOk, jobAtOk}
+use Rattle.words.specs.Word.{size, wordAt, jobOk, jobAtOk}
 use Rattle.sheet.specs.Section.{nOf, mOf, jobsAt}
 use Rattle.sheet.specs.Place.{Fine, Laid}
 use Rattle.sheet.specs.declared.Layout.{Layout}

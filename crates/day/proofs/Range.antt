@@ -11,16 +11,16 @@ use Rattle.laws.proofs.Logic.{and-true}
 use Rattle.laws.proofs.Below.{below-at}
 use Rattle.laws.specs.Basic.{allBelow}
 use Rattle.laws.proofs.Table.{length-tab}
-use Rattle.sheet.specs.Word.{wordAt, limitsAtOk, nodeAtOk, entryOk}
+use Rattle.words.specs.Word.{wordAt, limitsAtOk, nodeAtOk, entryOk}
 use Rattle.sheet.specs.Section.{vansAt, vansOf, nOf, mOf, nodesAt}
 use Rattle.sheet.specs.Place.{Fine, Laid}
 use Rattle.sheet.specs.declared.Layout.{Layout}
 use Rattle.rules.specs.Class.{oneBit, classSet}
 use Rattle.rules.specs.Day.{Day}
 use Rattle.rules.specs.declared.Van.{Van}
-use Rattle.day.specs.Row.{Table}
-use Rattle.day.proofs.RowLaws.{row-low, entry-low}
-use Rattle.day.specs.Tell.{vanOf, bitOf, nodeAt, classOf, dayOf, Told, cell, jobIn}
+use Rattle.tables.specs.Cell.{Table, cell}
+use Rattle.tables.proofs.RowLaws.{row-low, entry-low}
+use Rattle.day.specs.Tell.{vanOf, bitOf, nodeAt, classOf, dayOf, Told, jobIn}
 
 pub record Limits (v : Van) : Type 0 where
   pub capacity : v .capacity ≤ 1000

@@ -5,7 +5,7 @@ use mathlib.Core.List.{List, []}
 use mathlib.Core.Path.{_≡_}
 use lib.ListN.{take, drop}
 use lib.Dec.{eqb}
-use Rattle.sheet.specs.Word.{size}
+use Rattle.words.specs.Word.{size}
 use Rattle.sheet.specs.Section.{vansAt, nodesAt, jobsAt, secondsAt, metresAt, stepsAt, vansOf, nOf, mOf, kOf}
 use Rattle.sheet.specs.Place.{layoutOf}
 use Rattle.sheet.specs.declared.Layout.{Layout}

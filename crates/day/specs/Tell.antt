@@ -5,7 +5,8 @@ use mathlib.Core.List.{List, [], _∷_}
 use mathlib.Core.Bool.{Bool, cond, _&&_, not}
 use lib.Dec.{leb, eqb}
 use Rattle.laws.specs.Basic.{peak, tab}
-use Rattle.sheet.specs.Word.{size, wordAt}
+use Rattle.words.specs.Word.{size, wordAt}
+use Rattle.tables.specs.Cell.{cell}
 use Rattle.sheet.specs.Section.{vansOf, nOf, mOf, vansAt, nodesAt, stepsAt, secondsAt, metresAt, jobsAt}
 use Rattle.rules.specs.Numbers.{stepSaid}
 use Rattle.rules.specs.Day.{Day, isInner}
@@ -47,10 +48,6 @@ abbrev pub jobFine : ℕ → Job → Bool
 jobFine n (Clean a w) = isInner n a && loadOk w
 jobFine n (Soiled a w) = isInner n a && loadOk w
 jobFine n (Transfer a b w) = isInner n a && isInner n b && not (eqb a b) && loadOk w
-
--- row i, column j of a table of n rows whose entries begin at word `from`
-unfoldable pub cell : List ℕ → ℕ → ℕ → ℕ → ℕ → ℕ
-cell s from n i j = wordAt s (from + i * n + j)
 
 -- section 4: the seconds from i to j
 abbrev pub secondsOf : List ℕ → ℕ → ℕ → ℕ

@@ -9,13 +9,14 @@ ghost use Rattle.day.specs.Refuse.{endsAdmit};
 use crate::look::entry_word;
 use rules::Node;
 use sheet::Layout;
+use words::Entry;
 
 // The bit of the i-th van.
 pub fn bit(s: &[u8], l: Layout, i: usize) -> u32
     requires { ⌜ Laid (now s) l × (i < l .vans) ⌝ }
     ensures { λ r. ⌜ r ≡ bitOf (now (s .entry)) i ⌝ }
 {
-    entry_word(s, l.van, Layout::VAN, i, 2) as u32
+    entry_word(s, l.van, Entry::VAN, i, 2) as u32
 }
 
 // The class set of node x.
@@ -23,7 +24,7 @@ fn class(s: &[u8], l: Layout, x: usize) -> u32
     requires { ⌜ Laid (now s) l × (x < l .nodes) ⌝ }
     ensures { λ r. ⌜ r ≡ classOf (now (s .entry)) x ⌝ }
 {
-    entry_word(s, l.node, Layout::NODE, x, 3) as u32
+    entry_word(s, l.node, Entry::NODE, x, 3) as u32
 }
 
 // The class sets of all nodes, each read once, whatever the number of vans that ask for them.

@@ -1,20 +1,21 @@
 // The jobs of a sheet, whether two of them are one too many for a node, and how heavy they are.
 ghost use mathlib.Core.Path.{_≡_};
 ghost use Prim.Native.Nat.{_+_, _*_, _<_, _≤_};
-ghost use Rattle.sheet.specs.Word.{size, words};
+ghost use Rattle.words.specs.Word.{size, words};
 ghost use Rattle.sheet.specs.Place.{Laid};
 ghost use Rattle.day.specs.Tell.{jobAt, jobIn};
 ghost use Rattle.day.specs.Seen.{Placed, seeing, lookedOver};
 use rules::Job;
 use sheet::Layout;
-use sheet::word;
+use words::Entry;
+use words::word;
 
 // The i-th job of a section whose entries begin at word `from`.
 fn job_at(s: &[u8], from: usize, i: usize) -> Job
     requires { ⌜ from + size.job * i + size.job ≤ words (now s) ⌝ }
     ensures { λ r. ⌜ r ≡ jobAt (now (s .entry)) from i ⌝ }
 {
-    let p = from + Layout::JOB * i;
+    let p = from + Entry::JOB * i;
     let kind = word(s, p);
     let a = word(s, p + 1) as usize;
     let b = word(s, p + 2) as usize;

@@ -2,7 +2,6 @@
 pub mod classes;
 pub mod jobs;
 pub mod look;
-pub mod tables;
 
 ghost use mathlib.Core.Path.{_≡_};
 ghost use Prim.Native.Nat.{_+_, _*_, _≤_};
@@ -12,6 +11,7 @@ ghost use Rattle.day.specs.Section.{sectionIn, SpanIn};
 use rules::Refusal;
 use sheet::Found;
 use sheet::Layout;
+use words::Entry;
 
 // What every call on a sheet checks.
 pub fn checked(s: &[u8]) -> Found
@@ -63,15 +63,15 @@ fn span_of(l: Layout, number: usize) -> Span
     match number {
         1 => Span {
             from: l.van,
-            count: Layout::VAN * l.vans,
+            count: Entry::VAN * l.vans,
         },
         2 => Span {
             from: l.node,
-            count: Layout::NODE * l.nodes,
+            count: Entry::NODE * l.nodes,
         },
         3 => Span {
             from: l.job,
-            count: Layout::JOB * l.jobs,
+            count: Entry::JOB * l.jobs,
         },
         4 => Span {
             from: l.seconds,
@@ -83,7 +83,7 @@ fn span_of(l: Layout, number: usize) -> Span
         },
         6 => Span {
             from: l.step,
-            count: Layout::STEP * l.steps,
+            count: Entry::STEP * l.steps,
         },
         _ => Span { from: 0, count: 0 },
     }

@@ -1,21 +1,22 @@
 // Every number of an accepted sheet, one word read each.
 ghost use mathlib.Core.Path.{_≡_};
 ghost use Prim.Native.Nat.{_+_, _*_, _<_, _≤_};
-ghost use Rattle.sheet.specs.Word.{size, words, wordAt, Reads};
+ghost use Rattle.words.specs.Word.{size, words, wordAt, Reads};
 ghost use Rattle.sheet.specs.Place.{Laid};
-ghost use Rattle.day.specs.Tell.{cell, vanOf, largestOf, dayOf, stepWord, stepIn, Told};
-ghost use Rattle.day.specs.Row.{Table};
+ghost use Rattle.day.specs.Tell.{vanOf, largestOf, dayOf, stepWord, stepIn, Told};
+ghost use Rattle.tables.specs.Cell.{cell, Table};
 use rules::Step;
 use rules::Van;
 use sheet::Layout;
-use sheet::word;
+use words::Entry;
+use words::word;
 
 // The i-th van of the sheet.
 pub fn van(s: &[u8], l: Layout, i: usize) -> Van
     requires { ⌜ Laid (now s) l × (i < l .vans) ⌝ }
     ensures { λ r. ⌜ (r ≡ vanOf (now (s .entry)) i) × (r .capacity ≤ 1000) × (r .limit ≤ 1000000) ⌝ }
 {
-    let from = l.van + Layout::VAN * i;
+    let from = l.van + Entry::VAN * i;
     Van {
         capacity: word(s, from) as usize,
         limit: word(s, from + 1) as usize,
@@ -51,21 +52,21 @@ pub fn earliest(s: &[u8], l: Layout, x: usize) -> usize
     requires { ⌜ Laid (now s) l × (x < l .nodes) ⌝ }
     ensures { λ r. ⌜ Told (dayOf (now (s .entry)) .earliest x) 1000000 r ⌝ }
 {
-    entry_word(s, l.node, Layout::NODE, x, 0)
+    entry_word(s, l.node, Entry::NODE, x, 0)
 }
 
 pub fn latest(s: &[u8], l: Layout, x: usize) -> usize
     requires { ⌜ Laid (now s) l × (x < l .nodes) ⌝ }
     ensures { λ r. ⌜ Told (dayOf (now (s .entry)) .latest x) 1000000 r ⌝ }
 {
-    entry_word(s, l.node, Layout::NODE, x, 1)
+    entry_word(s, l.node, Entry::NODE, x, 1)
 }
 
 pub fn service(s: &[u8], l: Layout, x: usize) -> usize
     requires { ⌜ Laid (now s) l × (x < l .nodes) ⌝ }
     ensures { λ r. ⌜ Told (dayOf (now (s .entry)) .service x) 1000000 r ⌝ }
 {
-    entry_word(s, l.node, Layout::NODE, x, 2)
+    entry_word(s, l.node, Entry::NODE, x, 2)
 }
 
 // Word k of the i-th step.
@@ -73,7 +74,7 @@ fn step_word(s: &[u8], l: Layout, i: usize, k: usize) -> usize
     requires { ⌜ Laid (now s) l × (i < l .steps) × (k < size.step) ⌝ }
     ensures { λ r. ⌜ Told (stepWord (now (s .entry)) i k) 4294967295 r ⌝ }
 {
-    entry_word(s, l.step, Layout::STEP, i, k)
+    entry_word(s, l.step, Entry::STEP, i, k)
 }
 
 // The i-th step.

@@ -19,7 +19,7 @@ use Rattle.board.specs.Board.{stateOf}
 use Rattle.board.specs.Fresh.{noState}
 use Rattle.board.specs.Held.{Held}
 use Rattle.board.specs.declared.State.{State}
-use Rattle.trail.specs.Trail.{roomOf}
+use Rattle.records.specs.Trail.{roomOf}
 use Rattle.fleet.specs.Fleet.{fleetOf, stateIn, shareOf, trailIn}
 use Rattle.fleet.specs.Form.{idle}
 use Rattle.fleet.specs.declared.Fleet.{Fleet}

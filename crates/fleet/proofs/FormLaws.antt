@@ -17,7 +17,7 @@ use Rattle.rules.proofs.Inner.{is-inner}
 use Rattle.board.specs.Board.{Board, onRoute, setOf}
 use Rattle.board.specs.Form.{inForm, formWith}
 use Rattle.board.specs.declared.State.{State}
-use Rattle.trail.specs.Trail.{roomOf}
+use Rattle.records.specs.Trail.{roomOf}
 use Rattle.fleet.specs.Fleet.{fleetOf, stateIn, boardIn, trailIn}
 use Rattle.fleet.specs.Form.{hasWard, clearOf, sharesNone, vanFits, vanOk, idle, inFormAll, formWithAll}
 use Rattle.fleet.specs.declared.Fleet.{Fleet}

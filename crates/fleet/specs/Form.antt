@@ -10,7 +10,7 @@ use Rattle.rules.specs.Day.{isInner}
 use Rattle.board.specs.Board.{Board, onRoute, setOf}
 use Rattle.board.specs.Form.{inForm}
 use Rattle.board.specs.declared.State.{State}
-use Rattle.trail.specs.Trail.{roomOf}
+use Rattle.records.specs.Trail.{roomOf}
 use Rattle.fleet.specs.Fleet.{stateIn, boardIn, trailIn}
 use Rattle.fleet.specs.declared.Fleet.{Fleet}
 

@@ -229,7 +229,7 @@ fn repeat_listing(count: usize, sheet: &mut [u8], trail: &mut [u64], out: &mut [
 fn number(bytes: &[u8], at: usize) -> usize
     requires { ⌜ (at ≤ 2) × (16 ≤ length (now bytes)) ⌝ }
 {
-    sheet::word(bytes, at) as usize + 4294967296 * (sheet::word(bytes, at + 1) as usize)
+    words::word(bytes, at) as usize + 4294967296 * (words::word(bytes, at + 1) as usize)
 }
 
 // Below which ward the fleet of an operation is built.

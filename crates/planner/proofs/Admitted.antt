@@ -27,7 +27,7 @@ use Rattle.board.proofs.FreshForm.{freshBoard, fresh-off, fresh-wide, fresh-for
 use Rattle.board.proofs.Keep.{put-same, put-other, placed-others}
 use Rattle.board.proofs.PlaceLaws.{open-placed}
 use Rattle.stands.proofs.Fresh.{fresh-stands}
-use Rattle.trail.specs.Undo.{strictly}
+use Rattle.records.specs.Undo.{strictly}
 use Rattle.trail.proofs.Small.{Small, shrinks, places, marks, obliges}
 use Rattle.trail.proofs.Spells.{Spells, none, more, spells-sound}
 use Rattle.fleet.specs.Fleet.{boardIn}

@@ -20,7 +20,7 @@ use Rattle.board.specs.Held.{Held, Words, InForm, Sound}
 use Rattle.board.specs.declared.State.{State}
 use Rattle.board.proofs.FormLaws as board
 use Rattle.board.proofs.FreshForm.{freshBoard, fresh-wide, fresh-formed, fresh-inform, fresh-held}
-use Rattle.trail.specs.Trail.{roomOf}
+use Rattle.records.specs.Trail.{roomOf}
 use Rattle.trail.specs.Steps as trail
 use Rattle.trail.specs.Run as run
 use Rattle.trail.proofs.Since.{Since, move-since}

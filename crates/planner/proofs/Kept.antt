@@ -44,7 +44,7 @@ use Rattle.board.proofs.FormLaws as board
 use Rattle.board.proofs.Keep.{must-inner}
 use Rattle.board.specs.Held.{Held}
 use Rattle.board.specs.declared.State.{State}
-use Rattle.trail.specs.Trail.{roomOf, Wordy}
+use Rattle.records.specs.Trail.{roomOf, Wordy}
 use Rattle.trail.specs.Steps as trail
 use Rattle.trail.specs.Steps.{Ran, acted}
 use Rattle.trail.proofs.Must.{place-must, close-must, exclude-must, require-must, settle-must, level-must, back-must, oblige-must}

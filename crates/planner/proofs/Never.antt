@@ -25,7 +25,7 @@ use Rattle.board.specs.Board.{Board, boardOf, setOf, openAt, onRoute, legNode}
 use Rattle.board.specs.Held.{Held}
 use Rattle.board.specs.Fresh.{freshState}
 use Rattle.board.specs.declared.State.{State}
-use Rattle.trail.specs.Trail.{roomOf, shrunk}
+use Rattle.records.specs.Trail.{roomOf, shrunk}
 use Rattle.trail.specs.Refusals.{placeShut, placeRefusal, excludeRefusal, requireRefusal, obligeRefusal}
 use Rattle.trail.specs.Steps.{Ran}
 use Rattle.trail.specs.Steps as trail

@@ -16,7 +16,7 @@ use Rattle.sheet.specs.Place.{Laid}
 use Rattle.sheet.specs.declared.Layout.{Layout}
 use Rattle.day.specs.Refuse.{callRefusal}
 use Rattle.day.specs.Tell.{dayOf, vanOf}
-use Rattle.trail.specs.Trail.{roomOf}
+use Rattle.records.specs.Trail.{roomOf}
 use Rattle.fleet.specs.Fleet.{fleetOf, stateIn, shareOf, trailIn, HeldAll}
 use Rattle.fleet.specs.Form.{inFormAll, formWithAll}
 use Rattle.fleet.specs.Rows.{rowState, fleetWith, Rows, Figured}

@@ -8,7 +8,7 @@ use mathlib.Core.List.{List, [], _∷_, map}
 use mathlib.Core.Logic.{_↔_, _≢_}
 use lib.Dec.{T, eqb}
 use lib.ListN.{length, take}
-use Rattle.sheet.specs.Word.{size, wordAt}
+use Rattle.words.specs.Word.{size, wordAt}
 use Rattle.sheet.specs.Section.{nOf, mOf, vansOf, jobsAt}
 use Rattle.day.specs.Refuse.{callRefusal, openRefusal}
 use Rattle.day.specs.Tell.{dayOf, vanOf, admitted, kindOf, wordsOf}
@@ -21,7 +21,7 @@ use Rattle.rules.specs.Day.{inner}
 use Rattle.rules.specs.Every.{RoundOf}
 use Rattle.rules.specs.Fleet.{Plans, ShareNone, MayAll, served, BelongAll, KeepAll, aliveAll, settledAll, workedAll}
 use Rattle.bits.specs.Places.{has}
-use Rattle.trail.specs.Trail.{Wordy}
+use Rattle.records.specs.Trail.{Wordy}
 use Rattle.rules.specs.Numbers.{refusal, kinds, vanWeight}
 use Rattle.fleet.specs.Fleet.{stateIn, trailIn, HeldAll}
 use Rattle.fleet.specs.Form.{inFormAll, formWithAll}

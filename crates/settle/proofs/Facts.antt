@@ -31,7 +31,7 @@ use Rattle.along.proofs.RouteLaws.{job-low}
 use Rattle.along.specs.Spots.{Spots}
 use Rattle.along.proofs.SpotLaws.{spot-in, spot-found}
 use Rattle.along.proofs.LoadLaws.{load-at-low}
-use Rattle.along.specs.Walks.{Legs}
+use Rattle.walks.specs.Walks.{Legs}
 use Rattle.along.specs.Sets.{placesIn, setsOf}
 use Rattle.along.proofs.SetLaws.{length-sets, places-sets}
 use Rattle.along.specs.Ready.{Ready}
@@ -39,7 +39,8 @@ use Rattle.along.proofs.ReadyLaws.{jobs-are}
 use Rattle.along.proofs.Facts.{size, two-stops, near-nodes, places-small}
 use Rattle.settle.specs.declared.strike.Pass.{Pass}
 use Rattle.settle.specs.Round.{Kepts, rideOf, nodeOf, twoEnds}
-use Rattle.settle.proofs.RoundLaws.{Spotted, Named, legs-load, placed-node}
+use Rattle.gaps.proofs.GapLaws.{Spotted, Named}
+use Rattle.settle.proofs.RoundLaws.{legs-load, placed-node}
 use Rattle.settle.specs.Settles.{Read}
 
 module _ {s : List ℕ} {at : Layout} {l : List ℕ} {n : ℕ} {ws : List ℕ} {marks : ℕ} (r : Ready s at l n ws marks) where

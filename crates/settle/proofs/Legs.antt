@@ -22,8 +22,8 @@ use Rattle.rules.specs.Along.{behind, loadAt}
 use Rattle.rules.specs.declared.Job.{Job}
 use Rattle.rules.specs.declared.Job.the-variants.{Clean, Soiled, Transfer}
 use Rattle.rules.proofs.AlongLaws.{atLeg, ahead-next, ahead-end, back-first, back-next, reach-ahead-next, reach-ahead-end, reach-back-first, reach-back-next, mem-at}
-use Rattle.along.specs.Walks.{walkUp, walkDown, fitsAt, metBehind, metAhead, nobody, ridesUp, ridesDown, fromStart, toEnd}
-use Rattle.along.specs.declared.walks.Partner.{Partner}
+use Rattle.walks.specs.Walks.{walkUp, walkDown, fitsAt, metBehind, metAhead, nobody, ridesUp, ridesDown, fromStart, toEnd}
+use Rattle.walks.specs.declared.Partner.{Partner}
 use Rattle.along.specs.Sets.{placesIn}
 use Rattle.settle.specs.declared.strike.Pass.{Pass}
 use Rattle.settle.specs.Round.{rideOf, partnerAt, loadRides, loadLeaves, pairLeaves}

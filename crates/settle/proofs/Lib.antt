@@ -4,5 +4,4 @@ pub mod Struck
 pub mod Facts
 pub mod Strikes
 pub mod Again
-pub mod OneOutcome
 pub mod RoundLaws

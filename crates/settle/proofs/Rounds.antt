@@ -30,7 +30,8 @@ use Rattle.along.proofs.SpotLaws.{node-low}
 use Rattle.along.specs.Sets.{placesIn, setsOf}
 use Rattle.along.proofs.SetLaws.{sets-ext}
 use Rattle.settle.specs.declared.strike.Pass.{Pass}
-use Rattle.settle.specs.Round.{Kepts, fitsIn, standsAt, loadLeaves, pairLeaves, jobsLeave}
+use Rattle.gaps.specs.Gaps.{fitsIn, standsAt}
+use Rattle.settle.specs.Round.{Kepts, loadLeaves, pairLeaves, jobsLeave}
 use Rattle.settle.proofs.RoundLaws.{placeLeft}
 use Rattle.along.proofs.Told.{below-tab}
 use Rattle.settle.proofs.Legs.{and-swap, pair-is, load-is}

@@ -21,12 +21,11 @@ use Rattle.sheet.specs.Section.{mOf}
 use Rattle.day.specs.Tell.{jobIn}
 use Rattle.day.specs.Refuse.{callRefusal, endAt, clash}
 use Rattle.day.proofs.Asked.{pair}
-use Rattle.along.specs.Walks.{Kept, Legs, ridesUp, ridesDown}
-use Rattle.along.proofs.WalkLaws.{kept-all}
-use Rattle.along.proofs.Rides.{start-roomy, end-roomy}
+use Rattle.walks.specs.Walks.{Kept, Legs, ridesUp, ridesDown}
+use Rattle.walks.proofs.WalkLaws.{kept-all, kept-once}
+use Rattle.walks.proofs.Riding.{start-roomy, end-roomy}
 use Rattle.along.specs.Sets.{placesIn}
-use Rattle.along.proofs.SetLaws.{word-ext}
-use Rattle.along.proofs.OneOutcome.{kept-once}
+use Rattle.bits.proofs.Members.{word-ext}
 use Rattle.settle.specs.declared.strike.Pass.{Pass}
 use Rattle.settle.specs.Round.{Kepts, atNode, rideOf, loadRides, loadLeaves, pairLeaves, jobsLeave, sameSets}
 use Rattle.settle.proofs.RoundLaws.{kepts-all, kepts-one, kepts-both}

@@ -1,4 +1,3 @@
-// Settling: which places stay, a round of settling, and rounds until one strikes nothing.
-pub mod places;
+// Settling: the load tests, a round of settling, and rounds until one strikes nothing.
 pub mod settling;
 pub mod strike;

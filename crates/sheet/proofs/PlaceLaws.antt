@@ -11,7 +11,7 @@ use Rattle.laws.specs.Basic.{allBelow, orElse, unless}
 use Rattle.laws.proofs.Choice.{or-else-first, or-else-next, or-else-zero, unless-zero}
 use Rattle.laws.proofs.Logic.{and-true}
 use Rattle.rules.specs.Numbers.{refusal, mostVans}
-use Rattle.sheet.specs.Word.{size, words, wordAt, limitsAtOk}
+use Rattle.words.specs.Word.{size, words, wordAt, limitsAtOk}
 use Rattle.sheet.specs.Section.{vansAt, vansOf, nodesAt, jobsAt, headRefusal, limitsRefusal, nodesRefusal, jobsRefusal, tableRefusal, stepsRefusal, laterRefusal, readRefusal}
 use Rattle.sheet.specs.declared.Part.{Part}
 use Rattle.sheet.specs.declared.Layout.{Layout}

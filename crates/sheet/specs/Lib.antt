@@ -1,5 +1,4 @@
--- What a day sheet is. Word: its words, and what they must be. Section: where each section stands, and what reading them finds.
--- Place: what reading a sheet hands on, and what is known of an accepted one.
-pub mod Word
+-- What a day sheet is. Section: where each section stands, and what reading them finds. Place: what reading a sheet hands on, and what is known of an
+-- accepted one.
 pub mod Section
 pub mod Place

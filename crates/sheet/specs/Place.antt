@@ -7,7 +7,7 @@ use lib.ListN.{length}
 use lib.Dec.{eqb}
 use Rattle.laws.specs.Basic.{allBelow}
 use Rattle.rules.specs.Numbers.{mostVans}
-use Rattle.sheet.specs.Word.{size, words, wordAt, limitsAtOk, nodeAtOk, jobAtOk, entryOk}
+use Rattle.words.specs.Word.{size, words, wordAt, limitsAtOk, nodeAtOk, jobAtOk, entryOk}
 use Rattle.sheet.specs.Section.{stepsAt, vansOf, nOf, mOf, kOf, endOf, vansAt, nodesAt, jobsAt, secondsAt, metresAt}
 use Rattle.sheet.specs.Section.{readRefusal}
 use Rattle.sheet.specs.declared.Part.{Part}

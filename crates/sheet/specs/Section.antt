@@ -7,7 +7,7 @@ use lib.ListN.{length}
 use lib.Dec.{leb, ltb, eqb}
 use Rattle.laws.specs.Basic.{allBelow, orElse, unless}
 use Rattle.rules.specs.Numbers.{refusal, mostVans}
-use Rattle.sheet.specs.Word.{size, words, wordAt, limitsAtOk, nodeAtOk, jobAtOk, entryOk}
+use Rattle.words.specs.Word.{size, words, wordAt, limitsAtOk, nodeAtOk, jobAtOk, entryOk}
 
 -- ---- where a section stands: the word of its count, then its first entry; each section behind the one before it
 

@@ -28,8 +28,8 @@ use Rattle.board.proofs.FormLaws.{room-left}
 use Rattle.board.specs.Held.{Words, FormedBoard, Sound, Splits}
 use Rattle.board.specs.declared.State.{State}
 use Rattle.board.proofs.Keep.{must-inner, put-same, put-other, placed-set, placed-on, placed-others, heir-yes, heir-no}
-use Rattle.trail.specs.Trail.{shrunk}
-use Rattle.trail.specs.Undo.{strictly}
+use Rattle.records.specs.Trail.{shrunk}
+use Rattle.records.specs.Undo.{strictly}
 use Rattle.trail.proofs.StepLaws.{Free}
 use Rattle.trail.proofs.Small.{Small, shrinks, places, marks, obliges, put-marks, placed-marks}
 use Rattle.trail.proofs.Spells.{Spells, none, more, spells-sound}

@@ -13,7 +13,7 @@ use Rattle.board.specs.Fresh.{noState, freshSet, freshSets, freshState}
 use Rattle.board.specs.declared.State.{State}
 use Rattle.board.specs.Form.{stopOk, setOk, onlyInner, markOk, mustOk, boardOk, levelOk, levelsOk, inForm}
 use Rattle.board.specs.Change.{heir, placedAfter, obliged}
-use Rattle.trail.specs.Trail.{roomOf, pushed}
+use Rattle.records.specs.Trail.{roomOf, pushed}
 use Rattle.trail.specs.Refusals.{placeShut, placeRefusal, obligeRefusal}
 use Rattle.trail.specs.Steps.{unlessRefused, recorded, placeStep, obligeStep}
 

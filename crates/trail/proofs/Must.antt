@@ -15,10 +15,10 @@ use Rattle.board.specs.Board.{Board, boardOf, setOf}
 use Rattle.board.specs.Change.{putSet, placedAfter, marked, unplaced, unmarked, unobliged}
 use Rattle.board.specs.declared.State.{State}
 use Rattle.board.proofs.PlaceLaws.{must-obliged}
-use Rattle.trail.specs.Trail.{roomOf, firstOf, secondOf, recordNode}
-use Rattle.trail.specs.Undo.{fitsShrunk, fitsPlaced, fitsMarked, fitsObliged, Undone, undone, undoOne, undoMany}
+use Rattle.records.specs.Trail.{roomOf, firstOf, secondOf, recordNode}
+use Rattle.records.specs.Undo.{fitsShrunk, fitsPlaced, fitsMarked, fitsObliged, Undone, undone, undoOne, undoMany}
 use Rattle.trail.specs.Steps.{Ran, acted, unlessRefused, recorded, placeStep, closeStep, excludeStep, requireStep, settleStep, levelStep, undoLevel, dropped, backStep, obligeStep}
-use Rattle.trail.proofs.UndoLaws.{one-by, many-keeps}
+use Rattle.records.proofs.UndoLaws.{one-by, many-keeps}
 use Rattle.trail.proofs.StepLaws.{obligeable}
 use Rattle.trail.proofs.Since.{accepted}
 

@@ -19,7 +19,7 @@ use Rattle.board.specs.Fresh.{freshState}
 use Rattle.board.specs.Change.{putSet, placedAfter, marked, obliged}
 use Rattle.board.proofs.Keep.{obliged-formed}
 use Rattle.board.specs.declared.State.{State}
-use Rattle.trail.specs.Trail.{roomOf, change, firstWord, shrunk}
+use Rattle.records.specs.Trail.{roomOf, change, firstWord, shrunk}
 use Rattle.trail.specs.Refusals.{placeShut, placeRefusal, excludeRefusal, requireRefusal, obligeRefusal}
 use Rattle.trail.proofs.StepLaws.{not-shut}
 use Rattle.trail.proofs.Small.{shrinks, places, marks, obliges, put-marks, placed-marks}

@@ -24,10 +24,10 @@ use Rattle.board.specs.Form.{setOk}
 use Rattle.board.specs.Change.{putSet, placedAfter, marked, obliged}
 use Rattle.board.specs.Held.{Words, Held, Sound, Levels, InForm}
 use Rattle.board.specs.declared.State.{State}
-use Rattle.trail.specs.Trail.{roomOf, pushed, firstOf, secondOf, change, firstWord, shrunk, noteOne, noteBelow}
-use Rattle.trail.proofs.TrailLaws.{pushed-first, pushed-second, pushed-long, pushed-room, pushed-other, shrunk-upto, shrunk-differ, note-same, note-differ, note-all, Noted}
+use Rattle.records.specs.Trail.{roomOf, pushed, firstOf, secondOf, change, firstWord, shrunk, noteOne, noteBelow}
+use Rattle.records.proofs.TrailLaws.{pushed-first, pushed-second, pushed-long, pushed-room, pushed-other, shrunk-upto, shrunk-differ, note-same, note-differ, note-all, Noted}
 use Rattle.trail.specs.Refusals.{placeRefusal, excludeRefusal, requireRefusal, obligeRefusal}
-use Rattle.trail.specs.Undo.{strictly, undoMany}
+use Rattle.records.specs.Undo.{strictly, undoMany}
 use Rattle.trail.specs.Steps.{Ran, acted, answered, unlessRefused, recorded, shrank, placeStep, closeStep, excludeStep, requireStep, settleStep, levelStep, backStep, obligeStep, baseOf, undoLevel, dropped}
 use Rattle.trail.proofs.StepLaws.{step-yes, step-zero, placeable, Free, excludable, requirable, obligeable}
 use Rattle.trail.proofs.Small.{Small, shrinks, places, marks, obliges, small-sound, small-words}

@@ -18,10 +18,10 @@ use Rattle.board.proofs.FormLaws.{set-legs}
 use Rattle.board.specs.Held.{Words, Wide, Sound, Splits}
 use Rattle.board.proofs.Keep.{put-same, put-other, put-wide, put-formed, placed-wide, placed-formed, placed-set, placed-none, placed-on, legs-after, marked-formed, obliged-formed, heir-yes, heir-no}
 use Rattle.board.proofs.Inverse.{put-back, mark-back, oblige-back, place-back, placed-index, placed-before}
-use Rattle.trail.specs.Trail.{change, firstWord}
-use Rattle.trail.proofs.TrailLaws.{kind-of, node-of}
-use Rattle.trail.specs.Undo.{strictly, stopBefore, fitsShrunk, fitsPlaced, fitsMarked, fitsObliged, undoOne}
-use Rattle.trail.proofs.UndoLaws.{one-shrunk, one-placed, one-marked, one-obliged, undone-yes}
+use Rattle.records.specs.Trail.{change, firstWord}
+use Rattle.records.proofs.TrailLaws.{kind-of, node-of}
+use Rattle.records.specs.Undo.{strictly, stopBefore, fitsShrunk, fitsPlaced, fitsMarked, fitsObliged, undoOne}
+use Rattle.records.proofs.UndoLaws.{one-shrunk, one-placed, one-marked, one-obliged, undone-yes}
 use Rattle.trail.proofs.StepLaws.{Free}
 
 -- from b to c, with the record's two words

@@ -7,8 +7,8 @@ use native.Mathlib.Omega.{arith}
 use lib.ListN.{getD}
 use Rattle.board.specs.Board.{Board}
 use Rattle.board.specs.Held.{Words, Sound}
-use Rattle.trail.specs.Trail.{firstOf, secondOf}
-use Rattle.trail.specs.Undo.{undoMany}
+use Rattle.records.specs.Trail.{firstOf, secondOf}
+use Rattle.records.specs.Undo.{undoMany}
 use Rattle.trail.proofs.Small.{Small, small-sound, small-undo, small-words}
 
 -- from b at k records: m records of the trail spell small steps to the board

@@ -16,9 +16,9 @@ use Rattle.rules.specs.Numbers.{refusal}
 use Rattle.board.specs.Board.{Board, boardOf, stateOf}
 use Rattle.board.specs.Held.{Words, Held, Sound, InForm}
 use Rattle.board.specs.declared.State.{State}
-use Rattle.trail.specs.Trail.{roomOf, Wordy}
-use Rattle.trail.specs.Undo.{undoMany}
-use Rattle.trail.proofs.UndoLaws.{many-sound}
+use Rattle.records.specs.Trail.{roomOf, Wordy}
+use Rattle.records.specs.Undo.{undoMany}
+use Rattle.records.proofs.UndoLaws.{many-sound}
 use Rattle.trail.proofs.UndoWords.{many-words}
 use Rattle.trail.specs.Steps.{Ran, acted, answered, levelStep, backStep, baseOf, undoLevel, dropped}
 use Rattle.trail.proofs.StepLaws.{back-fits}

@@ -18,8 +18,8 @@ use Rattle.rules.proofs.Inner.{is-inner}
 use Rattle.board.specs.Board.{Board, boardOf, onBoard, onRoute, setOf, openAt, legNode}
 use Rattle.board.specs.Held.{InForm, Splits}
 use Rattle.board.specs.declared.State.{State}
-use Rattle.trail.specs.Trail.{roomOf, shrunk}
-use Rattle.trail.proofs.TrailLaws.{shrunk-still, note-still, Noted}
+use Rattle.records.specs.Trail.{roomOf, shrunk}
+use Rattle.records.proofs.TrailLaws.{shrunk-still, note-still, Noted}
 use Rattle.trail.specs.Refusals.{placeShut, placeRefusal, excludeRefusal, requireRefusal, obligeRefusal}
 use Rattle.trail.specs.Steps.{Ran, answered, unlessRefused, settleStep, baseOf, undoLevel, dropped, backStep}
 

@@ -11,9 +11,9 @@ use Rattle.laws.proofs.Logic.{decided}
 use Rattle.bits.specs.Places.{has}
 use Rattle.board.specs.Board.{Board, board, boardOf, setOf}
 use Rattle.board.specs.declared.State.{State}
-use Rattle.trail.specs.Trail.{shrunk}
-use Rattle.trail.proofs.TrailLaws.{shrunk-upto, shrunk-differ}
-use Rattle.trail.specs.Undo.{undoMany}
+use Rattle.records.specs.Trail.{shrunk}
+use Rattle.records.proofs.TrailLaws.{shrunk-upto, shrunk-differ}
+use Rattle.records.specs.Undo.{undoMany}
 use Rattle.trail.specs.Steps as step
 use Rattle.trail.specs.Steps.{Ran, acted}
 use Rattle.trail.specs.Run.{Move, place, close, exclude, require, settle, level, back, oblige}

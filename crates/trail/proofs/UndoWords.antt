@@ -15,9 +15,9 @@ use Rattle.board.specs.Board.{Board, onRoute, setOf}
 use Rattle.board.specs.Change.{strike, putSet, unplaced, unmarked, unobliged}
 use Rattle.board.specs.Held.{Words, Sound}
 use Rattle.board.proofs.Keep.{unplaced-set, unplaced-here}
-use Rattle.trail.specs.Trail.{firstOf, secondOf, recordNode}
-use Rattle.trail.specs.Undo.{fitsShrunk, fitsPlaced, fitsMarked, fitsObliged, Undone, undone, undoOne, undoMany}
-use Rattle.trail.proofs.UndoLaws.{unplaced-marks, one-by, one-sound, many-keeps}
+use Rattle.records.specs.Trail.{firstOf, secondOf, recordNode}
+use Rattle.records.specs.Undo.{fitsShrunk, fitsPlaced, fitsMarked, fitsObliged, Undone, undone, undoOne, undoMany}
+use Rattle.records.proofs.UndoLaws.{unplaced-marks, one-by, one-sound, many-keeps}
 use Rattle.trail.proofs.Small.{put-words}
 
 undone-words : (t : Bool) (b c : Board) → (t ≡ true → Words c) → Words b → Words (undone t c b .1)

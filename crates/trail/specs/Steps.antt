@@ -11,9 +11,9 @@ use Rattle.board.specs.Board.{Board, board, stateOf, stateWith, boardOf, onBoar
 use Rattle.board.specs.Change.{putSet, placedAfter, marked, obliged}
 use Rattle.board.specs.declared.State.{State}
 use Rattle.board.specs.declared.Figures.{Figures}
-use Rattle.trail.specs.Trail.{roomOf, pushed, change, firstWord, shrunk, noteBelow}
+use Rattle.records.specs.Trail.{roomOf, pushed, change, firstWord, shrunk, noteBelow}
 use Rattle.trail.specs.Refusals.{placeRefusal, excludeRefusal, requireRefusal, obligeRefusal}
-use Rattle.trail.specs.Undo.{Undone, undoMany}
+use Rattle.records.specs.Undo.{Undone, undoMany}
 use Rattle.trail.specs.declared.Outcome.{Outcome}
 use Rattle.trail.specs.declared.Stepped.{Stepped}
 

@@ -1,9 +1,6 @@
-// The trail and the steps that write it, and stepping back. records: a record's words, and those of a settling. refusals: why a step is refused.
-// steps: each step, in place. undo: each kind of record undone.
-pub mod records;
+// The steps that write the trail, and stepping back. refusals: why a step is refused. steps: each step, in place.
 pub mod refusals;
 pub mod steps;
-pub mod undo;
 
 use board::Figures;
 use board::State;

@@ -1,18 +1,18 @@
 // The steps on a state in form, asked so by the caller: the answer, and state and trail changed in place. Refused: state and trail as before.
 use crate::Outcome;
-use crate::records::Record;
-use crate::records::first_word;
-use crate::records::needed;
-use crate::records::note;
-use crate::records::push;
 use crate::refusals::exclude_refusal;
 use crate::refusals::oblige_refusal;
 use crate::refusals::place_refusal;
 use crate::refusals::require_refusal;
-use crate::undo::Undone;
-use crate::undo::undo_many;
 use board::Figures;
 use board::State;
+use records::undo::Undone;
+use records::undo::undo_many;
+use records::write::Record;
+use records::write::first_word;
+use records::write::needed;
+use records::write::note;
+use records::write::push;
 use rules::Node;
 use rules::Refusal;
 ghost use mathlib.Core.Path.{_≡_};
@@ -23,9 +23,9 @@ ghost use lib.ListN.{length, getD};
 ghost use Rattle.board.specs.Board.{board, stateWith};
 ghost use Rattle.board.specs.Form.{formWith};
 ghost use Rattle.board.specs.Held.{Sound};
-ghost use Rattle.trail.specs.Trail.{roomOf, Alike};
+ghost use Rattle.records.specs.Trail.{roomOf, Alike};
 ghost use Rattle.trail.specs.Refusals.{placeRefusal, excludeRefusal};
-ghost use Rattle.trail.specs.Undo.{Readable, undid};
+ghost use Rattle.records.specs.Undo.{Readable, undid};
 ghost use Rattle.trail.specs.Steps.{ran, asBefore, shrank, placeStep, closeStep, excludeStep, requireStep, settleStep, levelStep, dropped, backStep, obligeStep};
 
 // Nothing changed: refused with a number, or 0 where nothing was to be done.

@@ -17,7 +17,7 @@ use Rattle.board.specs.Board.{boardOf}
 use Rattle.board.specs.Held.{Sound}
 use Rattle.board.specs.declared.State.{State}
 use Rattle.trail.specs.Steps.{unlessRefused, undoLevel, dropped, backStep, obligeStep}
-use Rattle.trail.proofs.UndoLaws.{many-sound}
+use Rattle.records.proofs.UndoLaws.{many-sound}
 use Rattle.van.specs.Act.{actOf}
 use Rattle.fleet.specs.Fleet.{stateIn, trailIn}
 use Rattle.fleet.specs.Form.{sharesNone}

@@ -23,10 +23,10 @@ use Rattle.sheet.specs.declared.Layout.{Layout}
 use Rattle.day.specs.Tell.{dayOf}
 use Rattle.board.specs.Board.{boardOf, routeOf, setOf, openAt}
 use Rattle.board.specs.declared.State.{State}
-use Rattle.trail.specs.Trail.{roomOf}
+use Rattle.records.specs.Trail.{roomOf}
 use Rattle.trail.specs.Refusals.{placeShut}
-use Rattle.trail.specs.Undo.{Readable}
-use Rattle.trail.proofs.UndoLaws.{readable}
+use Rattle.records.specs.Undo.{Readable}
+use Rattle.records.proofs.UndoLaws.{readable}
 use Rattle.along.specs.Ready.{Ready}
 use Rattle.stands.proofs.Formed.{stands-formed}
 use Rattle.van.specs.Act.{owedOf}

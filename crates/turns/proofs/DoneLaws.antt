@@ -20,7 +20,7 @@ use Rattle.board.specs.Board.{boardOf}
 use Rattle.board.specs.Held.{Sound}
 use Rattle.board.proofs.FormLaws.{in-form, form-with}
 use Rattle.board.specs.declared.State.{State}
-use Rattle.trail.specs.Trail.{roomOf}
+use Rattle.records.specs.Trail.{roomOf}
 use Rattle.trail.specs.Steps.{Ran, undoLevel}
 use Rattle.van.specs.Known.{Known}
 use Rattle.fleet.specs.Fleet.{stateIn, boardIn, shareOf, trailIn}

@@ -23,7 +23,7 @@ use Rattle.board.specs.Form.{inForm, formWith}
 use Rattle.board.specs.Held.{Held, Words}
 use Rattle.board.proofs.FormLaws.{in-form, form-with}
 use Rattle.board.specs.declared.State.{State}
-use Rattle.trail.specs.Trail.{roomOf}
+use Rattle.records.specs.Trail.{roomOf}
 use Rattle.trail.specs.Refusals.{placeShut, excludeRefusal}
 use Rattle.trail.proofs.StepLaws.{not-shut, place-open}
 use Rattle.fleet.specs.Fleet.{stateIn, boardIn, trailIn}

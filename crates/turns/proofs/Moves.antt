@@ -19,10 +19,10 @@ use Rattle.rules.specs.declared.Van.{Van}
 use Rattle.rules.specs.declared.Step.{Step}
 use Rattle.board.specs.Board.{boardOf, setOf}
 use Rattle.board.specs.declared.State.{State}
-use Rattle.trail.specs.Trail.{roomOf}
+use Rattle.records.specs.Trail.{roomOf}
 use Rattle.trail.specs.Refusals.{placeRefusal, excludeRefusal}
 use Rattle.trail.specs.Steps.{Ran, acted, unlessRefused, recorded, placeStep, closeStep, excludeStep, requireStep, settleStep, levelStep, undoLevel, backStep, obligeStep}
-use Rattle.trail.proofs.TrailLaws.{pushed-long, note-all}
+use Rattle.records.proofs.TrailLaws.{pushed-long, note-all}
 use Rattle.van.specs.Act.{actOf, owedOf, settledSets}
 use Rattle.van.proofs.Leaves.{either}
 use Rattle.fleet.specs.Fleet.{stateIn, trailIn}

@@ -10,7 +10,7 @@ use Rattle.rules.specs.declared.Van.{Van}
 use Rattle.rules.specs.declared.Step.{Step}
 use Rattle.board.specs.Board.{setOf}
 use Rattle.board.specs.declared.State.{State}
-use Rattle.trail.specs.Trail.{roomOf}
+use Rattle.records.specs.Trail.{roomOf}
 use Rattle.trail.specs.Refusals.{placeShut}
 use Rattle.trail.specs.Steps.{Ran, placeStep, excludeStep, levelStep, undoLevel, backStep, obligeStep}
 use Rattle.van.specs.Act.{owedOf, actOf}

@@ -15,7 +15,7 @@ use Rattle.board.specs.Board.{boardOf}
 use Rattle.board.specs.Form.{formWith}
 use Rattle.board.specs.Held.{Held}
 use Rattle.board.specs.declared.State.{State}
-use Rattle.trail.specs.Trail.{roomOf}
+use Rattle.records.specs.Trail.{roomOf}
 use Rattle.trail.specs.Refusals.{placeRefusal, excludeRefusal}
 use Rattle.fleet.specs.Fleet.{HeldAll}
 use Rattle.fleet.specs.Form.{formWithAll}

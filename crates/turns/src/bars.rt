@@ -6,7 +6,7 @@ ghost use Rattle.laws.specs.Basic.{allBelow};
 ghost use Rattle.sheet.specs.Section.{vansOf};
 ghost use Rattle.rules.specs.Numbers.{mostVans};
 ghost use Rattle.day.specs.Tell.{dayOf};
-ghost use Rattle.trail.specs.Trail.{roomOf};
+ghost use Rattle.records.specs.Trail.{roomOf};
 ghost use Rattle.fleet.specs.Fleet.{trailIn};
 ghost use Rattle.fleet.specs.Rows.{fleetWith, Rows, Figured, ReadyAll};
 ghost use Rattle.turns.specs.Act.{claimed, roomy, placeBar};

@@ -10,7 +10,7 @@ use Rattle.day.proofs.RefuseLaws.{call-fine}
 use Rattle.board.specs.Form.{inForm, formWith}
 use Rattle.board.proofs.FormLaws.{form-with}
 use Rattle.board.specs.declared.State.{State}
-use Rattle.trail.specs.Trail.{roomOf}
+use Rattle.records.specs.Trail.{roomOf}
 
 pub record Called (sheet : List ℕ) (s : State) (t : List ℕ) : Type 0 where
   pub read : callRefusal sheet ≡ 0

@@ -27,7 +27,7 @@ use Rattle.board.specs.Form.{inForm}
 use Rattle.board.proofs.FormLaws as board
 use Rattle.board.specs.Held.{Held, FormedBoard}
 use Rattle.board.specs.declared.State.{State}
-use Rattle.trail.specs.Trail.{roomOf}
+use Rattle.records.specs.Trail.{roomOf}
 use Rattle.trail.specs.Steps.{Ran}
 use Rattle.trail.specs.Steps as trail
 use Rattle.trail.proofs.StepLaws.{placeable, excludable, requirable, obligeable}

@@ -10,7 +10,7 @@ use Rattle.day.specs.Refuse.{callRefusal}
 use Rattle.board.specs.Form.{formWith}
 use Rattle.board.specs.Held.{Held}
 use Rattle.board.specs.declared.State.{State}
-use Rattle.trail.specs.Trail.{roomOf}
+use Rattle.records.specs.Trail.{roomOf}
 
 -- a sheet that no call refuses, where it has what, and a state in form, its records within the trail's room
 pub record Known (sheet : List ℕ) (at : Layout) (s : State) (t : List ℕ) : Type 0 where

@@ -8,7 +8,7 @@ ghost use Rattle.rules.specs.Verdict.{alive};
 ghost use Rattle.rules.specs.declared.Van.{Van};
 ghost use Rattle.board.specs.Board.{board, stateWith};
 ghost use Rattle.board.specs.Held.{Sound};
-ghost use Rattle.trail.specs.Trail.{roomOf};
+ghost use Rattle.records.specs.Trail.{roomOf};
 ghost use Rattle.trail.specs.Steps.{ran, placeStep, settleStep};
 ghost use Rattle.along.specs.Ready.{Ready};
 ghost use Rattle.along.specs.Nodes.{ByNode};

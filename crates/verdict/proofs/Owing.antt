@@ -13,7 +13,7 @@ use Rattle.laws.proofs.Lists.{mem-in, all-in, all-i, any-i, any-e}
 use Rattle.laws.specs.Basic.{mem, all, any, In, allBelow}
 use Rattle.laws.proofs.Below.{below-at, below-make}
 use Rattle.bits.specs.Places.{has}
-use Rattle.bits.proofs.Members.{has-none}
+use Rattle.bits.proofs.Members.{has-none, word-ext}
 use Rattle.rules.specs.Day.{Day, inner}
 use Rattle.rules.specs.Leg.{legStops}
 use Rattle.rules.specs.Plan.{Plan}
@@ -24,7 +24,6 @@ use Rattle.rules.specs.declared.Job.the-variants.{Clean, Soiled, Transfer}
 use Rattle.rules.proofs.Inner.{inner-low}
 use Rattle.rules.proofs.AlongLaws.{leg-index, mem-at}
 use Rattle.along.specs.Sets.{placesIn}
-use Rattle.along.proofs.SetLaws.{word-ext}
 use Rattle.verdict.specs.Verdict.{memberOpen}
 
 module _ (d : Day) (m ws : List ℕ) (marks : ℕ) (proper : Proper d) (small : d .n ≤ 64)

@@ -21,7 +21,7 @@ const ROOTS: [(&str, &str); 9] = [
     ("planner/specs/Face.antt", "countOf"),
     ("planner/specs/Face.antt", "judgeOf"),
     ("day/specs/Section.antt", "sectionOf"),
-    ("planner/specs/Paper.antt", TABLE),
+    ("paper/specs/Paper.antt", TABLE),
     ("dock/specs/Listing.antt", "listingOf"),
     ("dock/specs/Listing.antt", "printed"),
 ];

@@ -3,7 +3,7 @@ use native.Mathlib.Omega.{arith}
 use native.Mathlib.Nat.{mul-le-mul}
 use Rattle.laws.proofs.Choice.{or-else-next, first-stops}
 use Rattle.laws.specs.Basic.{orElse}
-use Rattle.sheet.specs.Word.{size}
+use Rattle.words.specs.Word.{size}
 use Rattle.sheet.specs.Section.{nOf, secondsAt, metresAt, stepsAt, tableRefusal, stepsRefusal, laterRefusal, readRefusal}
 use Rattle.sheet.specs.Place.{partOf}
 use Rattle.sheet.proofs.PlaceLaws.{limits-zero, nodes-zero, jobs-zero, part-answer, part-stands, table-is, table-stands, found-refused, found-whole}

@@ -4,7 +4,7 @@ use native.Mathlib.Omega.{arith}
 use borrow.Author.Tests.{le-ltb, lt-ltb, eq-eqb, ne-eqb}
 use Rattle.laws.specs.Basic.{allBelow, orElse, unless}
 use Rattle.rules.specs.Numbers.{refusal, mostVans}
-use Rattle.sheet.specs.Word.{size, words, limitsAtOk}
+use Rattle.words.specs.Word.{size, words, limitsAtOk}
 use Rattle.sheet.specs.Section.{vansAt, vansOf, headRefusal, limitsRefusal}
 use Rattle.sheet.specs.Place.{partOf}
 use Rattle.sheet.proofs.PlaceLaws.{limits-left, part-stops, part-judged, part-head}

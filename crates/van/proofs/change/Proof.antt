@@ -4,7 +4,7 @@ use Rattle.board.specs.Board.{stateWith, boardOf, routeOf}
 use Rattle.board.proofs.FormLaws.{form-with}
 use Rattle.board.specs.Held.{Sound}
 use Rattle.board.specs.declared.State.{State}
-use Rattle.trail.proofs.UndoLaws.{readable}
+use Rattle.records.proofs.UndoLaws.{readable}
 use Rattle.along.proofs.Facts.{route-of}
 use Rattle.van.specs.Act.{actOf}
 use Rattle.van.proofs.Ready.{ready, sound, with-trail}

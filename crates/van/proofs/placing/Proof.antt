@@ -1,7 +1,7 @@
 use mathlib.Core.Path.{sym, _∙_}
-use Rattle.trail.specs.Trail.{roomOf}
+use Rattle.records.specs.Trail.{roomOf}
 use Rattle.trail.specs.Steps.{placeStep}
-use Rattle.trail.proofs.UndoLaws.{readable}
+use Rattle.records.proofs.UndoLaws.{readable}
 use Rattle.trail.proofs.StepLaws.{step-no}
 use borrow.Author.Needs.{needs}
 use Rattle.van.proofs.placing.Statement.{statement}

@@ -1,6 +1,6 @@
 use borrow.Author.Needs.{needs}
 use mathlib.Core.Path.{refl}
-use Rattle.along.proofs.WalkLaws.{kept-pass}
+use Rattle.walks.proofs.WalkLaws.{kept-pass}
 use Rattle.settle.specs.Round.{loadRides}
 use Rattle.settle.proofs.strike.left_of.Statement.{statement}
 use Rattle.settle.proofs.strike.left_of.Tie as tie

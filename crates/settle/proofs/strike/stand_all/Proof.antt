@@ -7,8 +7,9 @@ use Rattle.day.specs.Tell.{dayOf}
 use Rattle.along.proofs.RouteLaws.{stops-legs, low}
 use Rattle.along.proofs.ReadyLaws.{nodes-most}
 use Rattle.along.proofs.Facts.{two-stops, route-of, past-nodes}
-use Rattle.settle.specs.Round.{fitsIn, gapAt}
-use Rattle.settle.proofs.RoundLaws.{Upto, kepts-same, upto-none, upto-more, upto-all, gap-stands, places-at, stand-kept}
+use Rattle.gaps.specs.Gaps.{fitsIn, gapAt}
+use Rattle.gaps.proofs.GapLaws.{gap-stands, places-at, stand-kept}
+use Rattle.settle.proofs.RoundLaws.{Upto, kepts-same, upto-none, upto-more, upto-all}
 use Rattle.settle.proofs.Facts.{spotted, named}
 use Rattle.settle.proofs.strike.stand_all.Statement.{statement}
 use Rattle.settle.proofs.strike.stand_all.Tie as tie

@@ -3,10 +3,10 @@ use Prim.Native.Nat.{_<_}
 use native.Mathlib.Omega.{arith}
 use Rattle.rules.proofs.Inner.{is-inner}
 use Rattle.board.specs.Board.{board, setOf}
-use Rattle.trail.specs.Trail.{roomOf}
+use Rattle.records.specs.Trail.{roomOf}
 use Rattle.trail.specs.Refusals.{placeRefusal}
 use Rattle.trail.specs.Steps.{closeStep}
-use Rattle.trail.proofs.UndoLaws.{readable}
+use Rattle.records.proofs.UndoLaws.{readable}
 use Rattle.trail.proofs.StepLaws.{Placeable, placeable, step-no, step-yes}
 use borrow.Author.Needs.{needs}
 use Rattle.trail.proofs.steps.close.Statement.{statement}

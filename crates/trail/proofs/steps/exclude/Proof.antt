@@ -1,9 +1,9 @@
 use mathlib.Core.Path.{_≡_, sym, _∙_}
 use Rattle.board.specs.Board.{board}
-use Rattle.trail.specs.Trail.{roomOf}
+use Rattle.records.specs.Trail.{roomOf}
 use Rattle.trail.specs.Refusals.{excludeRefusal}
 use Rattle.trail.specs.Steps.{excludeStep}
-use Rattle.trail.proofs.UndoLaws.{readable}
+use Rattle.records.proofs.UndoLaws.{readable}
 use Rattle.trail.proofs.StepLaws.{not-owed, shut-out-asks, step-no}
 use borrow.Author.Needs.{needs}
 use Rattle.trail.proofs.steps.exclude.Statement.{statement}

@@ -5,7 +5,7 @@ use native.Mathlib.Omega.{arith}
 use Rattle.rules.proofs.Inner.{is-inner}
 use Rattle.board.specs.Board.{board}
 use Rattle.board.specs.Change.{obliged}
-use Rattle.trail.specs.Trail.{roomOf}
+use Rattle.records.specs.Trail.{roomOf}
 use Rattle.trail.specs.Refusals.{obligeRefusal}
 use Rattle.trail.specs.Steps.{obligeStep, recorded}
 use Rattle.trail.proofs.StepLaws.{obligeable, step-no, step-yes}

@@ -3,7 +3,7 @@ use mathlib.Core.Path.{refl, _∙_}
 use Prim.Native.Nat.{_<_}
 use Rattle.rules.proofs.Inner.{is-inner}
 use Rattle.board.specs.Board.{board, setOf}
-use Rattle.trail.specs.Trail.{roomOf}
+use Rattle.records.specs.Trail.{roomOf}
 use Rattle.trail.specs.Steps.{placeStep, recorded}
 use Rattle.trail.proofs.StepLaws.{Placeable, placeable, step-yes}
 use borrow.Author.Needs.{needs}

@@ -5,7 +5,7 @@ use native.Mathlib.Omega.{arith}
 use Rattle.rules.proofs.Inner.{is-inner}
 use Rattle.board.specs.Board.{board}
 use Rattle.board.specs.Change.{marked}
-use Rattle.trail.specs.Trail.{roomOf}
+use Rattle.records.specs.Trail.{roomOf}
 use Rattle.trail.specs.Refusals.{requireRefusal}
 use Rattle.trail.specs.Steps.{requireStep, recorded}
 use Rattle.trail.proofs.StepLaws.{requirable, step-no, step-yes}

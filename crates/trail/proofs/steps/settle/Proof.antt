@@ -6,8 +6,8 @@ use native.Mathlib.Omega.{arith}
 use borrow.Author.Tests.{lt-leb, le-leb, eqb-false}
 use Rattle.rules.specs.Numbers.{refusal}
 use Rattle.board.specs.Board.{stateOf}
-use Rattle.trail.specs.Trail.{roomOf, shrunk}
-use Rattle.trail.proofs.TrailLaws.{note-all, Noted}
+use Rattle.records.specs.Trail.{roomOf, shrunk}
+use Rattle.records.proofs.TrailLaws.{note-all, Noted}
 use Rattle.trail.specs.Steps.{settleStep, acted}
 use Rattle.trail.proofs.StepLaws.{step-no, step-yes, settle-still}
 use borrow.Author.Needs.{needs}

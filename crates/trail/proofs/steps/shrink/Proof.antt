@@ -2,7 +2,7 @@ use mathlib.Core.Path.{refl}
 use native.Mathlib.Omega.{arith}
 use Rattle.board.specs.Board.{setOf}
 use Rattle.board.specs.Change.{putSet}
-use Rattle.trail.specs.Trail.{roomOf}
+use Rattle.records.specs.Trail.{roomOf}
 use Rattle.trail.specs.Steps.{recorded}
 use borrow.Author.Needs.{needs}
 use Rattle.trail.proofs.steps.shrink.Statement.{statement}

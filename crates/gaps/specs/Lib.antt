@@ -1,0 +1,2 @@
+-- Gaps: the places of a node that window and metres leave.
+pub mod Gaps

@@ -1,0 +1,2 @@
+-- PaperCases: the table, computed.
+pub mod PaperCases
