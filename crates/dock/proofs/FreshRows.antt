@@ -16,7 +16,7 @@ use Rattle.fleet.specs.Fleet.{freshFleet}
 use Rattle.fleet.specs.Rows.{figuresIn, rowState, fleetWith, RowsOf, Blank}
 use Rattle.fleet.proofs.FleetLaws.{fleetMade}
 use Rattle.laws.proofs.Turned.{ltb-more, tab-same}
-use Rattle.turns.specs.Known.{EightRows}
+use Rattle.turns.specs.Turn.{EightRows}
 
 -- the first j rows have a fresh van, the others nothing but zeros
 pub record Freshly (n : ℕ) (may : ℕ → ℕ → Bool) (j : ℕ) (routes sets levels figures : List (List ℕ)) : Type 0 where

@@ -1,6 +1,5 @@
--- VanLaws: what a line tells of the vans, van by van. RouteLines: the route lines, van by van. Reach: what holds of a fleet that steps have led to.
+-- RouteLines: the route lines, van by van. Reach: what holds of a fleet that steps have led to.
 -- FreshRows: the fresh fleet put into rows. LineLaws: the lines of a listing, step by step.
-pub mod VanLaws
 pub mod RouteLines
 pub mod Reach
 pub mod FreshRows

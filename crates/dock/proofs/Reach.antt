@@ -37,8 +37,9 @@ use Rattle.fleet.specs.declared.Fleet.{Fleet}
 use Rattle.fleet.proofs.FleetLaws.{state-of}
 use Rattle.fleet.proofs.PlanLaws.{alive-all}
 use Rattle.turns.specs.Together.{RanAll, actedAll}
-use Rattle.turns.specs.Act.{actAll}
-use Rattle.turns.specs.Known.{KnownRows, EightRows}
+use Rattle.acts.specs.Act.{actAll}
+use Rattle.acts.specs.Known.{KnownRows}
+use Rattle.turns.specs.Turn.{EightRows}
 use Rattle.planner.specs.Face.{freshOf, askRefusal, stepOf, countOf, judgeOf}
 use Rattle.planner.specs.Promises.{Took, none, then}
 use Rattle.planner.proofs.Answers.{unchanged, call-made, call-yes, van-goes}
@@ -46,8 +47,9 @@ use Rattle.planner.proofs.Courses.{reached-all, reached-held, form-van, sound-v
 use Rattle.planner.proofs.Never.{never-misfit}
 use Rattle.fleet.proofs.FormLaws.{form-with-all}
 use Rattle.planner.proofs.RowFacts.{rows-ready}
-use Rattle.dock.specs.declared.telling.Sums.{Sums}
-use Rattle.dock.specs.Listing.{toldIn, ToldAll, Reached, lineOf}
+use Rattle.telling.specs.declared.Sums.{Sums}
+use Rattle.telling.specs.Told.{toldIn, ToldAll}
+use Rattle.dock.specs.Listing.{Reached, lineOf}
 
 -- where a listing begins
 pub begun : {sheet : List ℕ} {f : Fleet} (t : List ℕ) → f ≡ freshOf sheet → Reached sheet f t

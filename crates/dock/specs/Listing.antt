@@ -1,25 +1,24 @@
 -- The whole listing of a sheet as bytes, line by line, with the trail that is lent (01, One sheet and its listing; 02, No. 1).
-use Prim.Native.Nat.{ℕ, zero, suc, _+_, _<_}
-use mathlib.Core.Path.{_≡_}
+use Prim.Native.Nat.{ℕ, zero, suc, _+_}
 use mathlib.Core.Bool.{cond}
-use mathlib.Core.List.{List, [], _∷_, _++_}
-use lib.ListN.{length, getD, replicate}
+use mathlib.Core.List.{List, [], _++_}
+use lib.ListN.{length, replicate}
 use lib.Dec.{eqb, ltb}
 use Rattle.laws.specs.Basic.{joined}
-use Rattle.rules.specs.Numbers.{refusal, mostVans}
+use Rattle.rules.specs.Numbers.{refusal}
 use Rattle.rules.specs.Verdict.{alive}
 use Rattle.sheet.specs.Section.{kOf, vansOf}
 use Rattle.day.specs.Refuse.{openRefusal}
-use Rattle.day.specs.Tell.{stepWord, dayOf, vanOf}
-use Rattle.board.specs.Board.{placesOf, routeOf}
+use Rattle.day.specs.Tell.{stepWord}
+use Rattle.board.specs.Board.{routeOf}
 use Rattle.listing.specs.Text.{routeLine, refusedLine, stepLine}
-use Rattle.fleet.specs.Fleet.{stateIn, boardIn}
+use Rattle.fleet.specs.Fleet.{boardIn}
 use Rattle.fleet.specs.Sums.{recordsAll}
 use Rattle.fleet.specs.declared.Fleet.{Fleet}
 use Rattle.turns.specs.Together.{RanAll}
 use Rattle.turns.specs.declared.Turned.{Turned}
 use Rattle.planner.specs.Face.{freshOf, stepOf, countOf, judgeOf}
-use Rattle.planner.specs.Promises.{Steps, planAt}
+use Rattle.planner.specs.Promises.{Steps}
 
 -- "step from 1, refusal or 0, open places in all, records, striking rounds, verdict": places and records of all vans, the fleet's verdict
 unfoldable pub lineOf : List ℕ → ℕ → Turned → List ℕ
@@ -60,14 +59,3 @@ listingOf sheet t = cond (eqb (openRefusal sheet) 0) (wholeOf sheet t) (refusedL
 -- what the program prints with a trail of zeros: input above 60,392 bytes prints `refused 1`
 unfoldable pub printed : List ℕ → List ℕ
 printed input = cond (ltb 60392 (length input)) (refusedLine refusal.SHORT) (listingOf input (replicate 64480 0))
-
--- ---- for contracts: what a line tells of one van
-
--- "open places in all", "records", "verdict", of van j, in a row
-abbrev pub toldIn : List ℕ → Fleet → ℕ → List ℕ
-toldIn sheet f j = placesOf (stateIn f j .sets) 64 ∷ stateIn f j .records ∷ cond (alive (vanOf sheet j) (dayOf sheet) (planAt f j)) 1 0 ∷ []
-
--- of every van of the sheet
-pub record ToldAll (sheet : List ℕ) (f : Fleet) (told : List (List ℕ)) : Type 0 where
-  pub eight : length told ≡ mostVans
-  pub each : (j : ℕ) → j < vansOf sheet → getD told j [] ≡ toldIn sheet f j

@@ -1,7 +1,5 @@
 // The listing of a sheet, made in a buffer: its steps run one by one from the fresh fleet, the line of each, and the routes at the end.
-// telling: what a line tells of the vans. lines: the lines and the whole listing.
 pub mod lines;
-pub mod telling;
 
 use fleet::Fleet;
 use rules::Node;
@@ -12,10 +10,3 @@ pub const TRAIL: usize = 2 * Fleet::VANS * (Node::MOST + 1) * (Node::MOST - 2);
 
 // Bytes of the longest listing: a line has at most 200, a route's at most 1,350.
 pub const TEXT: usize = 200 * Step::MOST + 1350 * Fleet::VANS;
-
-// What a line tells of a van: its open places, its records, and its verdict, in a row.
-pub struct Told;
-
-impl Told {
-    pub const COUNT: usize = 3;
-}

@@ -15,11 +15,6 @@ ghost use Rattle.fleet.specs.Rows.{figuresIn, fleetWith, Rows, Figured, Blank};
 ghost use Rattle.turns.specs.Together.{ranAll};
 ghost use Rattle.planner.specs.Face.{freshOf, stepOf};
 ghost use Rattle.dock.specs.Listing.{Reached, comeTo, linesOf, routesOf, wholeOf, listingOf};
-use crate::Told;
-use crate::telling::Sums;
-use crate::telling::one_if;
-use crate::telling::sum_up;
-use crate::telling::tell_vans;
 use along::nodes::Jobs;
 use along::nodes::by_node;
 use board::Figures;
@@ -36,6 +31,11 @@ use listing::put_route;
 use listing::put_step;
 use rules::Node;
 use sheet::Layout;
+use telling::Sums;
+use telling::Told;
+use telling::one_if;
+use telling::sum_up;
+use telling::tell_vans;
 use turns::Outcomes;
 
 // The sheet's i-th step, from 0, on a fleet that was reached from the fresh one: neither sheet nor fleet is asked again, and no undoing is refused.
@@ -59,7 +59,7 @@ pub fn step_at(
     ensures { λ r. ⌜ Rows (now (routes .exit)) × Rows (now (sets .exit)) × Rows (now (levels .exit)) × Figured (now (figures .exit)) ⌝ }
 {
     let step = day::look::step(sheet, at, i);
-    turns::steps::act(sheet, at, routes, sets, levels, figures, trail, step)
+    acts::act(sheet, at, routes, sets, levels, figures, trail, step)
 }
 
 // The line of the i-th step, from 0.

@@ -24,7 +24,9 @@ use Rattle.fleet.specs.Fleet.{stateIn, freshFleet, shareOf, trailIn}
 use Rattle.fleet.specs.Form.{hasWard, clearOf, sharesNone, vanFits, idle, inFormAll, formWithAll}
 use Rattle.fleet.specs.Sums.{placesAll}
 use Rattle.turns.specs.Together.{unlessBarred, together, alone}
-use Rattle.turns.specs.Act.{turnOf, claimed, roomy, placeBar, vanAct, actAll}
+use Rattle.turns.specs.Turn.{turnOf}
+use Rattle.bars.specs.Bars.{claimed, roomy, placeBar}
+use Rattle.acts.specs.Act.{vanAct, actAll}
 use Rattle.rules.specs.Fleet.{aliveAll}
 use Rattle.board.specs.Form.{stopOk, setOk, onlyInner, markOk, mustOk, boardOk, levelOk, levelsOk, inForm, formWith}
 use Rattle.records.specs.Trail.{roomOf, shrunk, noteBelow, noteOne, pushed}

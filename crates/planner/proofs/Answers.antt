@@ -33,11 +33,13 @@ use Rattle.fleet.specs.Form.{inFormAll, formWithAll}
 use Rattle.fleet.specs.declared.Fleet.{Fleet}
 use Rattle.fleet.proofs.FormLaws.{form-with-van}
 use Rattle.turns.specs.Together.{RanAll, actedAll}
-use Rattle.turns.specs.Act.{actAll, turnOf, claimed}
-use Rattle.turns.specs.Moved.{OthersStay, RestStays, MovedAll, placed, alone, level, back, obliged}
+use Rattle.acts.specs.Act.{actAll}
+use Rattle.turns.specs.Turn.{turnOf}
+use Rattle.bars.specs.Bars.{claimed}
+use Rattle.acts.specs.Moved.{OthersStay, RestStays, MovedAll, placed, alone, level, back, obliged}
 use Rattle.planner.specs.Face.{askRefusal, stepOf, stepRefusal}
 use Rattle.planner.specs.Promises.{Took, Unchanged, inVanWord, planAt}
-use Rattle.turns.proofs.Moves.{act-all-moves, act-all-leaves}
+use Rattle.acts.proofs.Moves.{act-all-moves, act-all-leaves}
 
 -- ---- a call that is not refused
 

@@ -20,11 +20,12 @@ use Rattle.fleet.specs.Fleet.{stateIn, trailIn}
 use Rattle.fleet.specs.Form.{sharesNone}
 use Rattle.fleet.specs.declared.Fleet.{Fleet}
 use Rattle.turns.specs.Together.{RanAll, actedAll}
-use Rattle.turns.specs.Act.{turnsOf, backBar, actAll}
+use Rattle.turns.specs.Turn.{turnsOf}
+use Rattle.acts.specs.Act.{backBar, actAll}
 use Rattle.turns.proofs.TogetherLaws.{together-is, unbarred}
 use Rattle.turns.proofs.EachLaws.{turnIn}
-use Rattle.turns.proofs.ActLaws.{act-back}
-use Rattle.turns.proofs.Moves.{turn-back}
+use Rattle.acts.proofs.ActLaws.{act-back}
+use Rattle.acts.proofs.Moves.{turn-back}
 
 undo-taken : (n : ℕ) (s : State) (t : List ℕ) (r : State) (u : List ℕ) → backStep n s t ≡ answered 0 r u → undoLevel n s t .0 ≡ true
 unfolding backStep

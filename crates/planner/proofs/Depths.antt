@@ -23,8 +23,9 @@ use Rattle.trail.proofs.Since.{accepted}
 use Rattle.van.specs.Act.{actOf, owedOf, settledSets, settlingRounds}
 use Rattle.fleet.specs.Fleet.{stateIn, trailIn}
 use Rattle.fleet.specs.declared.Fleet.{Fleet}
-use Rattle.turns.specs.Act.{turnOf, ofOneVan}
-use Rattle.turns.specs.Moved.{MovedAll, placed, alone, level, back, obliged, OthersStay}
+use Rattle.turns.specs.Turn.{turnOf}
+use Rattle.acts.specs.Act.{ofOneVan}
+use Rattle.acts.specs.Moved.{MovedAll, placed, alone, level, back, obliged, OthersStay}
 
 either : (P : State → Type 0) (b : Bool) (x y : Ran) → P (x .0 .state) → P (y .0 .state) → P (cond b x y .0 .state)
 either P true x y p q = p

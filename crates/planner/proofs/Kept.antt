@@ -59,9 +59,10 @@ use Rattle.fleet.specs.Sums.{plansIn, placesAll}
 use Rattle.fleet.specs.declared.Fleet.{Fleet}
 use Rattle.fleet.proofs.FormLaws.{FleetForm, ward-none, shares-apart, in-form-all, in-form-all-make, form-with-all, form-with-all-make}
 use Rattle.fleet.proofs.PlanLaws.{plans-formed, shares-none}
-use Rattle.turns.specs.Act.{turnOf, ofOneVan}
-use Rattle.turns.specs.Moved.{RestStays, MovedAll}
-use Rattle.turns.specs.Moved as turns
+use Rattle.turns.specs.Turn.{turnOf}
+use Rattle.acts.specs.Act.{ofOneVan}
+use Rattle.acts.specs.Moved.{RestStays, MovedAll}
+use Rattle.acts.specs.Moved as turns
 use Rattle.planner.specs.Face.{plansOf, countOf, judgeOf}
 use Rattle.planner.specs.Promises.{Took, Passes, inVanWord, planAt, FormKept, PlacingKeeps, ClosingKeeps, ExcludingKeeps, RequiringKeeps, ObligingKeeps, SettlingStrikes, SettlingRests, SettlingExact, SettlingLargest, SettlingLosesNone, NoGapAlive, DeadNone}
 use Rattle.planner.specs.declared.Counted.{Counted}

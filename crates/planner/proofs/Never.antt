@@ -42,13 +42,15 @@ use Rattle.fleet.specs.Form.{sharesNone, formWithAll}
 use Rattle.fleet.specs.declared.Fleet.{Fleet}
 use Rattle.fleet.proofs.FleetLaws.{room-part}
 use Rattle.turns.specs.Together.{RanAll, unlessBarred, together, alone}
-use Rattle.turns.specs.Act.{actAll, vanAct, turnsOf, claimed, roomy, placeBar, levelBar, backBar, ofOneVan}
+use Rattle.acts.specs.Act.{actAll, vanAct, levelBar, backBar, ofOneVan}
+use Rattle.turns.specs.Turn.{turnsOf}
+use Rattle.bars.specs.Bars.{claimed, roomy, placeBar}
 use Rattle.turns.proofs.TogetherLaws.{barred, unbarred}
 use Rattle.planner.specs.Face.{freshOf, stepOf}
 use Rattle.planner.specs.Promises.{Took, Steps, NeverShort, depthOf, inVanWord}
 use Rattle.planner.specs.Promises as promises
 use Rattle.planner.proofs.Answers.{call-made, call-yes, van-called}
-use Rattle.turns.proofs.ActLaws.{act-back}
+use Rattle.acts.proofs.ActLaws.{act-back}
 use Rattle.planner.proofs.Depths.{Shift, keeps, opens, drops}
 use Rattle.planner.proofs.FreshFleet.{fresh-van}
 use Rattle.planner.proofs.Courses.{word-said, took-shift, steps-back, reached-all, reached-held, van-runs}

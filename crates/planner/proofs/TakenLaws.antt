@@ -23,12 +23,12 @@ use Rattle.fleet.specs.Rows.{rowState, fleetWith, Rows, Figured}
 use Rattle.fleet.specs.declared.Fleet.{Fleet}
 use Rattle.fleet.proofs.FleetLaws.{state-of, fleet-eight, fleet-same, room-part}
 use Rattle.turns.specs.Together.{RanAll, actedAll}
-use Rattle.turns.specs.Act.{actAll}
-use Rattle.turns.specs.Known.{KnownRows, Did}
+use Rattle.acts.specs.Act.{actAll}
+use Rattle.acts.specs.Known.{KnownRows, Did}
 use Rattle.turns.specs.declared.Outcomes.{Outcomes}
 use Rattle.planner.specs.Face.{askRefusal, stepRefusal, stepOf}
 use Rattle.planner.proofs.Answers.{call-made, call-yes, call-no}
-use Rattle.turns.proofs.Moves.{act-all-moves, act-all-leaves}
+use Rattle.acts.proofs.Moves.{act-all-moves, act-all-leaves}
 
 -- the room is asked last
 pub step-last : (sheet : List ℕ) (f : Fleet) (t : List ℕ)

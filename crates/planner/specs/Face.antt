@@ -16,7 +16,7 @@ use Rattle.fleet.specs.Form.{inFormAll, formWithAll}
 use Rattle.fleet.specs.Sums.{plansIn, placesAll}
 use Rattle.fleet.specs.declared.Fleet.{Fleet}
 use Rattle.turns.specs.Together.{RanAll, actedAll}
-use Rattle.turns.specs.Act.{actAll}
+use Rattle.acts.specs.Act.{actAll}
 use Rattle.planner.specs.declared.Opened.{Opened}
 use Rattle.planner.specs.declared.Counted.{Counted}
 use Rattle.planner.specs.declared.Judged.{Judged}

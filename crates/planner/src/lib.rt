@@ -9,6 +9,7 @@ ghost use Rattle.fleet.specs.Rows.{Rows, Figured};
 ghost use Rattle.fleet.specs.declared.Fleet.{Fleet};
 ghost use Rattle.planner.specs.Asked.{Sized, TakenIn, putBack};
 ghost use Rattle.planner.specs.Face.{askRefusal, stepOf, Opens, Sections, Stepping, Counts, Judges};
+use acts::act;
 use board::Figures;
 use board::State;
 use fleet::Fleet;
@@ -22,7 +23,6 @@ use rules::Step;
 use sheet::Found;
 use turns::Outcomes;
 use turns::Turned;
-use turns::steps::act;
 
 // What opening gives: 0 and the fresh fleet, or the number of a refusal and the fleet with every number 0.
 pub struct Opened {

@@ -16,7 +16,7 @@ use Rattle.fleet.specs.Fleet.{HeldAll}
 use Rattle.fleet.specs.declared.Fleet.{Fleet}
 use Rattle.turns.specs.Together.{RanAll, actedAll}
 use Rattle.turns.specs.declared.Turned.{Turned}
-use Rattle.turns.proofs.Moves.{act-all-moves}
+use Rattle.acts.proofs.Moves.{act-all-moves}
 use Rattle.rules.specs.Numbers.{stepSaid}
 use Rattle.planner.specs.Face.{Stepping}
 use Rattle.planner.specs.Promises.{Took, Steps, none, then, depthOf, inVanWord}

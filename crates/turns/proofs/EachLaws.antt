@@ -19,8 +19,7 @@ use Rattle.trail.specs.declared.Outcome.{Outcome}
 use Rattle.fleet.specs.Fleet.{stateIn, shareOf, trailIn}
 use Rattle.fleet.specs.Rows.{rowOf, rowState, fleetWith}
 use Rattle.fleet.specs.declared.Fleet.{Fleet}
-use Rattle.turns.specs.Act.{turnOf}
-use Rattle.turns.specs.Known.{EightRows, Turning}
+use Rattle.turns.specs.Turn.{turnOf, EightRows, Turning}
 use Rattle.fleet.proofs.FleetLaws.{state-of, fleet-eight, part-long}
 use Rattle.turns.proofs.TogetherLaws.{Reads}
 use Rattle.turns.proofs.PutLaws.{row-own, row-other, rows-stay, part-long-as, part-own, part-other, part-over, spot-at, part-lent, part-back}

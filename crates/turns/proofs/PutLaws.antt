@@ -21,7 +21,7 @@ use Rattle.fleet.specs.declared.Fleet.{Fleet}
 use Rattle.fleet.proofs.FigureLaws.{figured-set}
 use Rattle.fleet.proofs.FleetLaws.{state-of, fleet-eight, part-fits, part-long}
 use Rattle.turns.specs.Together.{actedAll, alone}
-use Rattle.turns.specs.Known.{EightRows}
+use Rattle.turns.specs.Turn.{EightRows}
 use Rattle.turns.proofs.TogetherLaws.{trail-part, Others, alone-is}
 
 -- ---- the rows

@@ -13,7 +13,7 @@ use Rattle.board.proofs.FormLaws.{in-form, form-with}
 use Rattle.board.specs.declared.State.{State}
 use Rattle.records.specs.Trail.{roomOf}
 use Rattle.trail.specs.Refusals.{placeRefusal, excludeRefusal}
-use Rattle.turns.specs.Known.{Turning}
+use Rattle.turns.specs.Turn.{Turning}
 
 -- ---- what a turn asks
 

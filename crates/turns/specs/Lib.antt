@@ -1,5 +1,3 @@
--- Together: what a fleet's step gives, van by van. Act: the step of each kind. Known: what a step asks of its caller. Moved: an accepted step, van by van.
+-- Together: what a fleet's step gives, van by van. Turn: one van's turn, and what it asks of its caller.
 pub mod Together
-pub mod Act
-pub mod Known
-pub mod Moved
+pub mod Turn

@@ -1,8 +1,5 @@
-// The steps of a fleet in rows, on a sheet that no call refuses and a fleet in form, neither asked again. Every refusal is found before anything
-// changes, but for a record that does not fit, which only undoing finds.
-pub mod bars;
+// The turns of the vans in a step in which all take part, and what a fleet's step gives.
 pub mod each;
-pub mod steps;
 
 use fleet::Fleet;
 

@@ -15,8 +15,8 @@ use Rattle.fleet.specs.Form.{inFormAll, formWithAll}
 use Rattle.fleet.specs.Rows.{fleetWith}
 use Rattle.fleet.specs.declared.Fleet.{Fleet}
 use Rattle.turns.specs.Together.{RanAll}
-use Rattle.turns.specs.Act.{actAll}
-use Rattle.turns.specs.Known.{Did}
+use Rattle.acts.specs.Act.{actAll}
+use Rattle.acts.specs.Known.{Did}
 use Rattle.planner.specs.Asked.{TakenIn}
 use Rattle.planner.specs.Face.{askRefusal}
 use Rattle.planner.proofs.AskLaws.{sized, asked, rows-formed}

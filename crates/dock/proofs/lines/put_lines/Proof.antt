@@ -8,8 +8,9 @@ use Rattle.fleet.specs.Rows.{fleetWith, RowsOf, Rows, Figured}
 use Rattle.fleet.specs.declared.Fleet.{Fleet}
 use Rattle.listing.specs.Put.{Put}
 use Rattle.listing.proofs.TextLaws.{step-takes}
-use Rattle.dock.specs.Listing.{comeTo, linesOf, Reached, ToldAll}
-use Rattle.dock.proofs.VanLaws.{told-none}
+use Rattle.dock.specs.Listing.{comeTo, linesOf, Reached}
+use Rattle.telling.specs.Told.{ToldAll}
+use Rattle.telling.proofs.VanLaws.{told-none}
 use Rattle.dock.proofs.Reach.{begun, readied, goes-on, line-is, summing, serving, told-on}
 use Rattle.dock.proofs.LineLaws.{come-none, come-next, lines-none, lines-next}
 use borrow.Author.Needs.{needs}

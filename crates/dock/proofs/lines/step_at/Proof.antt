@@ -5,8 +5,8 @@ use Rattle.day.specs.Tell.{stepWord, vanOf, dayOf}
 use Rattle.sheet.specs.Section.{vansOf}
 use Rattle.rules.specs.declared.Step.{Step}
 use Rattle.fleet.specs.Rows.{fleetWith}
-use Rattle.turns.specs.Act.{actAll}
-use Rattle.turns.specs.Known.{Did}
+use Rattle.acts.specs.Act.{actAll}
+use Rattle.acts.specs.Known.{Did}
 use Rattle.planner.specs.Face.{stepOf}
 use borrow.Author.Needs.{needs}
 use Rattle.dock.proofs.lines.step_at.Statement.{statement}

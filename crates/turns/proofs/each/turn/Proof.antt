@@ -2,7 +2,7 @@ use borrow.Author.Tests.{eq-eqb, ne-eqb}
 use Rattle.board.specs.Board.{stateWith, boardOf}
 use Rattle.board.specs.declared.State.{State}
 use Rattle.trail.proofs.StepLaws.{shut-out-asks}
-use Rattle.turns.specs.Act.{turnOf}
+use Rattle.turns.specs.Turn.{turnOf}
 use Rattle.turns.proofs.TurnLaws.{turning-sound, place-free, exclude-free}
 use borrow.Author.Needs.{needs}
 use Rattle.turns.proofs.each.turn.Statement.{statement}

@@ -1,0 +1,2 @@
+-- BarLaws: the same asked of a fleet in rows.
+pub mod BarLaws

@@ -1,0 +1,2 @@
+-- VanLaws: what a line tells of the vans, van by van.
+pub mod VanLaws

@@ -1,0 +1,2 @@
+-- Told: what a line tells of one van, and of all.
+pub mod Told

@@ -1,0 +1,124 @@
+// What a line tells of the vans. A van whose records are those of before is told as before: neither its route nor its sets nor its marks have changed.
+ghost use mathlib.Core.Path.{_≡_};
+ghost use mathlib.Core.Bool.{false, cond, not};
+ghost use mathlib.Core.List.{List, [], _∷_};
+ghost use Prim.Native.Nat.{ℕ, _<_, _≤_};
+ghost use lib.ListN.{getD, length};
+ghost use lib.Dec.{eqb};
+ghost use Rattle.laws.specs.Basic.{allBelow, sumBelow};
+ghost use Rattle.rules.specs.Numbers.{mostVans};
+ghost use Rattle.sheet.specs.Section.{vansOf};
+ghost use Rattle.day.specs.Tell.{dayOf, jobIn};
+ghost use Rattle.along.specs.Nodes.{ByNode};
+ghost use Rattle.board.specs.Board.{placesOf};
+ghost use Rattle.rules.specs.Verdict.{alive};
+ghost use Rattle.along.specs.Ready.{Ready};
+ghost use Rattle.board.specs.Board.{stateWith};
+ghost use Rattle.van.specs.Act.{planIn};
+ghost use Rattle.fleet.specs.Rows.{figuresIn, fleetWith, RowsOf, ReadyAll};
+ghost use Rattle.telling.specs.Told.{toldIn, ToldAll};
+use along::nodes::Jobs;
+use board::Figures;
+use board::places::count;
+use fleet::Fleet;
+use fleet::rows::figures_in;
+use rules::Node;
+use rules::Van;
+use sheet::Layout;
+
+// What a line tells of a van: its open places, its records, and its verdict, in a row.
+pub struct Told;
+
+impl Told {
+    pub const COUNT: usize = 3;
+}
+
+pub fn one_if(b: bool) -> usize
+    ensures { λ r. ⌜ r ≡ cond b 1 0 ⌝ }
+{
+    if b { 1 } else { 0 }
+}
+
+// One van, into its row: open places, records, 1 for alive.
+fn tell<'a>(
+    sheet: &[u8],
+    at: Layout,
+    jobs: &[usize; Jobs::ROOM],
+    van: Van,
+    route: &'a [usize; Node::MOST],
+    sets: &'a [u64; Node::MOST],
+    f: Figures,
+    row: &mut [usize; Told::COUNT],
+)
+    requires { ⌜ Ready (now sheet) at (now route) (f .stops) (now sets) (f .marks) × (length (now row) ≡ 3)
+        × ByNode (jobIn (now sheet)) (at .jobs) (now jobs) ⌝ }
+    ensures { λ _. ⌜ ((levels : List ℕ) → now (row .exit) ≡ placesOf (now (sets .entry)) 64 ∷ f .records
+        ∷ cond (alive van (dayOf (now (sheet .entry))) (planIn (stateWith (now (route .entry)) (now (sets .entry)) levels f))) 1 0 ∷ []) ⌝ }
+{
+    let places = count(sets, at.nodes);
+    let alive = van::alive(sheet, at, jobs, van, route, sets, f);
+    row[0] = places;
+    row[1] = f.records;
+    row[2] = one_if(alive);
+}
+
+// Every van, or those alone whose records are other than they were.
+pub fn tell_vans<'a>(
+    sheet: &[u8],
+    at: Layout,
+    jobs: &[usize; Jobs::ROOM],
+    routes: &'a [[usize; Node::MOST]; Fleet::VANS],
+    sets: &'a [[u64; Node::MOST]; Fleet::VANS],
+    figures: &'a [[u64; Figures::COUNT]; Fleet::VANS],
+    every: bool,
+    told: &mut [[usize; Told::COUNT]; Fleet::VANS],
+)
+    requires { ⌜ ReadyAll (now sheet) at (now routes) (now sets) (now figures) × RowsOf 3 (now told) × ByNode (jobIn (now sheet)) (at .jobs) (now jobs) ⌝ }
+    ensures { λ _. ⌜ RowsOf 3 (now (told .exit)) ⌝ }
+    ensures { λ _. ⌜ ((levels : List (List ℕ)) → ((j : ℕ) → j < vansOf (now (sheet .entry)) → every ≡ false
+        → figuresIn (getD (now (figures .entry)) j []) .records ≡ getD (getD (now (told .entry)) j []) 1 0 → getD (now (told .entry)) j []
+        ≡ toldIn (now (sheet .entry)) (fleetWith (now (routes .entry)) (now (sets .entry)) levels (now (figures .entry))) j)
+        → ToldAll (now (sheet .entry)) (fleetWith (now (routes .entry)) (now (sets .entry)) levels (now (figures .entry))) (now (told .exit))) ⌝ }
+{
+    let mut j = 0;
+    while j < at.vans {
+        let f = figures_in(&figures[j]);
+        if every | (f.records != told[j][1]) {
+            let van = day::look::van(sheet, at, j);
+            tell(sheet, at, jobs, van, &routes[j], &sets[j], f, &mut told[j]);
+        }
+        j += 1;
+    }
+}
+
+// What a line tells of all vans: open places and records in all, and whether each van is alive.
+pub struct Sums {
+    pub places: usize,
+    pub records: usize,
+    pub alive: bool,
+}
+
+pub fn sum_up(told: &[[usize; Told::COUNT]; Fleet::VANS], v: usize) -> Sums
+    requires { ⌜ (v ≤ mostVans) × ((j : ℕ) → j < v → (getD (getD (now told) j []) 0 0 ≤ 4096) × (getD (getD (now told) j []) 1 0 ≤ 4096)) ⌝ }
+    ensures { λ r. ⌜ r ≡ record {
+      places = sumBelow v (λ j. getD (getD (now (told .entry)) j []) 0 0);
+      records = sumBelow v (λ j. getD (getD (now (told .entry)) j []) 1 0);
+      alive = allBelow v (λ j. not (eqb (getD (getD (now (told .entry)) j []) 2 0) 0));
+    } ⌝ }
+{
+    let mut places = 0;
+    let mut records = 0;
+    let mut alive = true;
+    let mut j = 0;
+    while j < v {
+        places += told[j][0];
+        records += told[j][1];
+        alive = alive & (told[j][2] != 0);
+        j += 1;
+    }
+    Sums {
+        places: places,
+        records: records,
+        alive: alive,
+    }
+}
