@@ -8,18 +8,18 @@ ghost use Rattle.day.specs.Seen.{Placed, seeing, lookedOver};
 use rules::Job;
 use sheet::Layout;
 use words::Entry;
-use words::word;
+use words::four_words;
 
 // The i-th job of a section whose entries begin at word `from`.
 fn job_at(s: &[u8], from: usize, i: usize) -> Job
     requires { ⌜ from + size.job * i + size.job ≤ words (now s) ⌝ }
     ensures { λ r. ⌜ r ≡ jobAt (now (s .entry)) from i ⌝ }
 {
-    let p = from + Entry::JOB * i;
-    let kind = word(s, p);
-    let a = word(s, p + 1) as usize;
-    let b = word(s, p + 2) as usize;
-    let load = word(s, p + 3) as usize;
+    let w = four_words(s, from, Entry::JOB, i);
+    let kind = w.first;
+    let a = w.second as usize;
+    let b = w.third as usize;
+    let load = w.fourth as usize;
     if kind == 1 {
         return Job::Clean {
             node: a,

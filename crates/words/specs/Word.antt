@@ -7,6 +7,8 @@ use lib.ListN.{length, getD}
 use lib.Dec.{leb, eqb}
 use Rattle.rules.specs.Class.{oneBit, classSet}
 use Rattle.rules.specs.Day.{isInner}
+use Rattle.words.specs.declared.Three.{Three}
+use Rattle.words.specs.declared.Four.{Four}
 
 -- how many words an entry has: a van's capacity, metre limit and bit, a node's "earliest, latest, service" and class set, a job's "kind, a, b, load", a
 -- step's "each three words"
@@ -29,6 +31,15 @@ wordAt s i = byteAt s (4 * i) + 256 * byteAt s (4 * i + 1) + 65536 * byteAt s (4
 pub record Reads (v r : ℕ) : Type 0 where
   pub is : r ≡ v
   pub low : r < 2 ^ 32
+
+-- the first three words of the i-th entry, of `width` words, where the entries begin at word `from`
+abbrev pub threeAt : List ℕ → ℕ → ℕ → ℕ → Three
+threeAt s from width i = let p = from + width * i in record { first = wordAt s p; second = wordAt s (p + 1); third = wordAt s (p + 2) }
+
+-- the first four
+abbrev pub fourAt : List ℕ → ℕ → ℕ → ℕ → Four
+fourAt s from width i =
+    let p = from + width * i in record { first = wordAt s p; second = wordAt s (p + 1); third = wordAt s (p + 2); fourth = wordAt s (p + 3) }
 
 -- "capacity (0 to 1,000), metre limit (0 to 1,000,000)", and "a third number, one of the eight bits (1, 2, .. 128)"
 abbrev pub limitsOk : ℕ → ℕ → ℕ → Bool

@@ -4,7 +4,7 @@ ghost use Prim.Native.Nat.{_+_, _*_, _<_, _≤_};
 ghost use Rattle.laws.specs.Basic.{allBelow};
 ghost use Rattle.rules.specs.Class.{oneBit};
 ghost use Rattle.rules.specs.Day.{isInner};
-ghost use Rattle.words.specs.Word.{size, words, wordAt, Reads, limitsOk, nodeOk, secondOk, jobOk, limitsAtOk, nodeAtOk, jobAtOk, entryOk};
+ghost use Rattle.words.specs.Word.{size, words, wordAt, Reads, threeAt, fourAt, limitsOk, nodeOk, secondOk, jobOk, limitsAtOk, nodeAtOk, jobAtOk, entryOk};
 
 // How many words an entry has.
 pub struct Entry;
@@ -17,6 +17,20 @@ impl Entry {
     pub const JOB: usize = 4;
 
     pub const STEP: usize = 3;
+}
+
+// An entry's first words.
+pub struct Three {
+    pub first: u32,
+    pub second: u32,
+    pub third: u32,
+}
+
+pub struct Four {
+    pub first: u32,
+    pub second: u32,
+    pub third: u32,
+    pub fourth: u32,
 }
 
 fn wide(x: u8) -> u32
@@ -36,6 +50,33 @@ pub fn word(s: &[u8], i: usize) -> u32
     let c = wide(s[p + 2]);
     let d = wide(s[p + 3]);
     a + 256 * b + 65536 * c + 16777216 * d
+}
+
+// The first three words of the i-th entry of a section whose entries begin at word `from` and have `width` words.
+fn three_words(s: &[u8], from: usize, width: usize, i: usize) -> Three
+    requires { ⌜ (3 ≤ width) × (from + width * i + width ≤ words (now s)) ⌝ }
+    ensures { λ r. ⌜ r ≡ threeAt (now (s .entry)) from width i ⌝ }
+{
+    let p = from + width * i;
+    Three {
+        first: word(s, p),
+        second: word(s, p + 1),
+        third: word(s, p + 2),
+    }
+}
+
+// The first four.
+pub fn four_words(s: &[u8], from: usize, width: usize, i: usize) -> Four
+    requires { ⌜ (4 ≤ width) × (from + width * i + width ≤ words (now s)) ⌝ }
+    ensures { λ r. ⌜ r ≡ fourAt (now (s .entry)) from width i ⌝ }
+{
+    let w = three_words(s, from, width, i);
+    Four {
+        first: w.first,
+        second: w.second,
+        third: w.third,
+        fourth: word(s, from + width * i + 3),
+    }
 }
 
 // Whether a number is one of the eight bits.
@@ -93,8 +134,8 @@ fn limits_at_ok(s: &[u8], from: usize, i: usize) -> bool
     requires { ⌜ from + size.van * i + size.van ≤ words (now s) ⌝ }
     ensures { λ r. ⌜ r ≡ limitsAtOk (now (s .entry)) from i ⌝ }
 {
-    let p = from + Entry::VAN * i;
-    limits_ok(word(s, p), word(s, p + 1), word(s, p + 2))
+    let w = three_words(s, from, Entry::VAN, i);
+    limits_ok(w.first, w.second, w.third)
 }
 
 pub fn all_limits_ok(s: &[u8], from: usize, v: usize) -> bool
@@ -115,8 +156,8 @@ fn node_at_ok(s: &[u8], from: usize, i: usize) -> bool
     requires { ⌜ from + size.node * i + size.node ≤ words (now s) ⌝ }
     ensures { λ r. ⌜ r ≡ nodeAtOk (now (s .entry)) from i ⌝ }
 {
-    let p = from + Entry::NODE * i;
-    node_ok(word(s, p), word(s, p + 1), word(s, p + 2), word(s, p + 3))
+    let w = four_words(s, from, Entry::NODE, i);
+    node_ok(w.first, w.second, w.third, w.fourth)
 }
 
 pub fn nodes_ok(s: &[u8], from: usize, n: usize) -> bool
@@ -137,14 +178,8 @@ fn job_at_ok(s: &[u8], n: u32, from: usize, i: usize) -> bool
     requires { ⌜ (2 ≤ n) × (from + size.job * i + size.job ≤ words (now s)) ⌝ }
     ensures { λ r. ⌜ r ≡ jobAtOk (now (s .entry)) n from i ⌝ }
 {
-    let p = from + Entry::JOB * i;
-    job_ok(
-        n,
-        word(s, p),
-        word(s, p + 1),
-        word(s, p + 2),
-        word(s, p + 3),
-    )
+    let w = four_words(s, from, Entry::JOB, i);
+    job_ok(n, w.first, w.second, w.third, w.fourth)
 }
 
 pub fn jobs_ok(s: &[u8], n: u32, from: usize, m: usize) -> bool

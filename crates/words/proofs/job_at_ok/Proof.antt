@@ -2,51 +2,14 @@ use borrow.Author.Needs.{needs}
 use Rattle.words.proofs.job_at_ok.Statement.{statement}
 use Rattle.words.proofs.job_at_ok.Tie as tie
 
-mul-p : tie.Need-mul-p
-mul-p c = search needs
-
-add-p : tie.Need-add-p
-add-p c = search needs
-
-word-requires : tie.Need-word-requires
-word-requires c κs = search needs
-
-add-word : tie.Need-add-word
-add-word c = search needs
-
-word-requires-2 : tie.Need-word-requires-2
-word-requires-2 c κs = search needs
-
-add-word-2 : tie.Need-add-word-2
-add-word-2 c = search needs
-
-word-requires-3 : tie.Need-word-requires-3
-word-requires-3 c κs = search needs
-
-add-word-3 : tie.Need-add-word-3
-add-word-3 c = search needs
-
-word-requires-4 : tie.Need-word-requires-4
-word-requires-4 c κs = search needs
+four-words-requires : tie.Need-four-words-requires
+four-words-requires c κs = search needs
 
 job-ok-requires : tie.Need-job-ok-requires
 job-ok-requires c κs = search needs
 
 returns : tie.Need-returns
-returns c = rw (c .job-ok .ensures, c .before .word4 .ensures .is, c .before .before .word3 .ensures .is, c .before .before .before .word2 .ensures .is, c .before .before .before .before .word .ensures .is)
+returns c = rw (c .job-ok .ensures, c .before .four-words .ensures)
 
 pub job-at-ok-spec : {M : Type 1} → statement M
-job-at-ok-spec =
-    tie.close
-    (tie.spec
-    mul-p
-    add-p
-    word-requires
-    add-word
-    word-requires-2
-    add-word-2
-    word-requires-3
-    add-word-3
-    word-requires-4
-    job-ok-requires
-    returns)
+job-at-ok-spec = tie.close (tie.spec four-words-requires job-ok-requires returns)

@@ -2,45 +2,14 @@ use borrow.Author.Needs.{needs}
 use Rattle.words.proofs.limits_at_ok.Statement.{statement}
 use Rattle.words.proofs.limits_at_ok.Tie as tie
 
-mul-p : tie.Need-mul-p
-mul-p c = search needs
-
-add-p : tie.Need-add-p
-add-p c = search needs
-
-word-requires : tie.Need-word-requires
-word-requires c κs = search needs
-
-add-word : tie.Need-add-word
-add-word c = search needs
-
-word-requires-2 : tie.Need-word-requires-2
-word-requires-2 c κs = search needs
-
-add-word-2 : tie.Need-add-word-2
-add-word-2 c = search needs
-
-word-requires-3 : tie.Need-word-requires-3
-word-requires-3 c κs = search needs
+three-words-requires : tie.Need-three-words-requires
+three-words-requires c κs = search needs
 
 limits-ok-requires : tie.Need-limits-ok-requires
 limits-ok-requires c κs = search needs
 
 returns : tie.Need-returns
-returns c =
-    let w = c .before in
-    rw (c .limits-ok .ensures, w .word3 .ensures .is, w .before .word2 .ensures .is, w .before .before .word .ensures .is)
+returns c = rw (c .limits-ok .ensures, c .before .three-words .ensures)
 
 pub limits-at-ok-spec : {M : Type 1} → statement M
-limits-at-ok-spec =
-    tie.close
-    (tie.spec
-    mul-p
-    add-p
-    word-requires
-    add-word
-    word-requires-2
-    add-word-2
-    word-requires-3
-    limits-ok-requires
-    returns)
+limits-at-ok-spec = tie.close (tie.spec three-words-requires limits-ok-requires returns)

@@ -2,54 +2,14 @@ use borrow.Author.Needs.{needs}
 use Rattle.words.proofs.node_at_ok.Statement.{statement}
 use Rattle.words.proofs.node_at_ok.Tie as tie
 
-mul-p : tie.Need-mul-p
-mul-p c = search needs
-
-add-p : tie.Need-add-p
-add-p c = search needs
-
-word-requires : tie.Need-word-requires
-word-requires c κs = search needs
-
-add-word : tie.Need-add-word
-add-word c = search needs
-
-word-requires-2 : tie.Need-word-requires-2
-word-requires-2 c κs = search needs
-
-add-word-2 : tie.Need-add-word-2
-add-word-2 c = search needs
-
-word-requires-3 : tie.Need-word-requires-3
-word-requires-3 c κs = search needs
-
-add-word-3 : tie.Need-add-word-3
-add-word-3 c = search needs
-
-word-requires-4 : tie.Need-word-requires-4
-word-requires-4 c κs = search needs
+four-words-requires : tie.Need-four-words-requires
+four-words-requires c κs = search needs
 
 node-ok-requires : tie.Need-node-ok-requires
 node-ok-requires c κs = search needs
 
 returns : tie.Need-returns
-returns c =
-    let w = c .before in
-    let v = w .before in
-    rw (c .node-ok .ensures, w .word4 .ensures .is, v .word3 .ensures .is, v .before .word2 .ensures .is, v .before .before .word .ensures .is)
+returns c = rw (c .node-ok .ensures, c .before .four-words .ensures)
 
 pub node-at-ok-spec : {M : Type 1} → statement M
-node-at-ok-spec =
-    tie.close
-    (tie.spec
-    mul-p
-    add-p
-    word-requires
-    add-word
-    word-requires-2
-    add-word-2
-    word-requires-3
-    add-word-3
-    word-requires-4
-    node-ok-requires
-    returns)
+node-at-ok-spec = tie.close (tie.spec four-words-requires node-ok-requires returns)

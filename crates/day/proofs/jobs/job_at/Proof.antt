@@ -1,73 +1,42 @@
-use Rattle.day.specs.Tell.{jobAt}
+use mathlib.Core.Path.{_≡_, ap}
+use mathlib.Core.List.{List}
+use Prim.Native.Nat.{ℕ}
 use borrow.Author.Tests.{eq-eqb, ne-eqb}
+use Rattle.words.specs.Word.{size, fourAt}
+use Rattle.words.specs.declared.Four.{Four}
+use Rattle.day.specs.Tell.{jobOf, jobAt}
 use borrow.Author.Needs.{needs}
 use Rattle.day.proofs.jobs.job_at.Statement.{statement}
 use Rattle.day.proofs.jobs.job_at.Tie as tie
 
-mul-p : tie.Need-mul-p
-mul-p c = search needs
+-- a job by its four words
+by-words : (s : List ℕ) (from i : ℕ) {w : Four} → w ≡ fourAt s from size.job i → jobOf (w .first) (w .second) (w .third) (w .fourth) ≡ jobAt s from i
+unfolding jobAt
+by-words s from i e = ap (λ (w : Four). jobOf (w .first) (w .second) (w .third) (w .fourth)) e
 
-add-p : tie.Need-add-p
-add-p c = search needs
-
-word-requires : tie.Need-word-requires
-word-requires c κs = search needs
-
-add-word : tie.Need-add-word
-add-word c = search needs
-
-word-requires-2 : tie.Need-word-requires-2
-word-requires-2 c κs = search needs
+four-words-requires : tie.Need-four-words-requires
+four-words-requires c κs = search needs
 
 cast-a : tie.Need-cast-a
 cast-a c = search needs
 
-add-word-2 : tie.Need-add-word-2
-add-word-2 c = search needs
-
-word-requires-3 : tie.Need-word-requires-3
-word-requires-3 c κs = search needs
-
 cast-b : tie.Need-cast-b
 cast-b c = search needs
-
-add-word-3 : tie.Need-add-word-3
-add-word-3 c = search needs
-
-word-requires-4 : tie.Need-word-requires-4
-word-requires-4 c κs = search needs
 
 cast-load : tie.Need-cast-load
 cast-load c = search needs
 
 returns : tie.Need-returns
-unfolding jobAt
-returns c = simp (← c .before .before .before .before .word .ensures .is, ← c .before .before .before .word2 .ensures .is, ← c .before .before .word3 .ensures .is, ← c .before .word4 .ensures .is, eq-eqb _ _ (c .if1 .taken))
+returns c = rw (eq-eqb _ _ (c .if1 .taken)) at (by-words _ _ _ (c .before .before .before .before .four-words .ensures))
 
 returns-2 : tie.Need-returns-2
-unfolding jobAt
-returns-2 c = simp (← c .before .before .before .before .before .word .ensures .is, ← c .before .before .before .before .word2 .ensures .is, ← c .before .before .before .word3 .ensures .is, ← c .before .before .word4 .ensures .is, ne-eqb _ _ (c .before .if1 .left), eq-eqb _ _ (c .if2 .taken))
+returns-2 c =
+    rw (ne-eqb _ _ (c .before .if1 .left), eq-eqb _ _ (c .if2 .taken)) at (by-words _ _ _ (c .before .before .before .before .before .four-words .ensures))
 
 returns-3 : tie.Need-returns-3
-unfolding jobAt
-returns-3 c = simp (← c .before .before .before .before .before .word .ensures .is, ← c .before .before .before .before .word2 .ensures .is, ← c .before .before .before .word3 .ensures .is, ← c .before .before .word4 .ensures .is, ne-eqb _ _ (c .before .if1 .left), ne-eqb _ _ (c .if2 .left))
+returns-3 c =
+    rw (ne-eqb _ _ (c .before .if1 .left), ne-eqb _ _ (c .if2 .left)) at (by-words _ _ _ (c .before .before .before .before .before .four-words .ensures))
 
 pub job-at-spec : {M : Type 1} → statement M
 job-at-spec =
-    tie.close
-    (tie.spec
-    mul-p
-    add-p
-    word-requires
-    add-word
-    word-requires-2
-    cast-a
-    add-word-2
-    word-requires-3
-    cast-b
-    add-word-3
-    word-requires-4
-    cast-load
-    returns
-    returns-2
-    returns-3)
+    tie.close (tie.spec four-words-requires cast-a cast-b cast-load returns returns-2 returns-3)
