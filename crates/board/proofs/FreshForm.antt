@@ -7,7 +7,7 @@ use native.Mathlib.Omega.{arith}
 use lib.ListN.{replicate, set, getD, length-set, getD-replicate}
 use lib.Seq.{getD-set-same, getD-set-other}
 use lib.Dec.{ltb, eqb}
-use borrow.Author.Tests.{lt-leb, le-leb, ltb-false, eqb-true, eqb-false}
+use borrow.Author.Tests.{ltb-false, eqb-true, eqb-false}
 use Rattle.laws.proofs.Logic.{decided, by-test}
 use Rattle.laws.proofs.Table.{length-tab, getD-tab}
 use Rattle.laws.proofs.Turned.{tab-same, Turned, turned-none, turned-more, turned-skip, turned-all}
@@ -16,29 +16,21 @@ use Rattle.bits.proofs.Members.{has-none, has-first, within-make, within-none}
 use Rattle.rules.specs.Day.{isInner}
 use Rattle.rules.proofs.Inner.{is-inner, inner-is, inner-not}
 use Rattle.board.specs.Board.{stateOf, Board, board, onRoute, legsOf, setOf}
-use Rattle.board.specs.Fresh.{noState, freshSets, freshState, freshSet}
+use Rattle.board.specs.Fresh.{freshSets, freshState, freshSet}
 use Rattle.board.specs.Form.{setOk, onlyInner, markOk, mustOk, inForm}
 use Rattle.board.proofs.FormLaws.{off-make, leg-make, in-form-of}
 use Rattle.board.specs.Held.{Held, Routed, FormedBoard, Wide, InForm}
 use Rattle.board.specs.declared.State.{State}
-
-pub fresh-small : (n : ℕ) (may : ℕ → Bool) → n < 2 → freshState n may ≡ noState
-unfolding freshState
-fresh-small n may h = rw (lt-leb 2 n h)
-
-pub fresh-large : (n : ℕ) (may : ℕ → Bool) → 64 < n → freshState n may ≡ noState
-unfolding freshState
-fresh-large n may h = rw (lt-leb n 64 h, le-leb 2 n (omega arith))
-
-pub fresh-is : (n : ℕ) (may : ℕ → Bool) → 2 ≤ n → n ≤ 64 → freshState n may ≡ stateOf (set (replicate 64 0) 1 (n - 1)) 2 (freshSets n may) 0 0 (replicate 64 0) 0 0
-unfolding freshState
-fresh-is n may h k = rw (le-leb n 64 k, le-leb 2 n h)
 
 abbrev pub freshBoard : ℕ → (ℕ → Bool) → Board
 freshBoard n may = board (set (replicate 64 0) 1 (n - 1)) 2 (freshSets n may) 0 0
 
 abbrev pub freshMade : ℕ → (ℕ → Bool) → State
 freshMade n may = stateOf (set (replicate 64 0) 1 (n - 1)) 2 (freshSets n may) 0 0 (replicate 64 0) 0 0
+
+pub fresh-is : (n : ℕ) (may : ℕ → Bool) → freshState n may ≡ freshMade n may
+unfolding freshState
+fresh-is n may = refl
 
 module _ (n : ℕ) (may : ℕ → Bool) (two : 2 ≤ n) (small : n ≤ 64) where
   one : getD (set (replicate 64 0) 1 (n - 1)) 1 0 ≡ n - 1
@@ -111,7 +103,7 @@ module _ (n : ℕ) (may : ℕ → Bool) (two : 2 ≤ n) (small : n ≤ 64) where
 
 -- the fresh state is in form
 pub fresh-in-form : (n : ℕ) (may : ℕ → Bool) → 2 ≤ n → n ≤ 64 → inForm n (freshState n may) ≡ true
-fresh-in-form n may two small = rw (fresh-is n may two small) (in-form-of n (freshMade n may) small (fresh-wide n may two small) (fresh-inform n may two small))
+fresh-in-form n may two small = rw (fresh-is n may) (in-form-of n (freshMade n may) small (fresh-wide n may two small) (fresh-inform n may two small))
 
 -- ---- code that fills in the wards' sets, one after another, where all sets are empty
 

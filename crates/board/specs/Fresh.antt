@@ -3,7 +3,6 @@ use mathlib.Core.Bool.{Bool, cond, _&&_}
 use mathlib.Core.List.{List}
 use Prim.Native.Nat.{ℕ, _-_}
 use lib.ListN.{replicate, set}
-use lib.Dec.{leb}
 use Rattle.laws.specs.Basic.{tab}
 use Rattle.rules.specs.Day.{isInner}
 use Rattle.board.specs.Board.{stateOf}
@@ -26,6 +25,6 @@ freshSet n may y = cond (isInner n y && may y) 1 0
 unfoldable pub freshSets : ℕ → (ℕ → Bool) → List ℕ
 freshSets n may = tab 64 (freshSet n may)
 
--- route 0, n - 1; every other node that the van may serve open in leg 0; no marks, levels or records. None where n is no number of nodes
+-- route 0, n - 1; every other node that the van may serve open in leg 0; no marks, levels or records
 unfoldable pub freshState : ℕ → (ℕ → Bool) → State
-freshState n may = cond (leb 2 n && leb n 64) (stateOf (set (replicate 64 0) 1 (n - 1)) 2 (freshSets n may) 0 0 (replicate 64 0) 0 0) noState
+freshState n may = stateOf (set (replicate 64 0) 1 (n - 1)) 2 (freshSets n may) 0 0 (replicate 64 0) 0 0

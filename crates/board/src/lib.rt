@@ -55,17 +55,11 @@ impl State {
         }
     }
 
-    // Route 0, n - 1; every other node whose class set has the van's bit is open in leg 0. None where n is no number of nodes.
+    // Route 0, n - 1; every other node whose class set has the van's bit is open in leg 0.
     pub fn fresh(n: usize, classes: &[u32; Node::MOST], bit: u32) -> State
-        requires { ⌜ length (now classes) ≡ 64 ⌝ }
+        requires { ⌜ (2 ≤ n) × (n ≤ 64) × (length (now classes) ≡ 64) ⌝ }
         ensures { λ r. ⌜ r ≡ freshState n (λ y. admits (getD (now (classes .entry)) y 0) bit) ⌝ }
     {
-        if n < 2 {
-            return State::none();
-        }
-        if Node::MOST < n {
-            return State::none();
-        }
         let mut route = [0usize; Node::MOST];
         route[1] = n - 1;
         let sets = fresh_sets(n, classes, bit);

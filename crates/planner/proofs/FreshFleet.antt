@@ -54,7 +54,7 @@ module _ (sheet : List ℕ) (z : callRefusal sheet ≡ 0) where
   fresh-state j l = state-of states j (omega (arith, l, fine .vans-high)) ∙ rw (lt-ltb j (vansOf sheet) l)
 
   pub fresh-van : (j : ℕ) → j < vansOf sheet → stateIn (freshOf sheet) j ≡ freshMade (nOf sheet) (admitted sheet j)
-  fresh-van j l = fresh-state j l ∙ fresh-is (nOf sheet) (admitted sheet j) (fine .n-low) (fine .n-high)
+  fresh-van j l = fresh-state j l ∙ fresh-is (nOf sheet) (admitted sheet j)
 
   fresh-spare : (j : ℕ) → vansOf sheet ≤ j → j < mostVans → stateIn (freshOf sheet) j ≡ noState
   unfolding freshFleet

@@ -269,7 +269,7 @@ module _ (n : ℕ) (may : ℕ → Bool) (two : 2 ≤ n) (small : n ≤ 64) (t : 
   fresh-sound = record { small = small; wide = fresh-wide n may two small; form = fresh-formed n may two small }
 
   start : Since n (freshBoard n may) 0 0 [] t (freshState n may) t
-  start = rw (fresh-is n may two small) (record {
+  start = rw (fresh-is n may) (record {
     small = small;
     held = fresh-held n may two small;
     form = fresh-inform n may two small;
