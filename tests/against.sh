@@ -21,7 +21,7 @@ note() {
 note $?
 "$bin/second" compare --kind listing --seed "$seed" --cases "${5:-1280}" -- $round
 note $?
-for name in paper ward full morning cages; do
+for name in paper ward full morning cages theatre; do
     "$bin/sheet_text" bytes < "$here/../samples/$name.txt" | $round | cmp - "$here/../samples/$name.listing"
     got=$?
     [ "$got" -eq 0 ] || echo "sample $name: not the stored listing"

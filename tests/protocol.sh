@@ -37,7 +37,7 @@ if ! ${CC:-cc} -O2 -o "$work/plain" "$bench/plain.c"; then
     echo '0 passed, 1 failed'
     exit 1
 fi
-for name in ward paper full morning; do
+for name in ward paper full morning theatre; do
     "$here/second/target/release/sheet_text" bytes < "$here/../samples/$name.txt" > "$work/$name"
     for operation in 0 1 2 3 4 5 6 7 8 9 10; do
         try "operation $operation on $name" "$operation" 3 "$work/$name"

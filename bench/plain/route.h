@@ -4,7 +4,7 @@
 typedef struct {
     u64 on;                  /* nodes on the route; always true, the rest only once looked at */
     u8 along, back;          /* looked along, looked back */
-    u8 sound;                /* keeps windows, metres, loads and the order of transfers */
+    u8 sound;                /* keeps windows, metres, loads, the order of transfers, and the profile */
     u8 tested;               /* every open place is known to keep what hangs on the route alone */
     u32 legs;                /* leg i leaves stop i */
     u8 at[MOST_NODES];       /* node at each stop */
@@ -19,6 +19,8 @@ typedef struct {
     i32 spare[MOST_NODES];   /* metres there may be from here to the next by way of another */
     i32 metres, most;        /* of the whole route; the greatest H */
     u64 called;              /* partners of the nodes on the route */
+    u32 clean_to;            /* under the profile: the last stop with a clean job, 0 if there is none */
+    u32 soiled_from;         /* likewise: the first stop with a soiled job, the end if there is none */
 } Route;
 
 static void changed(Route *r, u64 on)
@@ -84,13 +86,26 @@ static int starts(const Sheet *s, Route *r)
     return !late;
 }
 
+/* Clean before soiled: is no soiled stop before another one that is clean? The start and the end have
+   no jobs, so they can stand for none. */
+static int clean_first(const Sheet *s, Route *r)
+{
+    u32 clean = r->legs, soiled = 0;
+    while (clean > 0 && !(s->clean >> r->at[clean] & 1)) clean--;
+    while (soiled < r->legs && !(s->soiled >> r->at[soiled] & 1)) soiled++;
+    r->clean_to = clean;
+    r->soiled_from = soiled;
+    return clean <= soiled;
+}
+
 /* What the verdict asks. */
 static void look_along(const Sheet *s, u32 van, const State *state, Route *r)
 {
     if (r->along) return;
     int ordered = loads(s, r, find_stops(s, state, r));
     int timely = starts(s, r);
-    r->sound = ordered && timely && r->metres <= s->limit[van] && r->most <= s->capacity[van];
+    int tidy = !s->profile || clean_first(s, r);
+    r->sound = ordered && timely && tidy && r->metres <= s->limit[van] && r->most <= s->capacity[van];
     r->along = 1;
 }
 

@@ -40,11 +40,20 @@ static __attribute__((noinline)) u64 kept_alone(const Sheet *s, const Route *r, 
     return kept;
 }
 
+/* Under the profile: legs before the first soiled stop for a clean node, from the last clean one on for
+   a soiled node. */
+static u64 kept_tidy(const Sheet *s, const Route *r, u32 x, u64 kept)
+{
+    if (s->clean >> x & 1) kept &= r->before[r->soiled_from];
+    if (s->soiled >> x & 1) kept &= ~r->before[r->clean_to];
+    return kept;
+}
+
 /* All that hangs on the route alone. */
 static u64 kept_by_route(const Sheet *s, u32 van, const Route *r, u32 x, u64 set)
 {
     i32 capacity = s->capacity[van];
-    u64 kept = kept_alone(s, r, x, set);
+    u64 kept = kept_alone(s, r, x, s->profile ? kept_tidy(s, r, x, set) : set);
     if (s->load[CLEAN][x]) kept &= legs_on(r, 0, capacity - s->load[CLEAN][x]);
     if (s->load[SOILED][x]) kept &= legs_back(r, r->legs, capacity - s->load[SOILED][x]);
     if (r->called >> x & 1) {

@@ -4,6 +4,7 @@ enum { CLEAN = 1, SOILED = 2, TRANSFER = 3 };
 
 typedef struct {
     u32 n, vans;
+    u32 profile;                        /* 1: clean before soiled */
     i32 capacity[MOST_VANS], limit[MOST_VANS];
     u32 class[MOST_VANS];               /* one bit */
     u32 classes;                        /* of all vans */
@@ -16,6 +17,7 @@ typedef struct {
     u8 partner[MOST_NODES];             /* 0: none */
     u64 pickups;                        /* nodes that are the first of a transfer */
     u64 transfers;                      /* nodes that have a transfer end */
+    u64 clean, soiled;                  /* nodes that have such a job */
     const u8 *nodes, *jobs, *seconds, *metres, *steps;
     u32 job_count, step_count;
 } Sheet;
@@ -43,14 +45,15 @@ static u64 entries(Reader *r, u32 low, u32 high, u64 width, const u8 **begin, u3
     return 0;
 }
 
-/* Three words a van. A class that has no bit in common with the number before it is one bit. */
+/* Three words a van, and one for the profile. A class that has no bit in common with the number before
+   it is one bit. */
 static u64 read_limits(Reader *r, Sheet *s)
 {
     const u8 *e;
     u32 count, bad = 0;
-    /* a count that 3 does not divide is out of range, and that comes before shortness */
-    if (r->words && word(r->bytes) % 3) return 2;
-    u64 no = entries(r, 3, 3 * MOST_VANS, 1, &e, &count);
+    /* a count that no number of vans makes is out of range, and that comes before shortness */
+    if (r->words && word(r->bytes) % 3 != 1) return 2;
+    u64 no = entries(r, 4, 3 * MOST_VANS + 1, 1, &e, &count);
     if (no) return no;
     s->vans = count / 3;
     s->largest = 0;
@@ -64,7 +67,8 @@ static u64 read_limits(Reader *r, Sheet *s)
         s->class[v] = class;
         s->classes |= class;
     }
-    return bad ? 3 : 0;
+    s->profile = word(e);
+    return bad | (s->profile > 1) ? 3 : 0;
 }
 
 static u64 read_nodes(Reader *r, Sheet *s)
@@ -123,6 +127,8 @@ static u64 read_jobs(Reader *r, Sheet *s, int *twice)
         if (no) return no;
     }
     s->transfers = has[TRANSFER];
+    s->clean = has[CLEAN];
+    s->soiled = has[SOILED];
     return 0;
 }
 

@@ -1,6 +1,6 @@
 -- How the stops of nodes are found, and how they tell which jobs are aboard on a leg.
 use mathlib.Core.Path.{_≡_, refl, sym, ap, _∙_, subst}
-use mathlib.Core.Bool.{Bool, true, false, cond, _&&_, _||_}
+use mathlib.Core.Bool.{Bool, true, false, cond, _&&_}
 use mathlib.Core.List.{List, [], _∷_}
 use mathlib.Core.Logic.{⊎-elim, _⊎_, inl, inr}
 use Prim.Native.Nat.{ℕ, zero, suc, _+_, _-_, _<_, _≤_}
@@ -12,8 +12,6 @@ use lib.Seq.{ext-getD, getD-set-same, getD-set-other, getD-take}
 use borrow.Author.Tests.{eqb-true, eqb-false, eq-eqb, ltb-true, ltb-false}
 use Rattle.laws.proofs.Logic.{decided, T-ext, and-i, and-l, and-r, or-l, or-r, or-e, true→T}
 use Rattle.laws.specs.Basic.{mem}
-use Rattle.bits.specs.Places.{has, with}
-use Rattle.bits.proofs.Members.{with-same, with-other}
 use Rattle.rules.specs.Rounds.{Distinct, none, more}
 use Rattle.rules.specs.Along.{behind}
 use Rattle.rules.specs.Load.{aboard}
@@ -139,11 +137,7 @@ behind-on l n h x =
     size : length (take n l) ≡ n
     size = simp length-take (omega arith)
 
--- ---- a set with one node more
-
-pub put-has : (w p x : ℕ) → p < 64 → has (with w p) x ≡ (eqb p x || has w x)
-put-has w p x h =
-    decided (eqb p x) (λ e. rw (e, ← eqb-true p x e) (with-same w p h)) (λ e. rw e (with-other w p x (λ z. eqb-false p x e (sym z))))
+-- ---- which jobs are aboard
 
 -- the i-th leg leads on to the stop k of a route
 abbrev leadsTo : ℕ → ℕ → Bool

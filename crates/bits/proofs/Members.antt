@@ -112,6 +112,10 @@ with-other w p i n =
     (λ h. ap (λ (x : ℕ). has x i) (with-no w p (ltb-true p 64 l) h) ∙ has-same (w + 2 ^ p) w i i (add-other p i w (digit-not w p h) n)))
     (λ l. ap (λ (x : ℕ). has x i) (with-far w p (ltb-false p 64 l)))
 
+pub has-with : (w p x : ℕ) → p < 64 → has (with w p) x ≡ (eqb p x || has w x)
+has-with w p x h =
+    decided (eqb p x) (λ e. rw (e, ← eqb-true p x e) (with-same w p h)) (λ e. rw e (with-other w p x (λ z. eqb-false p x e (sym z))))
+
 pub without-same : (w p : ℕ) → has (without w p) p ≡ false
 without-same w p =
     decided (has w p) (λ h. rw (without-yes w p h) (not-digit _ p (sub-same p w (digit-has w p h))))

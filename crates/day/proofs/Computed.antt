@@ -13,7 +13,7 @@ use Rattle.day.specs.Refuse.{callRefusal, openRefusal, clash, apart, can
 use Rattle.day.specs.Section.{spanOf, sectionOf}
 use Rattle.day.specs.Tell.{vanOf, bitOf, classOf, admitted, dayOf, jobAt, jobIn}
 use Rattle.tables.specs.Cell.{cell}
-use Rattle.day.specs.Example.{_▸_, nodesWith, paperJobs, tableWith, stepsWith, sheetOf, sheetWith}
+use Rattle.day.specs.Example.{_▸_, nodesWith, paperJobs, tableWith, stepsWith, sheetOf, sheetWith, profileSheet}
 
 abbrev paper : List ℕ
 paper = sheetWith 2 60 25 100
@@ -28,13 +28,13 @@ altered capacity back steps = sheetOf capacity 60 25 100 (paperJobs (tableWith b
 
 -- the paper's sheet with two vans, of these capacities
 abbrev twoVans : ℕ → ℕ → List ℕ
-twoVans first second = 6 ▸ first ▸ 60 ▸ 1 ▸ second ▸ 50 ▸ 1 ▸ nodesWith 25 100 (paperJobs (tableWith 30 (tableWith 30 (stepsWith 8))))
+twoVans first second = 7 ▸ first ▸ 60 ▸ 1 ▸ second ▸ 50 ▸ 1 ▸ 0 ▸ nodesWith 25 100 (paperJobs (tableWith 30 (tableWith 30 (stepsWith 8))))
 
 -- the paper's sheet with two vans of these bits, and these class sets at the start, the first ward and the end; the capacity of both, and the seconds from
 -- node 3 to node 0
 abbrev classed : ℕ → ℕ → ℕ → ℕ → ℕ → ℕ → ℕ → List ℕ
 classed bit0 bit1 start ward end capacity back =
-    6 ▸ capacity ▸ 60 ▸ bit0 ▸ capacity ▸ 50 ▸ bit1
+    7 ▸ capacity ▸ 60 ▸ bit0 ▸ capacity ▸ 50 ▸ bit1 ▸ 0
     ▸ 4 ▸ 0 ▸ 0 ▸ 0 ▸ start ▸ 0 ▸ 100 ▸ 5 ▸ ward ▸ 0 ▸ 25 ▸ 5 ▸ 1 ▸ 0 ▸ 100 ▸ 0 ▸ end
     ▸ paperJobs (tableWith back (tableWith 30 (stepsWith 8)))
 
@@ -51,14 +51,15 @@ record Computed : Type 0 where
   pub empty : openRefusal [] ≡ 1
   pub odd : openRefusal (2 ▸ 0 ∷ []) ≡ 1
   pub count-first : openRefusal (2 ▸ []) ≡ 2
-  pub short-next : openRefusal (3 ▸ 9999 ▸ 0 ▸ []) ≡ 1
-  pub then-values : openRefusal (3 ▸ 9999 ▸ 0 ▸ 1 ▸ []) ≡ 3
+  pub short-next : openRefusal (4 ▸ 9999 ▸ 0 ▸ 1 ▸ []) ≡ 1
+  pub then-values : openRefusal (4 ▸ 9999 ▸ 0 ▸ 1 ▸ 0 ▸ []) ≡ 3
   pub both : openRefusal (cleanAgain 2 1 31) ≡ 4
-  -- three words a van, 3 to 24; 01's own count is 2
-  pub no-van : openRefusal (0 ▸ []) ≡ 2
+  -- three words a van and one more, 4 to 25; 01's own count is 2
+  pub no-van : openRefusal (1 ▸ 0 ▸ []) ≡ 2
+  pub no-profile : openRefusal (3 ▸ []) ≡ 2
   pub half-a-van : openRefusal (5 ▸ []) ≡ 2
-  pub eight-vans : openRefusal (24 ▸ []) ≡ 1
-  pub nine-vans : openRefusal (27 ▸ []) ≡ 2
+  pub eight-vans : openRefusal (25 ▸ []) ≡ 1
+  pub nine-vans : openRefusal (28 ▸ []) ≡ 2
   pub two-vans : openRefusal (twoVans 2 1) ≡ 0
   pub large-second : openRefusal (twoVans 2 1001) ≡ 3
   -- load 2 above capacity 1: after 4, before 5, and the largest capacity counts, wherever it stands; just 2 is not above
@@ -84,17 +85,24 @@ record Computed : Type 0 where
   pub shut-heavy : openRefusal (classed 1 2 1 1 1 1 30) ≡ 6
   pub shut-roundabout : openRefusal (classed 1 2 1 1 1 2 31) ≡ 7
   pub shut-call : callRefusal (classed 1 2 1 1 1 2 30) ≡ 7
+  -- "1 for the profile, else 0", and "another number there is 3", which comes before 6
+  pub profile-on : openRefusal (profileSheet 2 1 paperJobs) ≡ 0
+  pub profile-two : openRefusal (profileSheet 2 2 paperJobs) ≡ 3
+  pub profile-byte : openRefusal (profileSheet 2 256 paperJobs) ≡ 3
+  pub profile-heavy : openRefusal (profileSheet 1 2 paperJobs) ≡ 3
   -- what the sheet says
   pub van : vanOf paper 0 ≡ record { capacity = 2; limit = 60 }
   pub second-van : vanOf (twoVans 2 1) 1 ≡ record { capacity = 1; limit = 50 }
   pub job : jobIn paper 0 ≡ Transfer 1 2 2
   pub latest : dayOf paper .latest 2 ≡ 25
   pub seconds : dayOf paper .seconds 3 1 ≡ 20
+  pub has-profile : dayOf (profileSheet 2 1 paperJobs) .profile ≡ true
+  pub has-none : dayOf paper .profile ≡ false
   pub bit : bitOf (classed 1 2 3 4 3 2 30) 1 ≡ 2
   pub class : classOf (classed 1 2 3 4 3 2 30) 1 ≡ 4
   pub admitted-first : admitted (classed 1 2 3 6 3 2 30) 0 1 ≡ false
   pub admitted-second : admitted (classed 1 2 3 6 3 2 30) 1 1 ≡ true
-  pub section1 : sectionOf (twoVans 2 1) 1 ≡ 2 ▸ 60 ▸ 1 ▸ 1 ▸ 50 ▸ 1 ▸ []
+  pub section1 : sectionOf (twoVans 2 1) 1 ≡ 2 ▸ 60 ▸ 1 ▸ 1 ▸ 50 ▸ 1 ▸ 0 ▸ []
   pub section2 : sectionOf paper 2 ≡ 0 ▸ 0 ▸ 0 ▸ 1 ▸ 0 ▸ 100 ▸ 5 ▸ 1 ▸ 0 ▸ 25 ▸ 5 ▸ 1 ▸ 0 ▸ 100 ▸ 0 ▸ 1 ▸ []
   pub section3 : sectionOf paper 3 ≡ 3 ▸ 1 ▸ 2 ▸ 2 ▸ []
   pub section7 : sectionOf paper 7 ≡ []
@@ -121,6 +129,7 @@ computed = record {
   then-values = refl;
   both = refl;
   no-van = refl;
+  no-profile = refl;
   half-a-van = refl;
   eight-vans = refl;
   nine-vans = refl;
@@ -146,11 +155,17 @@ computed = record {
   shut-heavy = refl;
   shut-roundabout = refl;
   shut-call = refl;
+  profile-on = refl;
+  profile-two = refl;
+  profile-byte = refl;
+  profile-heavy = refl;
   van = refl;
   second-van = refl;
   job = refl;
   latest = refl;
   seconds = refl;
+  has-profile = refl;
+  has-none = refl;
   bit = refl;
   class = refl;
   admitted-first = refl;

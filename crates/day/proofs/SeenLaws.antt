@@ -1,19 +1,20 @@
 -- The one pass over the jobs finds two that clash exactly if the test for all pairs does.
-use Prim.Native.Nat.{ℕ, _+_, _<_, _≤_}
+use Prim.Native.Nat.{ℕ, _+_, _^_, _<_, _≤_}
 use mathlib.Core.Path.{_≡_, refl, sym, ap, ap₂, _∙_}
-use mathlib.Core.Bool.{Bool, true, false, not, _&&_, _||_, and-true}
+use mathlib.Core.Bool.{Bool, true, false, not, _&&_, _||_, and-true, and-false, or-true}
 use lib.Dec.{eqb}
-use borrow.Author.Tests.{eqb-true, eqb-false}
-use Rattle.laws.proofs.Logic.{decided}
-use Rattle.laws.proofs.Below.{below-none, below-both, flag-goes, flag-done}
-use Rattle.laws.specs.Basic.{allBelow}
+use Rattle.laws.proofs.Below.{below-none, below-both, flag-goes, flag-done, below-tab}
+use Rattle.laws.proofs.Lists.{none-any}
+use Rattle.laws.specs.Basic.{allBelow, any, tab}
 use Rattle.bits.specs.Places.{has, with}
-use Rattle.bits.proofs.Members.{has-none, with-same, with-other}
+use Rattle.bits.proofs.Members.{has-none, has-with, has-ext}
 use Rattle.rules.specs.declared.Job.{Job}
 use Rattle.rules.specs.declared.Job.the-variants.{Clean, Soiled, Transfer}
-use Rattle.day.specs.Refuse.{cleanAt, soiledAt, endAt, clash, apartAt, apart}
+use Rattle.rules.specs.Profile.{cleanAt, soiledAt}
+use Rattle.day.specs.Refuse.{endAt, clash, apartAt, apart}
 use Rattle.day.specs.declared.jobs.Seen.{Seen}
-use Rattle.day.specs.Seen.{seeing, Placed}
+use Rattle.day.specs.declared.jobs.Looked.{Looked}
+use Rattle.day.specs.Seen.{seeing, LookedOver, Placed}
 
 -- w has just the nodes at which f holds of one of the first i jobs
 abbrev pub Met : (ℕ → Job → Bool) → (ℕ → Job) → ℕ → ℕ → Type 0
@@ -40,19 +41,10 @@ not-or-is : (a b : Bool) {c : Bool} → not b ≡ c → not (a || b) ≡ (not a 
 not-or-is true b e = refl
 not-or-is false b e = e
 
-has-with : (w p x : ℕ) → p < 64 → has (with w p) x ≡ (has w x || eqb p x)
-has-with w p x l =
-    decided (eqb p x)
-    (λ e. let q = eqb-true p x e in rw (e, ← q) (with-same w p l ∙ sym (or-yes (has w p))))
-    (λ e. let n = eqb-false p x e in rw e (with-other w p x (λ z. n (sym z)) ∙ sym (or-no (has w x))))
-  where
-    or-yes : (b : Bool) → (b || true) ≡ true
-    or-yes true = refl
-    or-yes false = refl
-
-    or-no : (b : Bool) → (b || false) ≡ b
-    or-no true = refl
-    or-no false = refl
+-- the same, the other way round
+turned : (a b : Bool) → not (a || b) ≡ (not b && not a)
+turned true b = sym (and-false (not b))
+turned false b = sym (and-true (not b))
 
 more : (f : ℕ → Job → Bool) (g : ℕ → Job) (i w v : ℕ) → Met f g i w → ((x : ℕ) → x < 64 → not (has v x) ≡ (not (has w x) && not (f x (g i)))) → Met f g (i + 1) v
 more f g i w v m e x l = e x l ∙ ap (λ (b : Bool). b && not (f x (g i))) (m x l) ∙ sym (flag-goes i (λ j. not (f x (g j))) refl refl)
@@ -61,15 +53,16 @@ same : (f : ℕ → Job → Bool) (g : ℕ → Job) (i w : ℕ) → Met f g i w 
 same f g i w m e = more f g i w w m (λ x l. rw (e x) (sym (and-true (not (has w x)))))
 
 one : (f : ℕ → Job → Bool) (g : ℕ → Job) (i w a : ℕ) → a < 64 → Met f g i w → ((x : ℕ) → f x (g i) ≡ eqb a x) → Met f g (i + 1) (with w a)
-one f g i w a h m e = more f g i w (with w a) m (λ x l. rw (has-with w a x h, e x) (not-or (has w x) (eqb a x)))
+one f g i w a h m e = more f g i w (with w a) m (λ x l. rw (has-with w a x h, e x) (turned (eqb a x) (has w x)))
 
 two : (f : ℕ → Job → Bool) (g : ℕ → Job) (i w a b : ℕ) → a < 64 → b < 64 → Met f g i w → ((x : ℕ) → f x (g i) ≡ (eqb a x || eqb b x)) → Met f g (i + 1) (with (with w a) b)
 two f g i w a b h k m e =
     more f g i w (with (with w a) b) m (λ x l. rw (has-with (with w a) b x k, has-with w a x h, e x) (three (has w x) (eqb a x) (eqb b x)))
   where
-    three : (p q r : Bool) → not (p || q || r) ≡ (not p && not (q || r))
-    three true q r = refl
-    three false q r = refl
+    three : (p q r : Bool) → not (r || (q || p)) ≡ (not p && not (q || r))
+    three p q true = sym (ap (λ (b : Bool). not p && not b) (or-true q) ∙ and-false (not p))
+    three p true false = sym (and-false (not p))
+    three p false false = sym (and-true (not p))
 
 pub seen-next : (g : ℕ → Job) (i : ℕ) (s : Seen) (q : Job) → g i ≡ q → Placed q → SeenBelow g i s → SeenBelow g (i + 1) (seeing s q)
 seen-next g i s (Clean a w) e h m = record {
@@ -115,3 +108,25 @@ pass-goes g i {s} p {q} e h t = record {
 pub pass-done : (g : ℕ → Job) (m i : ℕ) {s : Seen} → i ≤ m → m ≤ i → Passed g i s → not (s .twice) ≡ apart g m
 unfolding apart
 pass-done g m i a b p = flag-done m i (apartAt g) a b (p .apart)
+
+-- a word of what was met has the nodes at which f holds of one of the jobs
+pub met-any : (f : ℕ → Job → Bool) (g : ℕ → Job) (m i w : ℕ) → i ≡ m → Met f g i w → (x : ℕ) → x < 64 → has w x ≡ any (f x) (tab m g)
+met-any f g m i w e met x l =
+    not-not (has w x) (any (f x) (tab m g))
+    (met x l ∙ ap (λ (k : ℕ). allBelow k (λ j. not (f x (g j)))) e ∙ below-tab (λ q. not (f x q)) m g ∙ none-any (f x) (tab m g))
+  where
+    not-not : (a b : Bool) → not a ≡ not b → a ≡ b
+    not-not true true q = refl
+    not-not true false q = sym q
+    not-not false true q = sym q
+    not-not false false q = refl
+
+-- what the pass finds is one: its words are below 2 ^ 64
+pub looked-once : {g : ℕ → Job} {m : ℕ} {r q : Looked} → LookedOver g m r → LookedOver g m q → r .clean < 2 ^ 64 → q .clean < 2 ^ 64 → r .soiled < 2 ^ 64
+    → q .soiled < 2 ^ 64 → r ≡ q
+looked-once {r = r} {q = q} a b k l m n = λ i. record {
+  apart = (a .apart ∙ sym (b .apart)) i;
+  heaviest = (a .heaviest ∙ sym (b .heaviest)) i;
+  clean = has-ext (r .clean) (q .clean) k l (λ x h. a .clean x h ∙ sym (b .clean x h)) i;
+  soiled = has-ext (r .soiled) (q .soiled) m n (λ x h. a .soiled x h ∙ sym (b .soiled x h)) i;
+}

@@ -7,18 +7,11 @@ use Rattle.laws.specs.Basic.{orElse, unless, allBelow}
 use Rattle.rules.specs.Numbers.{refusal}
 use Rattle.rules.specs.Day.{triangle}
 use Rattle.rules.specs.Load.{loadOf}
+use Rattle.rules.specs.Profile.{cleanAt, soiledAt}
 use Rattle.rules.specs.declared.Job.{Job}
 use Rattle.rules.specs.declared.Job.the-variants.{Clean, Soiled, Transfer}
 use Rattle.sheet.specs.Section.{readRefusal, vansOf, nOf, mOf}
 use Rattle.day.specs.Tell.{secondsOf, metresOf, jobIn, largestOf, admitted}
-
--- a clean job at x
-abbrev pub cleanAt : ℕ → Job → Bool
-cleanAt x = elim [ Clean a w ↦ eqb a x | Soiled a w ↦ false | Transfer a b w ↦ false ]
-
--- a soiled job at x
-abbrev pub soiledAt : ℕ → Job → Bool
-soiledAt x = elim [ Clean a w ↦ false | Soiled a w ↦ eqb a x | Transfer a b w ↦ false ]
 
 -- a transfer with an end at x
 abbrev pub endAt : ℕ → Job → Bool

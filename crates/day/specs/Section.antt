@@ -15,7 +15,7 @@ use Rattle.day.specs.declared.Span.{Span}
 -- the words of section k: where they begin, and how many they are; none for "a section number not in 1 to 6"
 unfoldable pub spanOf : List ℕ → ℕ → ℕ × ℕ
 spanOf s k =
-    cond (eqb k 1) (vansAt + 1, size.van * vansOf s)
+    cond (eqb k 1) (vansAt + 1, size.van * vansOf s + 1)
     (cond (eqb k 2) (nodesAt s + 1, size.node * nOf s)
     (cond (eqb k 3) (jobsAt s + 1, size.job * mOf s)
     (cond (eqb k 4) (secondsAt s + 1, nOf s * nOf s)

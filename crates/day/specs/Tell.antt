@@ -7,7 +7,7 @@ use lib.Dec.{leb, eqb}
 use Rattle.laws.specs.Basic.{peak, tab}
 use Rattle.words.specs.Word.{size, wordAt}
 use Rattle.tables.specs.Cell.{cell}
-use Rattle.sheet.specs.Section.{vansOf, nOf, mOf, vansAt, nodesAt, stepsAt, secondsAt, metresAt, jobsAt}
+use Rattle.sheet.specs.Section.{vansOf, nOf, mOf, vansAt, profileAt, nodesAt, stepsAt, secondsAt, metresAt, jobsAt}
 use Rattle.rules.specs.Numbers.{stepSaid}
 use Rattle.rules.specs.Day.{Day, isInner}
 use Rattle.rules.specs.Class.{admits}
@@ -85,7 +85,7 @@ classOf s x = wordAt s (nodeAt s x + 3)
 abbrev pub admitted : List ℕ → ℕ → ℕ → Bool
 admitted s i x = admits (classOf s x) (bitOf s i)
 
--- "nodes: each: earliest, latest, service"; the jobs; the tables
+-- "nodes: each: earliest, latest, service"; the jobs; the tables; and "1 for the profile, else 0"
 abbrev pub dayOf : List ℕ → Day
 dayOf s = record {
   n = nOf s;
@@ -95,6 +95,7 @@ dayOf s = record {
   seconds = secondsOf s;
   metres = metresOf s;
   jobs = tab (mOf s) (jobIn s);
+  profile = eqb (wordAt s (profileAt s)) 1;
 }
 
 -- word k of the i-th step: "each three words"

@@ -4,7 +4,7 @@ ghost use Prim.Native.Nat.{_+_, _*_, _<_, _≤_};
 ghost use Rattle.words.specs.Word.{size, words};
 ghost use Rattle.sheet.specs.Place.{Laid};
 ghost use Rattle.day.specs.Tell.{jobAt, jobIn};
-ghost use Rattle.day.specs.Seen.{Placed, seeing, lookedOver};
+ghost use Rattle.day.specs.Seen.{Placed, seeing, LookedOver};
 use rules::Job;
 use sheet::Layout;
 use words::Entry;
@@ -83,16 +83,19 @@ fn see(seen: Seen, job: Job) -> Seen
     }
 }
 
-// What all jobs together are held to: whether no node has two jobs of one kind, or two transfer ends, and the most that one job loads.
+// What all jobs together are held to: whether no node has two jobs of one kind, or two transfer ends, and the most that one job loads; and the nodes that
+// have a clean job, and a soiled one.
 pub struct Looked {
     pub apart: bool,
     pub heaviest: usize,
+    pub clean: u64,
+    pub soiled: u64,
 }
 
-// One look at each job finds both, with no exit inside: what is refused first is for the caller to say.
+// One look at each job finds them all, with no exit inside: what is refused first is for the caller to say.
 pub fn look_over(s: &[u8], l: Layout) -> Looked
     requires { ⌜ Laid (now s) l ⌝ }
-    ensures { λ r. ⌜ r ≡ lookedOver (jobIn (now (s .entry))) (l .jobs) ⌝ }
+    ensures { λ r. ⌜ LookedOver (jobIn (now (s .entry))) (l .jobs) r ⌝ }
 {
     let mut seen = Seen {
         clean: 0,
@@ -113,5 +116,7 @@ pub fn look_over(s: &[u8], l: Layout) -> Looked
     Looked {
         apart: !seen.twice,
         heaviest: heaviest,
+        clean: seen.clean,
+        soiled: seen.soiled,
     }
 }

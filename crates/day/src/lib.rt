@@ -63,7 +63,7 @@ fn span_of(l: Layout, number: usize) -> Span
     match number {
         1 => Span {
             from: l.van,
-            count: Entry::VAN * l.vans,
+            count: Entry::VAN * l.vans + 1,
         },
         2 => Span {
             from: l.node,

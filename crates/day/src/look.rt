@@ -23,6 +23,14 @@ pub fn van(s: &[u8], l: Layout, i: usize) -> Van
     }
 }
 
+// Whether the sheet has the profile: clean before soiled.
+pub fn profile(s: &[u8], l: Layout) -> bool
+    requires { ⌜ Laid (now s) l ⌝ }
+    ensures { λ r. ⌜ r ≡ dayOf (now (s .entry)) .profile ⌝ }
+{
+    word(s, l.van + Entry::VAN * l.vans) == 1
+}
+
 // The largest capacity of the sheet's vans.
 pub fn largest(s: &[u8], l: Layout) -> usize
     requires { ⌜ Laid (now s) l ⌝ }

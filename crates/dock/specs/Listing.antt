@@ -56,6 +56,6 @@ wholeOf sheet t = linesOf sheet t (kOf sheet) ++ routesOf (vansOf sheet) (comeTo
 unfoldable pub listingOf : List ℕ → List ℕ → List ℕ
 listingOf sheet t = cond (eqb (openRefusal sheet) 0) (wholeOf sheet t) (refusedLine (openRefusal sheet))
 
--- what the program prints with a trail of zeros: input above 60,392 bytes prints `refused 1`
+-- what the program prints with a trail of zeros: input above 60,396 bytes prints `refused 1`
 unfoldable pub printed : List ℕ → List ℕ
-printed input = cond (ltb 60392 (length input)) (refusedLine refusal.SHORT) (listingOf input (replicate 64480 0))
+printed input = cond (ltb 60396 (length input)) (refusedLine refusal.SHORT) (listingOf input (replicate 64480 0))

@@ -8,7 +8,7 @@ use native.Mathlib.Nat.{eq-or-lt-of-le, le-of-suc-le-suc, le-of-suc-le, le-step,
 use native.Mathlib.Numerals.{add-one}
 use native.Mathlib.Omega.{arith}
 use Rattle.laws.proofs.Logic.{true→T, decided}
-use Rattle.laws.specs.Basic.{allBelow}
+use Rattle.laws.specs.Basic.{all, allBelow, tab}
 
 pub below-none : (f : ℕ → Bool) → allBelow 0 f ≡ true
 unfolding allBelow
@@ -101,3 +101,15 @@ below-both (suc n) f g h e = rw (below-both n f g h e, e n) (cross (allBelow n f
     cross true true c d = refl
     cross true false c d = sym (and-false c)
     cross false b c d = refl
+
+-- ---- of the entries of a list, one after the other
+
+below-front : (n : ℕ) (f : ℕ → Bool) → allBelow (suc n) f ≡ (f 0 && allBelow n (λ k. f (suc k)))
+unfolding allBelow
+below-front zero f = sym (and-true (f 0))
+below-front (suc n) f = ap (λ (b : Bool). b && f (suc n)) (below-front n f) ∙ and-assoc (f 0) (allBelow n (λ k. f (suc k))) (f (suc n))
+
+pub below-tab : {A : Type 0} (f : A → Bool) (n : ℕ) (g : ℕ → A) → allBelow n (λ k. f (g k)) ≡ all f (tab n g)
+unfolding tab allBelow
+below-tab f zero g = refl
+below-tab f (suc n) g = below-front n (λ k. f (g k)) ∙ ap (λ (b : Bool). f (g 0) && b) (below-tab f n (λ k. g (suc k)))

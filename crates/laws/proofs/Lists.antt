@@ -1,7 +1,7 @@
 -- Lists: membership as a test and as a derivation, a test of all or any of the entries, subsequences.
-use mathlib.Core.Path.{_≡_, refl, subst, sym}
+use mathlib.Core.Path.{_≡_, refl, subst, sym, ap, _∙_}
 use Prim.Native.Nat.{ℕ}
-use mathlib.Core.Bool.{Bool, not, _&&_}
+use mathlib.Core.Bool.{Bool, true, false, not, _&&_, _||_}
 use mathlib.Core.List.{List, [], _∷_}
 use mathlib.Core.Logic.{⊎-elim}
 use lib.Dec.{T, T-not, eqb, eqb→eq, eqb-refl}
@@ -79,6 +79,15 @@ pub any-none : {A : Type 0} (f : A → Bool) (l : List A) → ((a : A) → T (f 
 any-none f [] g h = h
 any-none f (x ∷ l) g h = ⊎-elim (g x) (any-none f l g) (or-e (f x) (any f l) h)
 
+-- all of them fail f exactly if none passes it
+pub none-any : {A : Type 0} (f : A → Bool) (l : List A) → all (λ a. not (f a)) l ≡ not (any f l)
+none-any f [] = refl
+none-any f (a ∷ l) = ap (λ (b : Bool). not (f a) && b) (none-any f l) ∙ nots (f a) (any f l)
+  where
+    nots : (b c : Bool) → (not b && not c) ≡ not (b || c)
+    nots true c = refl
+    nots false c = refl
+
 -- ---- subsequences
 
 pub sub-refl : (l : List ℕ) → Sub l l
@@ -89,6 +98,11 @@ pub mem-sub : (x : ℕ) {l m : List ℕ} → Sub l m → T (mem x l) → T (mem 
 mem-sub x nil h = h
 mem-sub x (keep {x = y} {l = l} {m = m} s) h = or-mono (eqb y x) (mem x l) (eqb y x) (mem x m) (λ t. t) (mem-sub x s) h
 mem-sub x (skip {x = y} {m = m} s) h = or-r (eqb y x) (mem x m) (mem-sub x s h)
+
+pub any-sub : (f : ℕ → Bool) {l m : List ℕ} → Sub l m → T (any f l) → T (any f m)
+any-sub f nil h = h
+any-sub f (keep {x = y} {l = l} {m = m} s) h = or-mono (f y) (any f l) (f y) (any f m) (λ t. t) (any-sub f s) h
+any-sub f (skip {x = y} {m = m} s) h = or-r (f y) (any f m) (any-sub f s h)
 
 pub sub-trans : {l m n : List ℕ} → Sub l m → Sub m n → Sub l n
 sub-trans u nil = u

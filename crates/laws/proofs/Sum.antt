@@ -1,11 +1,14 @@
 -- A sum over the numbers below one, and the law of a loop that makes it.
-use mathlib.Core.Path.{_≡_, refl, ap₂, sym}
+use mathlib.Core.Path.{_≡_, refl, ap, ap₂, sym, _∙_}
+use mathlib.Core.Bool.{Bool, _&&_}
 use mathlib.Core.Logic.{⊎-elim}
 use Prim.Native.Nat.{ℕ, zero, suc, _+_, _-_, _*_, _≤_, _<_}
-use native.Mathlib.Nat.{eq-or-lt-of-le, le-of-suc-le-suc, suc-mul}
+use native.Mathlib.Nat.{zero-add, suc-ne-zero, eq-or-lt-of-le, le-of-suc-le-suc, suc-mul}
 use native.Mathlib.Numerals.{add-one}
 use native.Mathlib.Omega.{arith}
-use Rattle.laws.specs.Basic.{sumBelow}
+use lib.Dec.{eqb}
+use borrow.Author.Tests.{ne-eqb}
+use Rattle.laws.specs.Basic.{allBelow, sumBelow}
 
 pub sum-none : (f : ℕ → ℕ) → sumBelow 0 f ≡ 0
 unfolding sumBelow
@@ -50,3 +53,13 @@ sum-more (suc j) n f h = let e : suc j + n ≡ suc (j + n) = omega arith in rw e
 
 pub sum-end : (n k : ℕ) (f : ℕ → ℕ) → n ≤ k → ((i : ℕ) → n ≤ i → f i ≡ 0) → sumBelow n f ≡ sumBelow k f
 sum-end n k f l h = let e : (k - n) + n ≡ k = omega arith in sym (rw e at (sum-more (k - n) n f h))
+
+-- a sum is 0 exactly if all its parts are
+pub sum-zero : (n : ℕ) (f : ℕ → ℕ) → eqb (sumBelow n f) 0 ≡ allBelow n (λ k. eqb (f k) 0)
+unfolding sumBelow allBelow
+sum-zero zero f = refl
+sum-zero (suc n) f = both (sumBelow n f) (f n) ∙ ap (λ (b : Bool). b && eqb (f n) 0) (sum-zero n f)
+  where
+    both : (a b : ℕ) → eqb (a + b) 0 ≡ (eqb a 0 && eqb b 0)
+    both zero b = ap (λ (k : ℕ). eqb k 0) (zero-add b)
+    both (suc a) b = rw (ne-eqb (suc a) 0 (suc-ne-zero a)) (ne-eqb (suc a + b) 0 (λ e. absurd (omega arith)))

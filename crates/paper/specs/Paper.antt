@@ -1,5 +1,5 @@
 -- P1 to P12 of document 01, on the bytes of its sheet with one number altered; P2, P4 and P12 as 02, No. 3, has them, P9 on the sheet of 02, No. 5; then
--- 02, No. 7, on the same sheet.
+-- 02, No. 7 and 11, on the same sheet.
 -- P4 to P10, and that P11 is dead, are the planner's own answers: `stepOf`, `countOf` and `judgeOf`, which the contracts of `step`, `open_places`
 -- and `verdict` equate. The others ask for what no entry point answers, and rest on the rules' definitions by which those answers are stated:
 -- * P1, E(3): `startAt`. P2, L(2), P3, L(0), and P11's L(0): `lastAt`. They are the window test's own E and L, `start` and `lastStart`, at a stop of
@@ -9,13 +9,13 @@
 --   speak (`belongs-is`), every round that belongs is one of the day (`belongs-round`), and so the count is that of the rounds that belong and pass
 --   (`counts-rounds`), in rules/proofs/Counted.antt. They ask for a plan in form; a state in form stands for one (`state-formed` in van/proofs/Plans.antt).
 use mathlib.Core.Path.{_≡_}
-use Prim.Native.Nat.{ℕ}
+use Prim.Native.Nat.{ℕ, _+_, _^_}
 use mathlib.Core.Bool.{Bool, true, false, cond, _&&_}
 use mathlib.Core.List.{List, [], _∷_}
 use lib.ListN.{replicate}
 use lib.IntN.{pos, negsuc}
 use Rattle.day.specs.Tell.{dayOf, vanOf}
-use Rattle.day.specs.Example.{sheetWith, tightSheet, shutSheet}
+use Rattle.day.specs.Example.{sheetWith, tightSheet, shutSheet, mixedJobs, bothJobs, profileSheet}
 use Rattle.rules.specs.Numbers.{kinds}
 use Rattle.rules.specs.Along.{startAt, lastAt}
 use Rattle.rules.specs.Rounds.{keeps}
@@ -25,7 +25,7 @@ use Rattle.rules.specs.Plan.{Plan}
 use Rattle.rules.specs.Every.{everyRound, belongs, count}
 use Rattle.fleet.specs.Fleet.{boardIn}
 use Rattle.fleet.specs.declared.Fleet.{Fleet}
-use Rattle.board.specs.Board.{openAt}
+use Rattle.board.specs.Board.{setOf, openAt}
 use Rattle.turns.specs.Together.{actedAll}
 use Rattle.planner.specs.Face.{freshOf, stepOf, countOf, judgeOf}
 use Rattle.planner.specs.Promises.{planAt}
@@ -66,6 +66,22 @@ kept d v a = filter (λ R. belongs d a R && keeps v d R) (everyRound d)
     filter f [] = []
     filter f (R ∷ l) = cond (f R) (R ∷ filter f l) (filter f l)
 
+-- 02, No. 11: the sheet with clean at 1 and soiled at 2, with this number behind its van, and the one with both at 2
+abbrev mixed : ℕ → List ℕ
+mixed profile = profileSheet 2 profile mixedJobs
+
+abbrev both : List ℕ
+both = profileSheet 2 1 bothJobs
+
+-- route 0 2 1 3
+abbrev turned : List ℕ → Fleet
+turned sheet = stepOf sheet (placed 2 sheet) none kinds.PLACE 2 1 .0 .fleet
+
+-- the places in these legs, as a word
+abbrev legs : List ℕ → ℕ
+legs [] = 0
+legs (p ∷ l) = 2 ^ p + legs l
+
 -- the table, each case an equation that computes
 pub record Paper : Type 0 where
   -- route 0 2 3: E(3), L(2), L(0)
@@ -103,3 +119,15 @@ pub record Paper : Type 0 where
   pub shut-alive : alive shutSheet (freshOf shutSheet) ≡ true
   pub shut-require : stepOf shutSheet (freshOf shutSheet) none kinds.REQUIRE 1 0 .0 .answer ≡ 0
   pub shut-dead : alive shutSheet (stepOf shutSheet (freshOf shutSheet) none kinds.REQUIRE 1 0 .0 .fleet) ≡ false
+  -- with the profile, 1 placed: of the soiled node 2, place 0 is struck, since a clean stop lies after it, and place 1 stays; without it both stay
+  pub soiled-left : setOf (boardIn (after (mixed 1) (placed 1 (mixed 1))) 0) 2 ≡ legs (1 ∷ [])
+  pub soiled-anywhere : setOf (boardIn (after (mixed 0) (placed 1 (mixed 0))) 0) 2 ≡ legs (0 ∷ 1 ∷ [])
+  -- 2 placed: of the clean node 1, place 2 is struck, since a soiled stop is at it, and place 0 stays; without it both stay
+  pub clean-left : setOf (boardIn (after (mixed 1) (placed 2 (mixed 1))) 0) 1 ≡ legs (0 ∷ [])
+  pub clean-anywhere : setOf (boardIn (after (mixed 0) (placed 2 (mixed 0))) 0) 1 ≡ legs (0 ∷ 2 ∷ [])
+  -- 1 placed: node 2 with both jobs stays in place 1, behind the clean stop, and only there; placed alone, it breaks nothing with itself
+  pub both-left : setOf (boardIn (after both (placed 1 both)) 0) 2 ≡ legs (1 ∷ [])
+  pub both-alive : alive both (placed 2 both) ≡ true
+  -- the soiled stop before the clean one: dead; without the profile alive
+  pub turned-dead : alive (mixed 1) (turned (mixed 1)) ≡ false
+  pub turned-alive : alive (mixed 0) (turned (mixed 0)) ≡ true

@@ -11,7 +11,7 @@ use listing::put_refused;
 use rules::Refusal;
 
 // The bytes of the longest sheet. One more is read, by which a longer input is known.
-const SHEET: usize = 60392;
+const SHEET: usize = 60396;
 
 // What the program prints for an input, into a buffer; the answer is its length.
 fn put_printed(input: &[u8], trail: &mut [u64], out: &mut [u8]) -> usize

@@ -7,23 +7,25 @@ use mathlib.Core.Bool.{Bool, not, _&&_, _||_}
 use mathlib.Core.List.{List, [], _∷_}
 use mathlib.Core.Logic.{_⊎_, inl, inr, ⊎-elim, _≢_}
 use lib.Dec.{T, T-not, not-T, eqb, eqb→eq, eqb-refl, le→leb}
-use Rattle.laws.proofs.Logic.{and-i, and-l, and-r, and-mono, or-l, or-r, or-e, tf, imp-i, imp-e, not-or-l, not-or-r, contra, cond-yes-i, cond-no-i}
+use Rattle.laws.proofs.Logic.{and-i, and-l, and-r, and-mono, or-l, or-r, or-e, or-mono, tf, imp-i, imp-e, not-or-l, not-or-r, contra, cond-yes-i, cond-no-i}
 use Rattle.laws.proofs.Lists.{Each, end, also, each-in, Sub, nil, keep, mem-sub, all-in, all-i, any-i, any-none, any-e, mem-tl, mem-rest}
 use Rattle.laws.specs.Basic.{mem, any, In}
 use Rattle.rules.specs.Day.{Day, inner}
 use Rattle.rules.specs.declared.Van.{Van}
 use Rattle.rules.specs.Time.{start, inTime, onTime, driven}
 use Rattle.rules.specs.Load.{carries}
+use Rattle.rules.specs.Profile.{cleanFirst}
 use Rattle.rules.specs.Plan.{Plan, Places}
-use Rattle.rules.specs.Rounds.{Distinct, Within, done, stop, Inside, both, Belongs, ordered, inOrder, Rule, windowRule, metreRule, transferRule, loadRule, rules, keeps}
+use Rattle.rules.specs.Rounds.{Distinct, Within, done, stop, Inside, both, Belongs, ordered, inOrder, Rule, windowRule, metreRule, transferRule, loadRule, profileRule, rules, keeps}
 use Rattle.rules.specs.Verdict.{partnered, owed, hasPlace, wrong, wrongWay, Check, owedOpen, ofRoute, noneWrong, checks, alive}
 use Rattle.rules.specs.Asked.{Triangle, Proper, Formed}
 use Rattle.rules.specs.declared.Job.{Job}
 use Rattle.rules.specs.declared.Job.the-variants.{Clean, Soiled, Transfer}
 use Rattle.rules.proofs.Cuts.{same}
-use Rattle.rules.proofs.Entries.{keeps-i, alive-e, alive-i, owedOpen-checked, windowRule-checked, metreRule-checked, loadRule-checked, noneWrong-checked}
+use Rattle.rules.proofs.Entries.{keeps-i, alive-e, alive-i, owedOpen-checked, windowRule-checked, metreRule-checked, loadRule-checked, noneWrong-checked, profileRule-checked}
 use Rattle.rules.proofs.Grows.{driven-grows, carries-grows, ahead-grows}
-use Rattle.rules.proofs.Keeps.{keeps-time, keeps-metres, keeps-order, keeps-loads}
+use Rattle.rules.proofs.Keeps.{keeps-time, keeps-metres, keeps-order, keeps-loads, keeps-profile}
+use Rattle.rules.proofs.CleanFirst.{first-sub}
 use Rattle.rules.proofs.Around.{time-grows, not-wrong, ordered-both, within-place}
 use Rattle.rules.proofs.Nodes.{within-sub}
 
@@ -88,7 +90,8 @@ each-vouched =
     also (checked-vouched windowRule windowRule-checked)
     (also (checked-vouched metreRule metreRule-checked)
     (also transfers-vouched
-    (also (checked-vouched loadRule loadRule-checked) end)))
+    (also (checked-vouched loadRule loadRule-checked)
+    (also (checked-vouched profileRule profileRule-checked) end))))
 
 -- a route runs through itself
 inside-self : (o : Places) {z : ℕ} {l : List ℕ} (rt : List ℕ) → rt ≡ z ∷ l → Inside o rt rt
@@ -167,13 +170,17 @@ module _ (v : Van) (d : Day) (o : Places) (marks : ℕ → Bool) (z : ℕ) (r R 
   load-fair : T (loadRule v d (z ∷ r))
   load-fair = ahead-grows (carries v d) (λ A A′ B B′. carries-grows v d) (keep nil) (within-sub w) (keeps-loads v d (z ∷ R) h)
 
+  profile-fair : T (profileRule v d (z ∷ r))
+  profile-fair = or-mono (not (d .profile)) (cleanFirst d (z ∷ R)) (not (d .profile)) (cleanFirst d (z ∷ r)) (λ t. t) (first-sub d whole) (keeps-profile v d (z ∷ R) h)
+
 each-fair : Each Fair checks
 each-fair =
     also owed-fair
     (also window-fair
     (also metre-fair
     (also load-fair
-    (also order-fair end))))
+    (also order-fair
+    (also profile-fair end)))))
 
 inside-alive : (v : Van) (d : Day) (marks : ℕ → Bool) {o : Places} {rt R : List ℕ} → Triangle d → Distinct (d .n) R → Inside o rt R
     → ((x : ℕ) → T (marks x) → T (mem x R)) → T (keeps v d R)

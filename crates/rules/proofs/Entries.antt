@@ -8,8 +8,8 @@ use Rattle.laws.specs.Basic.{In, here, there}
 use Rattle.rules.specs.Day.{Day}
 use Rattle.rules.specs.declared.Van.{Van}
 use Rattle.rules.specs.Plan.{Plan, Places}
-use Rattle.rules.specs.Tests.{Test, window, short, clean, soiled, partnerPlaced, neitherPlaced, tests, stays}
-use Rattle.rules.specs.Rounds.{Rule, windowRule, metreRule, transferRule, loadRule, rules, keeps}
+use Rattle.rules.specs.Tests.{Test, window, short, clean, soiled, partnerPlaced, neitherPlaced, cleanBefore, tests, stays}
+use Rattle.rules.specs.Rounds.{Rule, windowRule, metreRule, transferRule, loadRule, profileRule, rules, keeps}
 use Rattle.rules.specs.Verdict.{Check, owedOpen, ofRoute, noneWrong, checks, alive}
 
 -- ---- the tests
@@ -41,6 +41,9 @@ partnerPlaced-in = search (here, there) depth 16
 pub neitherPlaced-in : In neitherPlaced tests
 neitherPlaced-in = search (here, there) depth 16
 
+pub cleanBefore-in : In cleanBefore tests
+cleanBefore-in = search (here, there) depth 16
+
 -- ---- the rules
 
 module _ (v : Van) (d : Day) (R : List ℕ) where
@@ -63,6 +66,9 @@ transferRule-in = search (here, there) depth 16
 
 pub loadRule-in : In loadRule rules
 loadRule-in = search (here, there) depth 16
+
+pub profileRule-in : In profileRule rules
+profileRule-in = search (here, there) depth 16
 
 -- ---- the checks
 
@@ -89,3 +95,6 @@ loadRule-checked = search (here, there) depth 16
 
 pub noneWrong-checked : In (ofRoute noneWrong) checks
 noneWrong-checked = search (here, there) depth 16
+
+pub profileRule-checked : In (ofRoute profileRule) checks
+profileRule-checked = search (here, there) depth 16

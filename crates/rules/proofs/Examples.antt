@@ -2,7 +2,7 @@
 use mathlib.Core.Path.{_≡_, refl}
 use Prim.Native.Nat.{ℕ, _+_, _*_}
 use mathlib.Core.Bool.{Bool, true, false, cond, _&&_}
-use mathlib.Core.List.{List, [], _∷_}
+use mathlib.Core.List.{List, [], _∷_, _++_, map}
 use lib.ListN.{getD}
 use lib.Dec.{eqb}
 use lib.IntN.{pos, negsuc}
@@ -10,6 +10,7 @@ use Rattle.rules.specs.Day.{Day}
 use Rattle.rules.specs.declared.Van.{Van}
 use Rattle.rules.specs.Time.{start, lastStart}
 use Rattle.rules.specs.Load.{aboard}
+use Rattle.rules.specs.Profile.{isClean, isSoiled}
 use Rattle.rules.specs.Plan.{Plan, fresh}
 use Rattle.rules.specs.Rounds.{keeps}
 use Rattle.rules.specs.Steps.{placed}
@@ -32,6 +33,7 @@ dayWith l2 l3 = record {
   seconds = λ i j. getD table (4 * i + j) 0;
   metres = λ i j. getD table (4 * i + j) 0;
   jobs = Transfer 1 2 2 ∷ [];
+  profile = false;
 }
 
 abbrev pub day : Day
@@ -85,6 +87,7 @@ shutAt x = record {
   seconds = λ i j. 0;
   metres = λ i j. 0;
   jobs = [];
+  profile = false;
 }
 
 -- a last moment below 0 strikes the ward, though the van is there at 0
@@ -136,3 +139,57 @@ clean-before = refl
 
 soiled-after : aboard (1 ∷ 0 ∷ []) (3 ∷ []) (Soiled 1 2) ≡ 2
 soiled-after = refl
+
+-- clean before soiled: seven nodes with no way between them, 1 clean, 2 soiled, 3 both, and a transfer from 4 to 5
+abbrev mixed : Bool → Day
+mixed profile = record {
+  n = 7;
+  earliest = λ i. 0;
+  latest = λ i. 100;
+  service = λ i. 0;
+  seconds = λ i j. 0;
+  metres = λ i j. 0;
+  jobs = Clean 1 1 ∷ Soiled 2 1 ∷ Clean 3 1 ∷ Soiled 3 1 ∷ Transfer 4 5 1 ∷ [];
+  profile = profile;
+}
+
+-- whether the round that serves these wards keeps the rules
+abbrev served : Bool → List ℕ → Bool
+served profile l = keeps (van 9 60) (mixed profile) (0 ∷ l ++ 6 ∷ [])
+
+-- what a round of settling leaves of the places of x in the first legs of a route, all open
+abbrev left : Bool → ℕ → List ℕ → List Bool
+left profile x l = map (round (van 9 60) (mixed profile) (0 ∷ l ++ 6 ∷ []) (λ y p. true) x) (0 ∷ l)
+
+-- one stop may have both: it stands behind the clean one and before the soiled one
+both-between : served true (1 ∷ 3 ∷ 2 ∷ []) ≡ true
+unfolding keeps isClean isSoiled
+both-between = refl
+
+-- not before another clean one, with a stop between or not
+both-too-soon : served true (3 ∷ 4 ∷ 1 ∷ 5 ∷ []) ≡ false
+unfolding keeps isClean isSoiled
+both-too-soon = refl
+
+soiled-too-soon : served true (2 ∷ 1 ∷ []) ∷ served false (2 ∷ 1 ∷ []) ∷ [] ≡ false ∷ true ∷ []
+unfolding keeps isClean isSoiled
+soiled-too-soon = refl
+
+-- a transfer is neither clean nor soiled, at its first node or at its second
+transfers-aside : served true (4 ∷ 1 ∷ 2 ∷ 5 ∷ []) ≡ true
+unfolding keeps isClean isSoiled
+transfers-aside = refl
+
+-- a soiled node goes behind the clean stop, and a clean node before the soiled one; without the profile each goes anywhere
+soiled-left : left true 2 (1 ∷ []) ++ left false 2 (1 ∷ []) ≡ false ∷ true ∷ true ∷ true ∷ []
+unfolding round stays isClean isSoiled
+soiled-left = refl
+
+clean-left : left true 1 (2 ∷ []) ++ left false 1 (2 ∷ []) ≡ true ∷ false ∷ true ∷ true ∷ []
+unfolding round stays isClean isSoiled
+clean-left = refl
+
+-- a node with both goes between them
+both-left : left true 3 (1 ∷ 2 ∷ []) ≡ false ∷ true ∷ false ∷ []
+unfolding round stays isClean isSoiled
+both-left = refl

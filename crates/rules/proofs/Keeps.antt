@@ -1,6 +1,6 @@
 -- What keeping the rules says, rule by rule, and where a transfer's partner stands at a cut of the round.
 use Prim.Native.Nat.{ℕ, _≤_}
-use mathlib.Core.Bool.{not, _&&_}
+use mathlib.Core.Bool.{not, _&&_, _||_}
 use mathlib.Core.List.{List, [], _∷_}
 use mathlib.Core.Logic.{_⊎_, inl, inr, ⊎-elim}
 use lib.Dec.{T, T-not, eqb, eqb-refl, leb→le}
@@ -12,12 +12,13 @@ use Rattle.rules.specs.declared.Van.{Van}
 use Rattle.rules.specs.Leg.{everyLeg}
 use Rattle.rules.specs.Time.{onTime, driven}
 use Rattle.rules.specs.Load.{carries}
-use Rattle.rules.specs.Rounds.{ordered, inOrder, windowRule, metreRule, transferRule, loadRule, keeps}
+use Rattle.rules.specs.Profile.{cleanFirst}
+use Rattle.rules.specs.Rounds.{ordered, inOrder, windowRule, metreRule, transferRule, loadRule, profileRule, keeps}
 use Rattle.rules.specs.declared.Job.the-variants.{Transfer}
 use Rattle.rules.proofs.Cuts.{Cut, same, move}
-use Rattle.rules.proofs.Entries.{keeps-e, windowRule-in, metreRule-in, transferRule-in, loadRule-in}
+use Rattle.rules.proofs.Entries.{keeps-e, windowRule-in, metreRule-in, transferRule-in, loadRule-in, profileRule-in}
 
--- ---- the four rules
+-- ---- the five rules
 
 module _ (v : Van) (d : Day) (R : List ℕ) (h : T (keeps v d R)) where
   pub keeps-time : T (onTime d [] R)
@@ -31,6 +32,9 @@ module _ (v : Van) (d : Day) (R : List ℕ) (h : T (keeps v d R)) where
 
   pub keeps-loads : T (everyLeg (carries v d) R)
   keeps-loads = keeps-e v d R h loadRule loadRule-in
+
+  pub keeps-profile : T (not (d .profile) || cleanFirst d R)
+  keeps-profile = keeps-e v d R h profileRule profileRule-in
 
 -- ---- the partners of a transfer at a cut
 

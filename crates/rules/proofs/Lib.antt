@@ -58,6 +58,7 @@ pub mod Twice
 pub mod Fixpoint
 -- rounds
 pub mod Keeps
+pub mod CleanFirst
 pub mod Sound
 pub mod NoneLost
 pub mod Around

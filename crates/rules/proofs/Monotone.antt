@@ -15,9 +15,10 @@ use Rattle.rules.specs.declared.Van.{Van}
 use Rattle.rules.specs.Leg.{legsAhead, legsBehind}
 use Rattle.rules.specs.Time.{start}
 use Rattle.rules.specs.Load.{room, reachAhead, reachBack}
+use Rattle.rules.specs.Profile.{unmixed}
 use Rattle.rules.specs.Plan.{Places}
 use Rattle.rules.specs.Rounds.{Distinct, more, Within, stop, extra}
-use Rattle.rules.specs.Tests.{Test, tests, window, short, clean, cleanFits, soiled, soiledFits, partnerPlaced, neitherPlaced, stays}
+use Rattle.rules.specs.Tests.{Test, tests, window, short, clean, cleanFits, soiled, soiledFits, partnerPlaced, neitherPlaced, cleanBefore, stays}
 use Rattle.rules.specs.Asked.{Triangle}
 use Rattle.rules.specs.declared.Job.{Job}
 use Rattle.rules.specs.declared.Job.the-variants.{Clean, Soiled, Transfer}
@@ -27,7 +28,8 @@ use Rattle.rules.proofs.Ways.{Way, single, onward, way-cut, reach-way, 
 use Rattle.rules.proofs.Windows.{window-fits, fits-sooner}
 use Rattle.rules.proofs.Grows.{start-grows, fits-grows, short-around, around-grows, room-grows, ahead-grows, behind-grows}
 use Rattle.rules.proofs.Transfers.{Meets, meets-e, meets-i, Supports, supports-e, supports-i}
-use Rattle.rules.proofs.Entries.{stays-e, stays-i, window-in, short-in, clean-in, soiled-in, partnerPlaced-in, neitherPlaced-in}
+use Rattle.rules.proofs.Entries.{stays-e, stays-i, window-in, short-in, clean-in, soiled-in, partnerPlaced-in, neitherPlaced-in, cleanBefore-in}
+use Rattle.rules.proofs.CleanFirst.{unmixed-sub}
 use Rattle.rules.proofs.Longer.{off-sides, Lies, entered-on, left-on, lies-one, Comes, ancestor, enters, leaves, follow}
 
 -- the route z ∷ e with the places W is longer than z ∷ r with the places o: its further stops stand in open places of o, and each place of W
@@ -180,6 +182,10 @@ module _ (v : Van) (d : Day) (tri : Triangle d) (z : ℕ) (r e : List ℕ) (o W 
         (tf (mem a (z ∷ e)));
   })
 
+  cleanBefore-grows : T (cleanBefore v d (z ∷ r) o y (p ∷ A) (k ∷ B))
+  cleanBefore-grows = or-mono (not (d .profile)) (unmixed d y (q ∷ A′) (k′ ∷ B′)) (not (d .profile)) (unmixed d y (p ∷ A) (k ∷ B)) (λ t. t)
+      (unmixed-sub d y (l .behind) (l .ahead)) (passes cleanBefore cleanBefore-in)
+
 -- ---- the law, of every test
 
 each-monotone : Each Monotone tests
@@ -189,7 +195,8 @@ each-monotone =
     (also clean-grows
     (also soiled-grows
     (also partner-grows
-    (also neither-grows end)))))
+    (also neither-grows
+    (also cleanBefore-grows end))))))
 
 -- what stays on the longer route stays on the shorter
 pub stays-grows : Monotone stays

@@ -15,9 +15,10 @@ use Rattle.rules.specs.declared.Van.{Van}
 use Rattle.rules.specs.Leg.{legsAhead, legsBehind}
 use Rattle.rules.specs.Time.{start}
 use Rattle.rules.specs.Load.{carries, room, reachAhead, reachBack}
+use Rattle.rules.specs.Profile.{cleanFirst, unmixed}
 use Rattle.rules.specs.Plan.{Places}
 use Rattle.rules.specs.Rounds.{Distinct, Within, done, stop, extra, keeps}
-use Rattle.rules.specs.Tests.{Test, window, short, cleanFits, clean, soiledFits, soiled, partnerPlaced, neitherPlaced, tests}
+use Rattle.rules.specs.Tests.{Test, window, short, cleanFits, clean, soiledFits, soiled, partnerPlaced, neitherPlaced, cleanBefore, tests}
 use Rattle.rules.specs.Asked.{Triangle}
 use Rattle.rules.specs.declared.Job.{Job}
 use Rattle.rules.specs.declared.Job.the-variants.{Clean, Soiled, Transfer}
@@ -25,7 +26,8 @@ use Rattle.rules.proofs.Cuts.{Cut, move, cut-next, cut-ahead, cut-behin
 use Rattle.rules.proofs.Grows.{start-grows, fits-grows, around-grows, cut-driven, short-around, room-new}
 use Rattle.rules.proofs.Longer.{Past, begun, halt, between, past-sub}
 use Rattle.rules.proofs.Transfers.{meets-i, supports-i}
-use Rattle.rules.proofs.Keeps.{keeps-time, keeps-metres, keeps-order, keeps-loads, second-ahead, first-behind}
+use Rattle.rules.proofs.Keeps.{keeps-time, keeps-metres, keeps-order, keeps-loads, keeps-profile, second-ahead, first-behind}
+use Rattle.rules.proofs.CleanFirst.{unmixed-cut, unmixed-sub}
 use Rattle.rules.proofs.Nodes.{distinct-tail, distinct-off, off-sub, within-sub, distinct-behind, distinct-ahead}
 use Rattle.rules.proofs.Windows.{window-fits, fits-sooner, time-fits, time-cut}
 
@@ -236,6 +238,10 @@ neitherPlaced-sound v d tri o z x p k r R A B u = supports-i v d (z ∷ r) o x (
       (contra (mem a (p ∷ A)) (mem a (z ∷ r)) (λ m. ⊎-elim (λ f. absurd f) (λ h. h) (cut-behind a (move (u .leg)) m)) n) (first u a w i) (loadsBehind u);
 })
 
+pub cleanBefore-sound : SoundTest cleanBefore
+cleanBefore-sound v d tri o z x p k r R A B u = or-mono (not (d .profile)) (cleanFirst d (z ∷ R)) (not (d .profile)) (unmixed d x (p ∷ A) (k ∷ B)) (λ t. t)
+    (λ h. unmixed-sub d x (subBehind u) (subAhead u) (unmixed-cut d x (move (u .at)) h)) (keeps-profile v d (z ∷ R) (u .rules))
+
 -- ---- the law, of every test
 
 pub each-sound : Each SoundTest tests
@@ -245,4 +251,5 @@ each-sound =
     (also clean-sound
     (also soiled-sound
     (also partnerPlaced-sound
-    (also neitherPlaced-sound end)))))
+    (also neitherPlaced-sound
+    (also cleanBefore-sound end))))))

@@ -46,7 +46,8 @@ each-rests =
     (also (steady (λ v d rt o o′ x A B h. h))
     (also (steady (λ v d rt o o′ x A B h. h))
     (also (steady (λ v d rt o o′ x A B h. h))
-    (also paired end)))))
+    (also paired
+    (also (steady (λ v d rt o o′ x A B h. h)) end))))))
 
 -- what stays with the places o stays with the places o′, if 'neither placed' does not strike it
 pub restays : (v : Van) (d : Day) (rt : List ℕ) (o o′ : Places) (x : ℕ) (A B : List ℕ)

@@ -10,7 +10,7 @@ use Rattle.laws.specs.Basic.{mem, all, any, In}
 use Rattle.rules.specs.Day.{Day, inner}
 use Rattle.rules.specs.declared.Van.{Van}
 use Rattle.rules.specs.Plan.{Plan}
-use Rattle.rules.specs.Rounds.{Rule, windowRule, metreRule, loadRule}
+use Rattle.rules.specs.Rounds.{Rule, windowRule, metreRule, loadRule, profileRule}
 use Rattle.rules.specs.Verdict.{partnered, owed, Check, owedOpen, ofRoute, noneWrong, checks, alive}
 use Rattle.rules.proofs.Entries.{alive-e, alive-i}
 
@@ -41,7 +41,8 @@ each-sees =
     (also (route-sees windowRule)
     (also (route-sees metreRule)
     (also (route-sees loadRule)
-    (also (route-sees noneWrong) end))))
+    (also (route-sees noneWrong)
+    (also (route-sees profileRule) end)))))
 
 pub alive-same : Sees alive
 alive-same v d a b e places marks = T-ext (alive v d a) (alive v d b)

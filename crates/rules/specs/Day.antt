@@ -6,7 +6,8 @@ use lib.Dec.{leb, ltb, eqb}
 use Rattle.laws.specs.Basic.{allBelow}
 use Rattle.rules.specs.declared.Job.{Job}
 
--- sections 2 to 5: n nodes, node 0 the start, node n − 1 the end; the jobs; the tables
+-- sections 2 to 5: n nodes, node 0 the start, node n − 1 the end; the jobs; the tables; and whether the sheet has the profile, the last word of
+-- section 1
 pub record Day : Type 0 where
   pub n : ℕ
   pub earliest : ℕ → ℕ
@@ -15,6 +16,7 @@ pub record Day : Type 0 where
   pub seconds : ℕ → ℕ → ℕ
   pub metres : ℕ → ℕ → ℕ
   pub jobs : List Job
+  pub profile : Bool
 
 -- m, m − 1, .. 1
 abbrev pub downFrom : ℕ → List ℕ

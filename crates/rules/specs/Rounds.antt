@@ -1,6 +1,6 @@
 -- Rounds: which belong to a plan, and which keep the rules.
 use Prim.Native.Nat.{ℕ, _<_}
-use mathlib.Core.Bool.{Bool, true, cond, not, _&&_}
+use mathlib.Core.Bool.{Bool, true, cond, not, _&&_, _||_}
 use mathlib.Core.List.{List, [], _∷_}
 use lib.Dec.{T, leb, eqb}
 use Rattle.laws.specs.Basic.{mem, all}
@@ -9,6 +9,7 @@ use Rattle.rules.specs.declared.Van.{Van}
 use Rattle.rules.specs.Leg.{everyLeg}
 use Rattle.rules.specs.Time.{onTime, driven}
 use Rattle.rules.specs.Load.{carries}
+use Rattle.rules.specs.Profile.{cleanFirst}
 use Rattle.rules.specs.Plan.{Plan, Places}
 use Rattle.rules.specs.declared.Job.{Job}
 use Rattle.rules.specs.declared.Job.the-variants.{Clean, Soiled, Transfer}
@@ -67,9 +68,13 @@ transferRule v d R = all (inOrder R) (d .jobs)
 abbrev pub loadRule : Rule
 loadRule v d R = everyLeg (carries v d) R
 
+-- "For some buildings the infection team rules": where the sheet has the profile, clean comes before soiled (02, No. 11)
+abbrev pub profileRule : Rule
+profileRule v d R = not (d .profile) || cleanFirst d R
+
 -- all of them
 abbrev pub rules : List Rule
-rules = windowRule ∷ metreRule ∷ transferRule ∷ loadRule ∷ []
+rules = windowRule ∷ metreRule ∷ transferRule ∷ loadRule ∷ profileRule ∷ []
 
 -- the round keeps the rules
 unfoldable pub keeps : Rule

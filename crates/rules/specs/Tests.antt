@@ -12,6 +12,7 @@ use Rattle.rules.specs.declared.Van.{Van}
 use Rattle.rules.specs.Leg.{legsAhead, legsBehind}
 use Rattle.rules.specs.Time.{start, inTime, lastStart, driven}
 use Rattle.rules.specs.Load.{room, reachAhead, reachBack}
+use Rattle.rules.specs.Profile.{unmixed}
 use Rattle.rules.specs.Plan.{Places}
 use Rattle.rules.specs.declared.Job.{Job}
 use Rattle.rules.specs.declared.Job.the-variants.{Clean, Soiled, Transfer}
@@ -70,9 +71,13 @@ hasSupport v d rt o x A B (Transfer a b w) =
 abbrev pub neitherPlaced : Test
 neitherPlaced v d rt o x A B = all (hasSupport v d rt o x A B) (d .jobs)
 
+-- Clean before soiled, where the sheet has the profile: x mixes nothing there (02, No. 11)
+abbrev pub cleanBefore : Test
+cleanBefore v d rt o x A B = not (d .profile) || unmixed d x A B
+
 -- all of them
 abbrev pub tests : List Test
-tests = window ∷ short ∷ clean ∷ soiled ∷ partnerPlaced ∷ neitherPlaced ∷ []
+tests = window ∷ short ∷ clean ∷ soiled ∷ partnerPlaced ∷ neitherPlaced ∷ cleanBefore ∷ []
 
 -- the place stays
 unfoldable pub stays : Test

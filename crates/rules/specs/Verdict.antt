@@ -7,7 +7,7 @@ use Rattle.laws.specs.Basic.{mem, all, any}
 use Rattle.rules.specs.Day.{Day, inner}
 use Rattle.rules.specs.declared.Van.{Van}
 use Rattle.rules.specs.Plan.{Plan}
-use Rattle.rules.specs.Rounds.{Rule, windowRule, metreRule, loadRule}
+use Rattle.rules.specs.Rounds.{Rule, windowRule, metreRule, loadRule, profileRule}
 use Rattle.rules.specs.declared.Job.{Job}
 use Rattle.rules.specs.declared.Job.the-variants.{Clean, Soiled, Transfer}
 
@@ -52,7 +52,7 @@ noneWrong v d R = all (λ j. not (wrongWay R j)) (d .jobs)
 
 -- all of them
 abbrev pub checks : List Check
-checks = owedOpen ∷ ofRoute windowRule ∷ ofRoute metreRule ∷ ofRoute loadRule ∷ ofRoute noneWrong ∷ []
+checks = owedOpen ∷ ofRoute windowRule ∷ ofRoute metreRule ∷ ofRoute loadRule ∷ ofRoute noneWrong ∷ ofRoute profileRule ∷ []
 
 -- alive: not dead
 unfoldable pub alive : Check

@@ -6,7 +6,7 @@ use Prim.Native.Nat.{ℕ, _+_, _<_, _≤_}
 use native.Mathlib.Numerals.{add-one}
 use native.Mathlib.Omega.{arith}
 use lib.Dec.{ltb, eqb}
-use lib.ListN.{getD, set, length, length-set}
+use lib.ListN.{getD, set, take, length, length-set}
 use lib.Seq.{ext-getD, getD-set-same, getD-set-other}
 use lib.IntN.{ℤ}
 use borrow.Author.Tests.{eqb-true, eqb-false, eq-eqb, ltb-true, ltb-false}
@@ -20,7 +20,7 @@ use Rattle.walks.specs.Walks.{Kept, Legs}
 use Rattle.walks.proofs.WalkLaws.{kept-once, kept-same, kept-both, kept-all, kept-pass, kept-zero}
 use Rattle.settle.specs.declared.strike.Pass.{Pass}
 use Rattle.gaps.specs.Gaps.{standsAt}
-use Rattle.settle.specs.Round.{Kepts, atNode, rideOf, nodeOf, loadLeaves, pairLeaves, jobsLeave}
+use Rattle.settle.specs.Round.{Kepts, atNode, rideOf, nodeOf, loadLeaves, pairLeaves, mixedLeaves, jobsLeave}
 
 -- `strike::strike_pairs`
 pub kepts-once : {l : List ℕ} {legs : ℕ} {f : ℕ → ℕ → Bool} {ws us vs : List ℕ} → Kepts l legs f ws us → Kepts l legs f ws vs → us ≡ vs
@@ -100,4 +100,5 @@ jobs-more f g j {q} e a b = rw (add-one j) (kepts-same (λ y i n. λ u. allBelow
 -- what the first round leaves, from arrays
 abbrev pub placeLeft : Day → (ℕ → Job) → ℕ → Pass → List ℕ → List ℕ → List ℤ → List ℕ → ℕ → ℕ → ℕ → Bool
 placeLeft d g m p ws l z h total y i =
-    (jobsLeave (pairLeaves ws l h p) g m y i && standsAt d (p .van .limit) l z total y i) && jobsLeave (loadLeaves h p) g m y i
+    ((jobsLeave (pairLeaves ws l h p) g m y i && mixedLeaves d (take (p .stops) l) y i) && standsAt d (p .van .limit) l z total y i)
+    && jobsLeave (loadLeaves h p) g m y i

@@ -11,13 +11,13 @@ use lib.ListN.{getD, take, drop, length, length-take}
 use lib.Seq.{getD-take}
 use Rattle.laws.proofs.Logic.{decided, T-ext, true→T, and-i, and-r}
 use Rattle.laws.specs.Basic.{mem, all, tab, Filled}
-use Rattle.laws.proofs.Below.{below-same}
+use Rattle.laws.proofs.Below.{below-same, below-tab}
 use Rattle.rules.specs.Day.{Day}
 use Rattle.rules.specs.declared.Van.{Van}
 use Rattle.rules.specs.Leg.{onLeg, legStops}
 use Rattle.rules.specs.Plan.{Places}
 use Rattle.rules.specs.Rounds.{Distinct}
-use Rattle.rules.specs.Tests.{cleanFits, soiledFits, meetsPartner, hasSupport, window, short, clean, soiled, partnerPlaced, neitherPlaced, stays}
+use Rattle.rules.specs.Tests.{cleanFits, soiledFits, meetsPartner, hasSupport, window, short, clean, soiled, partnerPlaced, neitherPlaced, cleanBefore, stays}
 use Rattle.rules.specs.Settle.{round}
 use Rattle.rules.specs.Time.{driven}
 use Rattle.rules.specs.Along.{behind, lastAt, loadAt}
@@ -31,9 +31,8 @@ use Rattle.along.specs.Sets.{placesIn, setsOf}
 use Rattle.along.proofs.SetLaws.{sets-ext}
 use Rattle.settle.specs.declared.strike.Pass.{Pass}
 use Rattle.gaps.specs.Gaps.{fitsIn, standsAt}
-use Rattle.settle.specs.Round.{Kepts, loadLeaves, pairLeaves, jobsLeave}
+use Rattle.settle.specs.Round.{Kepts, loadLeaves, pairLeaves, mixedLeaves, jobsLeave}
 use Rattle.settle.proofs.RoundLaws.{placeLeft}
-use Rattle.along.proofs.Told.{below-tab}
 use Rattle.settle.proofs.Legs.{and-swap, pair-is, load-is}
 
 -- ---- tests of a list of jobs
@@ -133,13 +132,13 @@ module _ (pass : Pass) (d : Day) (g : ℕ → Job) (jobs : ℕ) (told : d .jobs 
           rw (add-one i, lasts .at (suc i) (omega arith), ← behind-take l n i (omega arith), ← getD-take n l i 0 (omega arith), ← getD-take n l (suc i) 0 (omega arith))
           (λ u. sym (window-at v d m o x m i (omega (arith, size))) u && sym (short-at v d m o x m i (omega (arith, size))) u)
 
-      six : (a b c s p q : Bool) → (((p && q) && (a && b)) && (c && s)) ≡ (a && (b && (c && (s && (p && (q && true))))))
-      six a b c s p q =
-          ap (λ (t : Bool). t && (c && s)) (and-comm (p && q) (a && b)) ∙ and-assoc (a && b) (p && q) (c && s)
-          ∙ ap (λ (t : Bool). (a && b) && t) (and-comm (p && q) (c && s)) ∙ flat a b c s
+      seven : (a b c s p q e : Bool) → ((((p && q) && e) && (a && b)) && (c && s)) ≡ (a && (b && (c && (s && (p && (q && (e && true)))))))
+      seven a b c s p q e =
+          ap (λ (t : Bool). t && (c && s)) (and-comm ((p && q) && e) (a && b)) ∙ and-assoc (a && b) ((p && q) && e) (c && s)
+          ∙ ap (λ (t : Bool). (a && b) && t) (and-comm ((p && q) && e) (c && s)) ∙ flat a b c s
         where
-          flat : (a b c s : Bool) → ((a && b) && ((c && s) && (p && q))) ≡ (a && (b && (c && (s && (p && (q && true))))))
-          flat true true true true = ap (λ (t : Bool). p && t) (sym (and-true q))
+          flat : (a b c s : Bool) → ((a && b) && ((c && s) && ((p && q) && e))) ≡ (a && (b && (c && (s && (p && (q && (e && true)))))))
+          flat true true true true = and-assoc p q e ∙ ap (λ (t : Bool). p && (q && t)) (sym (and-true e))
           flat true true true false = refl
           flat true true false s = refl
           flat true false c s = refl
@@ -148,9 +147,9 @@ module _ (pass : Pass) (d : Day) (g : ℕ → Job) (jobs : ℕ) (told : d .jobs 
       place-is : Tells (placeLeft d g jobs pass old l z h (driven d m))
       unfolding stays
       place-is x i k t =
-          (λ u. (pairs-is x i k u && stands-is x i k u) && loads-is x i k u)
-          ∙ six (atLeg (window v d m o x) m i) (atLeg (short v d m o x) m i) (atLeg (clean v d m o x) m i) (atLeg (soiled v d m o x) m i)
-          (atLeg (partnerPlaced v d m o x) m i) (atLeg (neitherPlaced v d m o x) m i)
+          (λ u. ((pairs-is x i k u && mixedLeaves d m x i) && stands-is x i k u) && loads-is x i k u)
+          ∙ seven (atLeg (window v d m o x) m i) (atLeg (short v d m o x) m i) (atLeg (clean v d m o x) m i) (atLeg (soiled v d m o x) m i)
+          (atLeg (partnerPlaced v d m o x) m i) (atLeg (neitherPlaced v d m o x) m i) (atLeg (cleanBefore v d m o x) m i)
 
       pub round-sets : (new : List ℕ) → Kepts l (n - 1) (placeLeft d g jobs pass old l z h (driven d m)) old new → new ≡ setsOf (round v d m o)
       round-sets = left-sets _ place-is

@@ -1,11 +1,14 @@
 -- A round of settling over all words, from arrays: which places the jobs leave, and all of them together.
 use mathlib.Core.Path.{_≡_}
-use Prim.Native.Nat.{ℕ, _-_}
+use Prim.Native.Nat.{ℕ, suc, _-_}
 use mathlib.Core.Bool.{Bool, true, not, _&&_, _||_}
 use mathlib.Core.List.{List}
 use lib.Dec.{eqb}
-use lib.ListN.{getD, length}
+use lib.ListN.{getD, length, drop}
 use Rattle.laws.specs.Basic.{allBelow}
+use Rattle.rules.specs.Day.{Day}
+use Rattle.rules.specs.Profile.{unmixed}
+use Rattle.rules.specs.Along.{behind}
 use Rattle.rules.specs.declared.Job.{Job}
 use Rattle.rules.specs.declared.Job.the-variants.{Clean, Soiled, Transfer}
 use Rattle.walks.specs.Walks.{Kept, ridesUp, ridesDown, fromStart, toEnd}
@@ -58,6 +61,10 @@ abbrev pub twoEnds : Job → Bool
 twoEnds (Clean a w) = true
 twoEnds (Soiled a w) = true
 twoEnds (Transfer a b w) = not (eqb a b)
+
+-- clean before soiled: y in the i-th leg of the route m mixes nothing, where the day has the profile
+abbrev pub mixedLeaves : Day → List ℕ → ℕ → ℕ → Bool
+mixedLeaves d m y i = not (d .profile) || unmixed d y (behind m (suc i)) (drop (suc i) m)
 
 -- the first m of the jobs g pass f
 unfoldable pub jobsLeave : (Job → ℕ → ℕ → Bool) → (ℕ → Job) → ℕ → ℕ → ℕ → Bool

@@ -47,7 +47,7 @@ fn none_open(sets: &[u64; Node::MOST], n: usize) -> bool
 }
 
 // The rounds, with L, H and the spots at hand: the first, and the further one where it struck something, which asks the transfers only: window,
-// metres, clean and soiled jobs read the route, so what they leave they leave again. Counts those that struck.
+// metres, clean and soiled jobs and the profile read the route, so what they leave they leave again. Counts those that struck.
 fn rounds(
     s: &[u8],
     at: Layout,

@@ -15,12 +15,14 @@ ghost use Rattle.rules.specs.Time.{driven};
 ghost use Rattle.rules.specs.Load.{loadOf};
 ghost use Rattle.rules.specs.Settle.{round};
 ghost use Rattle.gaps.specs.Gaps.{standsAt};
-ghost use Rattle.settle.specs.Round.{Kepts, rideOf, nodeOf, loadRides, loadLeaves, twoEnds, pairLeaves, jobsLeave, sameSets};
+ghost use Rattle.settle.specs.Round.{Kepts, rideOf, nodeOf, loadRides, loadLeaves, twoEnds, pairLeaves, mixedLeaves, jobsLeave, sameSets};
 ghost use Rattle.settle.specs.Settles.{Read};
 use along::loads::Peaks;
 use gaps::Trial;
 use gaps::legs_of;
 use gaps::stand;
+use profile::cut;
+use profile::shut_legs;
 use rules::Job;
 use rules::Node;
 use rules::Van;
@@ -217,7 +219,34 @@ fn stand_all(
     }
 }
 
-// The first round. The transfers come first, while every word is that of the beginning: no other test asks of the places of a partner.
+// Clean before soiled, where the sheet has the profile: the places of every node against the legs that are shut to it.
+fn strike_mixed(
+    s: &[u8],
+    at: Layout,
+    stops: usize,
+    new: &mut [u64; Node::MOST],
+    route: &[usize; Node::MOST],
+)
+    requires { ⌜ Ready (now s) at (now route) stops (now new) 0 ⌝ }
+    ensures { λ _. ⌜ Kepts (now (route .entry)) (stops - 1) (mixedLeaves (dayOf (now (s .entry))) (take stops (now (route .entry))))
+        (now (new .entry)) (now (new .exit)) ⌝ }
+{
+    if !day::look::profile(s, at) {
+        return;
+    }
+    let jobs = day::jobs::look_over(s, at);
+    let shut = shut_legs(route, stops - 1, jobs.clean, jobs.soiled);
+    let n = at.nodes;
+    let mut x = 0;
+    while x < n {
+        let w = new[x];
+        new[x] = cut(w, x, shut);
+        x += 1;
+    }
+}
+
+// The first round. The transfers come first, while every word is that of the beginning: no other test asks of the places of a partner. Then clean
+// before soiled, which takes many places at once: window and metres ask those that are left one by one.
 pub fn round(
     s: &[u8],
     at: Layout,
@@ -233,6 +262,7 @@ pub fn round(
         ≡ setsOf (round (pass .van) (dayOf (now (s .entry))) (take (pass .stops) (now (route .entry))) (placesIn (now (new .entry)))) ⌝ }
 {
     strike_pairs(s, at, pass, new, route, h);
+    strike_mixed(s, at, pass.stops, new, route);
     stand_all(s, at, pass, new, route, spots, l);
     strike_loads(s, at, pass, new, route, h);
 }

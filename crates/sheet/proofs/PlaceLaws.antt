@@ -11,8 +11,8 @@ use Rattle.laws.specs.Basic.{allBelow, orElse, unless}
 use Rattle.laws.proofs.Choice.{or-else-first, or-else-next, or-else-zero, unless-zero}
 use Rattle.laws.proofs.Logic.{and-true}
 use Rattle.rules.specs.Numbers.{refusal, mostVans}
-use Rattle.words.specs.Word.{size, words, wordAt, limitsAtOk}
-use Rattle.sheet.specs.Section.{vansAt, vansOf, nodesAt, jobsAt, headRefusal, limitsRefusal, nodesRefusal, jobsRefusal, tableRefusal, stepsRefusal, laterRefusal, readRefusal}
+use Rattle.words.specs.Word.{size, words, wordAt, profileOk, limitsAtOk}
+use Rattle.sheet.specs.Section.{vansAt, vansOf, profileAt, nodesAt, jobsAt, headRefusal, limitsValues, limitsRefusal, nodesRefusal, jobsRefusal, tableRefusal, stepsRefusal, laterRefusal, readRefusal}
 use Rattle.sheet.specs.declared.Part.{Part}
 use Rattle.sheet.specs.declared.Layout.{Layout}
 use Rattle.sheet.specs.declared.Found.{Found}
@@ -89,14 +89,14 @@ head-zero s at lo hi width h =
     }
 
 -- what sections that are not refused tell of their counts
-pub limits-zero : (s : List ℕ) → limitsRefusal s ≡ 0 → (wordAt s vansAt % size.van ≡ 0) × Headed s vansAt size.van (size.van * mostVans) 1
+pub limits-zero : (s : List ℕ) → limitsRefusal s ≡ 0 → (wordAt s vansAt % size.van ≡ 1) × Headed s vansAt (size.van + 1) (size.van * mostVans + 1) 1
 unfolding limitsRefusal
 limits-zero s h =
     let a = or-else-zero _ _ (or-else-zero _ _ h .1) in (eqb-true _ _ (unless-zero _ _ (a .0)), head-zero s _ _ _ _ (or-else-zero _ _ (a .1) .0))
 
--- the limits of a sheet whose count is there and even: the tests that are left
-pub limits-left : (s : List ℕ) → ltb vansAt (words s) ≡ true → eqb (wordAt s vansAt % size.van) 0 ≡ true
-    → orElse (headRefusal s vansAt size.van (size.van * mostVans) 1) (unless (allBelow (vansOf s) (limitsAtOk s (vansAt + 1))) refusal.VALUE) ≡ limitsRefusal s
+-- the limits of a sheet whose count is there and leaves one word over: the tests that are left
+pub limits-left : (s : List ℕ) → ltb vansAt (words s) ≡ true → eqb (wordAt s vansAt % size.van) 1 ≡ true
+    → orElse (headRefusal s vansAt (size.van + 1) (size.van * mostVans + 1) 1) (unless (limitsValues s) refusal.VALUE) ≡ limitsRefusal s
 unfolding limitsRefusal orElse
 limits-left s a b = rw (a, b) refl
 
@@ -137,21 +137,23 @@ fine s h =
     let h6 = or-else-zero _ _ (h5 .1) in
     let vans = limits-zero s (h1 .0) in
     let hv = vans .1 in
-    let even = vans .0 in
+    let rest = vans .0 in
+    let values = and-true (allBelow (vansOf s) (limitsAtOk s (vansAt + 1))) (profileOk (wordAt s (profileAt s))) (unless-zero _ _ (or-else-zero _ _ (or-else-zero _ _ (or-else-zero _ _ (h1 .0) .1) .1) .1)) in
     let nodes = or-else-zero _ _ (h2 .0) in
     let jobs = or-else-zero _ _ (h3 .0) in
     let hn = head-zero s _ _ _ _ (nodes .0) in
     record {
       vans-low = omega (arith, hv .low);
       vans-high = omega (arith, hv .high);
-      thrice = omega (arith, even);
+      thrice = omega (arith, rest);
       n-low = hn .low;
       n-high = hn .high;
       m-high = head-zero s _ _ _ _ (jobs .0) .high;
       k-high = head-zero s _ _ _ _ (h6 .0) .high;
       whole = eqb-true _ _ (unless-zero _ _ (h0 .0));
       long = eqb-true _ _ (unless-zero _ _ (h6 .1));
-      limits = unless-zero _ _ (or-else-zero _ _ (or-else-zero _ _ (or-else-zero _ _ (h1 .0) .1) .1) .1);
+      limits = values .0;
+      profile = values .1;
       nodes = unless-zero _ _ (nodes .1);
       jobs = unless-zero _ _ (jobs .1);
       seconds = unless-zero _ _ (or-else-zero _ _ (h4 .0) .1);

@@ -7,8 +7,8 @@ use lib.ListN.{length}
 use lib.Dec.{eqb}
 use Rattle.laws.specs.Basic.{allBelow}
 use Rattle.rules.specs.Numbers.{mostVans}
-use Rattle.words.specs.Word.{size, words, wordAt, limitsAtOk, nodeAtOk, jobAtOk, entryOk}
-use Rattle.sheet.specs.Section.{stepsAt, vansOf, nOf, mOf, kOf, endOf, vansAt, nodesAt, jobsAt, secondsAt, metresAt}
+use Rattle.words.specs.Word.{size, words, wordAt, profileOk, limitsAtOk, nodeAtOk, jobAtOk, entryOk}
+use Rattle.sheet.specs.Section.{stepsAt, vansOf, nOf, mOf, kOf, endOf, vansAt, profileAt, nodesAt, jobsAt, secondsAt, metresAt}
 use Rattle.sheet.specs.Section.{readRefusal}
 use Rattle.sheet.specs.declared.Part.{Part}
 use Rattle.sheet.specs.declared.Layout.{Layout}
@@ -71,7 +71,7 @@ pub record Headed (s : List ℕ) (at lo hi width : ℕ) : Type 0 where
 pub record Fine (s : List ℕ) : Type 0 where
   pub vans-low : 1 ≤ vansOf s
   pub vans-high : vansOf s ≤ mostVans
-  pub thrice : wordAt s vansAt ≡ size.van * vansOf s
+  pub thrice : wordAt s vansAt ≡ size.van * vansOf s + 1
   pub n-low : 2 ≤ nOf s
   pub n-high : nOf s ≤ 64
   pub m-high : mOf s ≤ 155
@@ -79,6 +79,7 @@ pub record Fine (s : List ℕ) : Type 0 where
   pub whole : length s % 4 ≡ 0
   pub long : words s ≡ endOf s (stepsAt s) size.step
   pub limits : allBelow (vansOf s) (limitsAtOk s (vansAt + 1)) ≡ true
+  pub profile : profileOk (wordAt s (profileAt s)) ≡ true
   pub nodes : allBelow (nOf s) (nodeAtOk s (nodesAt s + 1)) ≡ true
   pub jobs : allBelow (mOf s) (jobAtOk s (nOf s) (jobsAt s + 1)) ≡ true
   pub seconds : allBelow (nOf s * nOf s) (entryOk s (secondsAt s + 1)) ≡ true

@@ -1,13 +1,13 @@
 -- The sections of a sheet: where each stands, and what reading them finds: "First the length, then sections in order (count, shortness, values), then
 -- leftovers".
 use Prim.Native.Nat.{ℕ, _+_, _*_, _/_, _%_}
-use mathlib.Core.Bool.{_&&_}
+use mathlib.Core.Bool.{Bool, _&&_}
 use mathlib.Core.List.{List}
 use lib.ListN.{length}
 use lib.Dec.{leb, ltb, eqb}
 use Rattle.laws.specs.Basic.{allBelow, orElse, unless}
 use Rattle.rules.specs.Numbers.{refusal, mostVans}
-use Rattle.words.specs.Word.{size, words, wordAt, limitsAtOk, nodeAtOk, jobAtOk, entryOk}
+use Rattle.words.specs.Word.{size, words, wordAt, profileOk, limitsAtOk, nodeAtOk, jobAtOk, entryOk}
 
 -- ---- where a section stands: the word of its count, then its first entry; each section behind the one before it
 
@@ -15,9 +15,13 @@ use Rattle.words.specs.Word.{size, words, wordAt, limitsAtOk, nodeAtOk, jobAtOk
 abbrev pub vansAt : ℕ
 vansAt = 0
 
--- the number of vans that the sheet says: the count of the limits is of words, as many for each van
+-- the number of vans that the sheet says: the count of the limits is of words, as many for each van, and one more
 abbrev pub vansOf : List ℕ → ℕ
 vansOf s = wordAt s vansAt / size.van
+
+-- "Every sheet's limits section ends with one more number": its word, behind the vans
+abbrev pub profileAt : List ℕ → ℕ
+profileAt s = vansAt + 1 + size.van * vansOf s
 
 -- the word of the count of section 2, the nodes
 abbrev pub nodesAt : List ℕ → ℕ
@@ -64,14 +68,18 @@ headRefusal s at lo hi width =
     (orElse (unless (leb lo (wordAt s at) && leb (wordAt s at) hi) refusal.COUNT)
     (unless (leb (endOf s at width) (words s)) refusal.SHORT))
 
--- "The limits section's count becomes twice the number of vans, 2 to 16", and with "each van a third number" three times, 3 to 24: the count is of words, and
--- one that leaves a van with fewer is out of its range too
+-- the values of the limits: those of each van, and the number behind them
+abbrev pub limitsValues : List ℕ → Bool
+limitsValues s = allBelow (vansOf s) (limitsAtOk s (vansAt + 1)) && profileOk (wordAt s (profileAt s))
+
+-- "The limits section's count becomes twice the number of vans, 2 to 16", with "each van a third number" three times, and with "one more number" 4 to 25: the
+-- count is of words, and one that leaves a van with fewer is out of its range too
 unfoldable pub limitsRefusal : List ℕ → ℕ
 limitsRefusal s =
     orElse (unless (ltb vansAt (words s)) refusal.SHORT)
-    (orElse (unless (eqb (wordAt s vansAt % size.van) 0) refusal.COUNT)
-    (orElse (headRefusal s vansAt size.van (size.van * mostVans) 1)
-    (unless (allBelow (vansOf s) (limitsAtOk s (vansAt + 1))) refusal.VALUE)))
+    (orElse (unless (eqb (wordAt s vansAt % size.van) 1) refusal.COUNT)
+    (orElse (headRefusal s vansAt (size.van + 1) (size.van * mostVans + 1) 1)
+    (unless (limitsValues s) refusal.VALUE)))
 
 -- "nodes: count n, 2 to 64"
 unfoldable pub nodesRefusal : List ℕ → ℕ

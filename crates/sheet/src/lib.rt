@@ -140,22 +140,25 @@ fn square(n: usize) -> usize
     n * n
 }
 
-// Section 1, whose count is of words: one that leaves a van with too few is refused before the section is found short.
+// Section 1, whose count is of words, one more than its vans have: one that leaves a van with too few is refused before the section is found
+// short.
 fn limits(s: &[u8]) -> Part
     ensures { λ r. ⌜ r ≡ partOf (now (s .entry)) vansAt 1 (limitsRefusal (now (s .entry))) ⌝ }
 {
     if s.len() < 4 {
         return Part::refused(Refusal::SHORT);
     }
-    if word(s, 0) as usize % Entry::VAN != 0 {
+    if word(s, 0) as usize % Entry::VAN != 1 {
         return Part::refused(Refusal::COUNT);
     }
-    let p = head(s, 0, Entry::VAN, Entry::VAN * Van::MOST, 1);
+    let p = head(s, 0, Entry::VAN + 1, Entry::VAN * Van::MOST + 1, 1);
     if p.answer != 0 {
         return p;
     }
-    let ok = all_limits_ok(s, p.from, p.count / Entry::VAN);
-    p.judged(ok, Refusal::VALUE)
+    let v = p.count / Entry::VAN;
+    let profile = word(s, p.from + Entry::VAN * v);
+    let ok = all_limits_ok(s, p.from, v);
+    p.judged(ok & (profile <= 1), Refusal::VALUE)
 }
 
 // Section 2.

@@ -18,7 +18,7 @@ use Rattle.laws.specs.Basic.{mem, all, In, allBelow, sumBelow, tab}
 use Rattle.laws.proofs.Table.{At, in-tab}
 use Rattle.laws.proofs.Below.{below-none, below-next, below-at, below-make, below-fails, below-same, below-both}
 use Rattle.bits.specs.Places.{has, with}
-use Rattle.bits.proofs.Members.{has-none, false-true}
+use Rattle.bits.proofs.Members.{has-none, has-with, false-true}
 use Rattle.sheet.specs.Section.{mOf}
 use Rattle.rules.specs.declared.Van.{Van}
 use Rattle.rules.specs.Leg.{everyLeg}
@@ -36,7 +36,7 @@ use Rattle.day.proofs.Asked.{proper, one-end}
 use Rattle.along.specs.Nodes.{firstLoad, mateIn}
 use Rattle.along.proofs.ReadyLaws.{jobs-are, nodes-most}
 use Rattle.along.proofs.RouteLaws.{node-at, stops-legs}
-use Rattle.along.proofs.SpotLaws.{behind-found, found-behind, drop-found, found-drop, mem-found, put-has}
+use Rattle.along.proofs.SpotLaws.{behind-found, found-behind, drop-found, found-drop, mem-found}
 use Rattle.verdict.specs.Verdict.{Routed, loadKept}
 use Rattle.verdict.proofs.Order.{Before, wrong-e, wrong-i}
 use Rattle.verdict.proofs.Mating.{nothing, in-at, first-mate, second-mate, load-front, load-past}
@@ -352,7 +352,7 @@ module _ {s : List ℕ} {at : Layout} {l : List ℕ} {n : ℕ} {t : List ℕ} (r
         laden-next {now} e z = record {
           is = e ∙ now-is;
           most = omega (arith, e, p .most, up-low);
-          saw = λ y. put-has seen here-x y (near i h) ∙ (λ u. eqb (sym (getD-take n l i 0 h) u) y || p .saw y u) ∙ ap (λ (k : ℕ). mem y (behind m k)) (sym (add-one i));
+          saw = λ y. has-with seen here-x y (near i h) ∙ (λ u. eqb (sym (getD-take n l i 0 h) u) y || p .saw y u) ∙ ap (λ (k : ℕ). mem y (behind m k)) (sym (add-one i));
           ok = below-next i stop (p .ok)
               ((λ u. not ((sym (eb ∙ p .saw (mate here-x)) ∙ refl) u && not (eqb (getD t (128 + here-x) 0) 0)) && not (ltb (i + 1) n && ltb (v .capacity) (leg-is e u)))
               ∙ (λ u. not (right u) && not (z u)));

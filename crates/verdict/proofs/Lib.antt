@@ -6,3 +6,4 @@ pub mod Road
 pub mod Pairing
 pub mod Mating
 pub mod Carry
+pub mod Mixing

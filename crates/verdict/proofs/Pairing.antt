@@ -14,13 +14,12 @@ use Rattle.laws.proofs.Lists.{any-i, any-e}
 use Rattle.laws.specs.Basic.{mem, any, allBelow, anyBelow, tab}
 use Rattle.laws.proofs.Below.{below-at, below-find, below-fails}
 use Rattle.bits.specs.Places.{has, with, join}
-use Rattle.bits.proofs.Members.{has-none, has-ext, has-low, false-true}
+use Rattle.bits.proofs.Members.{has-none, has-ext, has-low, has-with, false-true}
 use Rattle.bits.proofs.Masks.{has-and, has-join}
 use Rattle.rules.specs.Day.{Day}
 use Rattle.rules.specs.Verdict.{partnered, owed}
 use Rattle.rules.specs.declared.Job.{Job}
 use Rattle.rules.specs.declared.Job.the-variants.{Clean, Soiled, Transfer}
-use Rattle.along.proofs.SpotLaws.{put-has}
 use Rattle.verdict.specs.Verdict.{joins}
 
 -- a & b != 0 asks whether they have a member in common
@@ -55,12 +54,12 @@ module _ (w x a b : ℕ) (y : ℕ) where
   -- a transfer from x to b
   pub put-first : b < 64 → a ≡ x → has (with w b) y ≡ (has w y || ((eqb a x && eqb b y) || (eqb b x && eqb a y)))
   put-first h e =
-      rw (eq-eqb a x e) (put-has w b y h ∙ turn (eqb b y) (has w y) (eqb b x && eqb a y)
+      rw (eq-eqb a x e) (has-with w b y h ∙ turn (eqb b y) (has w y) (eqb b x && eqb a y)
       (λ t. let u = and-true (eqb b x) (eqb a y) t in eq-eqb b y (eqb-true b x (u .0) ∙ sym e ∙ eqb-true a y (u .1))))
 
   -- one from a to x
   pub put-second : a < 64 → (a ≡ x → ⊥) → b ≡ x → has (with w a) y ≡ (has w y || ((eqb a x && eqb b y) || (eqb b x && eqb a y)))
-  put-second h n e = rw (ne-eqb a x n, eq-eqb b x e) (put-has w a y h ∙ turn (eqb a y) (has w y) false (λ t. absurd (false-true t)) ∙ ap (λ (c : Bool). has w y || c) (sym (or-none (eqb a y))))
+  put-second h n e = rw (ne-eqb a x n, eq-eqb b x e) (has-with w a y h ∙ turn (eqb a y) (has w y) false (λ t. absurd (false-true t)) ∙ ap (λ (c : Bool). has w y || c) (sym (or-none (eqb a y))))
 
   -- and one that has no end at x
   pub put-none : (a ≡ x → ⊥) → (b ≡ x → ⊥) → has w y ≡ (has w y || ((eqb a x && eqb b y) || (eqb b x && eqb a y)))

@@ -1,7 +1,7 @@
 -- The verdict, from what the code finds in its arrays.
 use mathlib.Core.Path.{_≡_, refl, sym, ap, _∙_}
 use Prim.Native.Nat.{ℕ, _+_, _-_, _<_, _≤_}
-use mathlib.Core.Bool.{Bool, true, false, not, _&&_, _||_, and-true, and-false}
+use mathlib.Core.Bool.{Bool, true, false, not, _&&_, _||_, and-true, and-false, and-comm}
 use mathlib.Core.List.{List, []}
 use native.Mathlib.Omega.{arith}
 use lib.Dec.{leb}
@@ -16,11 +16,12 @@ use Rattle.rules.specs.Leg.{everyLeg}
 use Rattle.rules.specs.Time.{inTime, onTime, driven}
 use Rattle.rules.specs.Load.{carries}
 use Rattle.rules.specs.Plan.{Plan}
+use Rattle.rules.specs.Rounds.{profileRule}
 use Rattle.rules.specs.Verdict.{owed, hasPlace, wrongWay, alive}
 use Rattle.rules.specs.Along.{startAt}
 use Rattle.rules.proofs.AlongLaws.{arrives, on-time-all}
 use Rattle.along.proofs.TimeLaws.{start-first, start-turn, length-first, length-turn}
-use Rattle.verdict.specs.Verdict.{roadKept, loadKept}
+use Rattle.verdict.specs.Verdict.{roadKept, loadKept, profileKept}
 
 -- ---- windows and metres, stop by stop
 
@@ -88,17 +89,17 @@ module _ (d : Day) (l : List ℕ) (n : ℕ) (most : n ≤ length l) where
 -- ---- the whole
 
 -- the verdict from its parts, in the order in which the code asks
-pub alive-told : (v : Van) (d : Day) (a : Plan) {q r : Bool} → q ≡ (roadKept (v .limit) d (a .route) && loadKept v d (a .route))
+pub alive-told : (v : Van) (d : Day) (a : Plan) {q r : Bool} → q ≡ (roadKept (v .limit) d (a .route) && loadKept v d (a .route) && profileKept d (a .route))
     → r ≡ all (λ x. not (owed d (a .route) (a .marks) x) || hasPlace a x) (inner d) → (q && r) ≡ alive v d a
-unfolding roadKept loadKept alive
+unfolding roadKept loadKept profileKept alive
 alive-told v d a q r =
     (λ u. q u && r u)
     ∙ turn (all (λ x. not (owed d (a .route) (a .marks) x) || hasPlace a x) (inner d)) (onTime d [] (a .route)) (leb (driven d (a .route)) (v .limit))
-    (everyLeg (carries v d) (a .route)) (all (λ j. not (wrongWay (a .route) j)) (d .jobs))
+    (everyLeg (carries v d) (a .route)) (all (λ j. not (wrongWay (a .route) j)) (d .jobs)) (profileRule v d (a .route))
   where
-    turn : (o t q b c : Bool) → (((t && q) && (b && c)) && o) ≡ (o && (t && (q && (b && (c && true)))))
-    turn o true true true true = sym (and-true o)
-    turn o true true true false = sym (and-false o)
-    turn o true true false c = sym (and-false o)
-    turn o true false b c = sym (and-false o)
-    turn o false q b c = sym (and-false o)
+    turn : (o t q b c e : Bool) → (((t && q) && (b && c) && e) && o) ≡ (o && (t && (q && (b && (c && (e && true))))))
+    turn o true true true true e = and-comm e o ∙ ap (λ (f : Bool). o && f) (sym (and-true e))
+    turn o true true true false e = sym (and-false o)
+    turn o true true false c e = sym (and-false o)
+    turn o true false b c e = sym (and-false o)
+    turn o false q b c e = sym (and-false o)

@@ -12,6 +12,7 @@ use Rattle.rules.specs.declared.Van.{Van}
 use Rattle.rules.specs.Leg.{everyLeg}
 use Rattle.rules.specs.Time.{onTime, driven}
 use Rattle.rules.specs.Load.{carries}
+use Rattle.rules.specs.Profile.{cleanFirst}
 use Rattle.rules.specs.Verdict.{partnered, wrongWay}
 use Rattle.sheet.specs.Place.{Laid}
 use Rattle.sheet.specs.declared.Layout.{Layout}
@@ -51,8 +52,12 @@ pub record Routed (s : List ℕ) (at : Layout) (l : List ℕ) (n : ℕ) (t : Lis
 unfoldable pub loadKept : Van → Day → List ℕ → Bool
 loadKept v d m = everyLeg (carries v d) m && all (λ j. not (wrongWay m j)) (d .jobs)
 
--- what hangs on the route m alone: whether it keeps windows, metres, loads and the order of its transfers; its nodes, and their partners
+-- clean before soiled, where the day has the profile
+unfoldable pub profileKept : Day → List ℕ → Bool
+profileKept d m = not (d .profile) || cleanFirst d m
+
+-- what hangs on the route m alone: whether it keeps windows, metres, loads, the order of its transfers and the profile; its nodes, and their partners
 pub record Coursed (v : Van) (d : Day) (t m : List ℕ) (c : Course) : Type 0 where
-  pub keeps : c .keeps ≡ (roadKept (v .limit) d m && loadKept v d m)
+  pub keeps : c .keeps ≡ (roadKept (v .limit) d m && loadKept v d m && profileKept d m)
   pub on : (x : ℕ) → has (c .on) x ≡ mem x m
   pub called : Mates t (c .on) (c .called)

@@ -15,7 +15,7 @@ ghost use Rattle.day.specs.Seen.{Placed};
 ghost use Rattle.along.specs.Route.{Route};
 ghost use Rattle.along.specs.Sets.{planFrom};
 ghost use Rattle.along.specs.Ready.{Ready};
-ghost use Rattle.verdict.specs.Verdict.{joins, memberOpen, roadKept, loadKept, Routed, Coursed};
+ghost use Rattle.verdict.specs.Verdict.{joins, memberOpen, roadKept, loadKept, profileKept, Routed, Coursed};
 ghost use Rattle.rules.specs.declared.Van.{Van};
 ghost use Rattle.sheet.specs.declared.Layout.{Layout};
 ghost use Rattle.along.specs.Nodes.{ByNode};
@@ -231,6 +231,33 @@ fn carried(
     true
 }
 
+// Clean before soiled, where the sheet has the profile, in one pass along the route: no stop with a clean load comes behind one with a soiled load.
+fn clean_first(
+    s: &[u8],
+    at: Layout,
+    t: &[usize; Jobs::ROOM],
+    route: &[usize; Node::MOST],
+    stops: usize,
+) -> bool
+    requires { ⌜ Routed (now s) at (now route) stops (now t) ⌝ }
+    ensures { λ r. ⌜ r ≡ profileKept (dayOf (now (s .entry))) (take stops (now (route .entry))) ⌝ }
+{
+    if !day::look::profile(s, at) {
+        return true;
+    }
+    let mut met = false;
+    let mut i = 0;
+    while i < stops {
+        let x = route[i];
+        if met & (t[x] != 0) {
+            return false;
+        }
+        met = met | (t[Jobs::SOILED + x] != 0);
+        i += 1;
+    }
+    true
+}
+
 // Every member of a set has an open place: each is asked, from the least on.
 fn all_open(sets: &[u64; Node::MOST], members: u64) -> bool
     requires { ⌜ length (now sets) ≡ 64 ⌝ }
@@ -254,7 +281,7 @@ pub struct Course {
     pub called: u64,
 }
 
-// Whether the route keeps windows, metres, loads and the order of its transfers; its nodes, and their partners.
+// Whether the route keeps windows, metres, loads, the order of its transfers and the profile; its nodes, and their partners.
 pub fn sound(
     s: &[u8],
     at: Layout,
@@ -270,8 +297,9 @@ pub fn sound(
     let called = along::nodes::partners_of(t, on);
     let road = on_the_road(s, at, van.limit, route, stops);
     let load = carried(s, at, t, van, route, stops, on);
+    let order = clean_first(s, at, t, route, stops);
     Course {
-        keeps: road & load,
+        keeps: road & load & order,
         on: on,
         called: called,
     }

@@ -45,6 +45,10 @@ fourAt s from width i =
 abbrev pub limitsOk : ℕ → ℕ → ℕ → Bool
 limitsOk capacity limit bit = leb capacity 1000 && leb limit 1000000 && oneBit bit
 
+-- "1 for the profile, else 0"
+abbrev pub profileOk : ℕ → Bool
+profileOk profile = leb profile 1
+
 -- "earliest, latest, service (0 to 1,000,000, earliest ≤ latest)", and "a fourth word, a class set of 8 bits (1 to 255)"
 abbrev pub nodeOk : ℕ → ℕ → ℕ → ℕ → Bool
 nodeOk earliest latest service set = leb earliest latest && leb latest 1000000 && leb service 1000000 && classSet set

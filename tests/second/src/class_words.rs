@@ -7,9 +7,9 @@ use crate::tally::Tally;
 
 const BITS: [i64; 5] = [0, 3, 255, 256, 4_294_967_295];
 const SETS: [i64; 4] = [0, 256, 257, 4_294_967_295];
-const COUNTS: [i64; 5] = [2, 4, 16, 25, 27];
-const SHORT: &str = "limits: 2 for a count that 3 does not divide, and too few words behind it";
-const SIX_VANS: &str = "limits: opened with count 18";
+const COUNTS: [i64; 8] = [0, 2, 3, 5, 24, 26, 27, 28];
+const SHORT: &str = "limits: 2 for a count that no number of vans makes, and too few words behind it";
+const SIX_VANS: &str = "limits: opened with count 19";
 
 pub fn names() -> Vec<String> {
     let mut names: Vec<String> = [SHORT, SIX_VANS].map(String::from).to_vec();
@@ -32,7 +32,7 @@ pub fn note_opened(tally: &mut Tally, bytes: &[u8], answer: u64) {
     let words = words(bytes);
     let Some(&count) = words.first() else { return };
     match answer {
-        0 if count == 18 => tally.add(SIX_VANS),
+        0 if count == 19 => tally.add(SIX_VANS),
         2 => note_count(tally, count, words.len()),
         3 => note_value(tally, &words),
         _ => {}
@@ -43,7 +43,7 @@ fn note_count(tally: &mut Tally, count: i64, length: usize) {
     if COUNTS.contains(&count) {
         tally.add(counted(count));
     }
-    if count < 24 && count % 3 != 0 && length as i64 <= count {
+    if count < 25 && count % 3 != 1 && length as i64 <= count {
         tally.add(SHORT);
     }
 }
@@ -63,7 +63,13 @@ fn note_value(tally: &mut Tally, words: &[i64]) {
 }
 
 fn mended(words: &[i64], at: usize) -> bool {
-    let mut good: Vec<u32> = words.iter().map(|&word| word as u32).collect();
+    let mut good = words.to_vec();
     good[at] = 1;
-    read_values(&to_bytes(&good)).is_ok()
+    reads(&good)
+}
+
+/// Do 1 to 3 let these words pass?
+pub fn reads(words: &[i64]) -> bool {
+    let words: Vec<u32> = words.iter().map(|&word| word as u32).collect();
+    read_values(&to_bytes(&words)).is_ok()
 }

@@ -8,6 +8,8 @@ use crate::state::State;
 pub struct Facts {
     pub capacity: i64,
     pub limit: i64,
+    /// Clean before soiled.
+    pub profile: bool,
     pub path: Vec<usize>,
     /// Start time at each stop.
     pub e: Vec<i64>,
@@ -24,6 +26,7 @@ impl Facts {
         Facts {
             capacity: sheet.van(van).capacity,
             limit: sheet.van(van).limit,
+            profile: under_profile(sheet, van),
             e: starts(sheet, &path),
             l: last_starts(sheet, &path),
             h: (0..path.len() - 1).map(|leg| aboard(sheet, &path, leg)).collect(),
@@ -39,6 +42,12 @@ impl Facts {
     pub fn last_leg(&self) -> usize {
         self.path.len() - 2
     }
+}
+
+/// The sheet's number is for every van.
+fn under_profile(sheet: &Sheet, van: usize) -> bool {
+    let spared = slips::on(slips::PROFILE_OF_THE_FIRST_VAN_ONLY) && van > 0;
+    (sheet.profile && !spared) || slips::on(slips::PROFILE_ASKED_OF_EVERY_SHEET)
 }
 
 pub fn starts(sheet: &Sheet, path: &[usize]) -> Vec<i64> {

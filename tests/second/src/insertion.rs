@@ -11,6 +11,7 @@ pub fn falls(sheet: &Sheet, van: usize, state: &State, x: usize, i: usize) -> bo
     with.insert(i + 1, x);
     late(sheet, &with, i + 1)
         || !crate::rounds::in_metres(sheet, van, &with)
+        || (sheet.profile && out_of_order(sheet, &with, i + 1))
         || sheet.jobs.iter().any(|job| match job.kind {
             3 if job.a == x || job.b == x => transfer_falls(sheet, van, state, &path, job, x, i),
             3 => false,
@@ -36,6 +37,15 @@ fn late(sheet: &Sheet, with: &[usize], at: usize) -> bool {
         let stop = &sheet.nodes[with[j]];
         begin + drive(sheet, with, at, j) + stop.service > stop.latest
     })
+}
+
+/// x stands at `at`: of it and some other stop, the one that comes first has a soiled job and the one that
+/// comes second a clean one. What the other stops are to each other is not asked.
+fn out_of_order(sheet: &Sheet, with: &[usize], at: usize) -> bool {
+    let soiled = |node: usize| sheet.jobs.iter().any(|job| job.kind == 2 && job.a == node);
+    let clean = |node: usize| sheet.jobs.iter().any(|job| job.kind == 1 && job.a == node);
+    let pairs = (0..with.len()).filter(|&j| j != at).map(|j| (with[j.min(at)], with[j.max(at)]));
+    pairs.into_iter().any(|(first, second)| soiled(first) && clean(second))
 }
 
 /// Loads of the route's own whole jobs and of this one job, along the list `with`, on the legs

@@ -1,5 +1,5 @@
 //! The second program: the planner of 01 once more, in the plainest way, from 01 and the requests
-//! that have landed (02, No. 1, 3, 5 and 7) alone.
+//! that have landed (02, No. 1, 3, 5, 7 and 11) alone.
 
 pub mod check;
 pub mod choices;
@@ -15,10 +15,16 @@ pub mod fleet;
 pub mod gen;
 pub mod heavy;
 pub mod insertion;
+pub mod limits;
 pub mod listing;
 pub mod options;
 pub mod papers;
 pub mod probe;
+pub mod profile;
+pub mod profile_calls;
+pub mod profile_papers;
+pub mod profile_verdicts;
+pub mod profile_words;
 pub mod refused;
 pub mod rng;
 pub mod rounds;

@@ -6,7 +6,7 @@ use second::compare::{listings, probes, Plan};
 use second::gen::full;
 use second::options::Options;
 use second::rng::Rng;
-use second::{check, listing, papers, probe, slips, text};
+use second::{check, listing, papers, probe, profile_papers, slips, text};
 
 const USAGE: &str = "usage: second listing < sheet
        second probe < cases
@@ -38,7 +38,8 @@ fn run_listing() -> Result<bool, String> {
 
 fn run_self() -> Result<bool, String> {
     let mut well = true;
-    for (name, holds) in papers::table().into_iter().chain(papers::run_only()) {
+    let by_hand = papers::table().into_iter().chain(papers::run_only()).chain(profile_papers::table());
+    for (name, holds) in by_hand {
         println!("{} {name}", if holds { "ok    " } else { "FAILED" });
         well &= holds;
     }

@@ -1,4 +1,4 @@
-//! 01's own examples, with the numbers that 02 (No. 3, 5 and 7) gives them: the listing, P1 to P12, and
+//! 01's own examples, with the numbers that 02 (No. 3, 5, 7 and 11) gives them: the listing, P1 to P12, and
 //! the examples that are run only.
 
 use crate::face;
@@ -13,8 +13,9 @@ use crate::step::step;
 use crate::text::to_bytes;
 use crate::verdict::van_alive;
 
-/// With one van of class 1 and class set 1 at every node (02, No. 7): nothing else of the day changes.
-pub const SHEET: &str = "3 2 60 1 | 4, 0 0 0 1, 0 100 5 1, 0 25 5 1, 0 100 0 1 | 1, 3 1 2 2 \
+/// With one van of class 1, class set 1 at every node (02, No. 7) and no profile (No. 11): nothing else of the
+/// day changes.
+pub const SHEET: &str = "4 2 60 1 0 | 4, 0 0 0 1, 0 100 5 1, 0 25 5 1, 0 100 0 1 | 1, 3 1 2 2 \
     | 16, 0 10 20 30 10 0 10 20 20 10 0 10 30 20 10 0 | 16, 0 10 20 30 10 0 10 20 20 10 0 10 30 20 10 0 \
     | 8, 5 0 0, 6 0 0, 1 0 2, 5 0 0, 1 2 1, 1 0 1, 5 0 0, 7 0 0";
 
@@ -33,9 +34,9 @@ route 0 3
 /// Words of the sheet that the examples alter.
 pub const CAPACITY: usize = 1;
 pub const LIMIT: usize = 2;
-pub const NODES: usize = 4;
-pub const LATEST_2: usize = 14;
-pub const LATEST_3: usize = 18;
+pub const NODES: usize = 5;
+pub const LATEST_2: usize = 15;
+pub const LATEST_3: usize = 19;
 
 pub fn bytes_with(changes: &[(usize, u32)]) -> Vec<u8> {
     let mut bytes = to_bytes(SHEET).expect("01's own text");
@@ -119,7 +120,7 @@ fn p9() -> bool {
 /// The examples that 01 marks as run only, and capacity 1, which was P9 before 02 (No. 5).
 pub fn run_only() -> Vec<(&'static str, bool)> {
     let two =
-        to_bytes("3 0 0 1 | 2, 0 0 0 1, 0 9 0 1 | 0 | 4, 0 1 1 0 | 4, 0 0 0 0 | 3, 5 0 0, 1 0 1, 3 1 0")
+        to_bytes("4 0 0 1 0 | 2, 0 0 0 1, 0 9 0 1 | 0 | 4, 0 1 1 0 | 4, 0 0 0 0 | 3, 5 0 0, 1 0 1, 3 1 0")
             .expect("text");
     let listed = "step 1 answer 0 open 0 records 0 rounds 0 alive 1\n\
         step 2 answer 12 open 0 records 0 rounds 0 alive 1\n\

@@ -1,5 +1,5 @@
 //! Brute force: every round of a small state, and the rules a round keeps, straight from 01 and,
-//! for the door, 02.
+//! for the door and the profile, 02.
 
 use crate::sheet::Sheet;
 use crate::state::State;
@@ -68,6 +68,7 @@ pub fn keeps_rules(sheet: &Sheet, van: usize, round: &[usize]) -> bool {
         && in_metres(sheet, van, round)
         && whole_transfers(sheet, round)
         && in_load(sheet, van, round)
+        && (!sheet.profile || clean_first(sheet, round))
 }
 
 /// No start above the last moment, first and last stop included.
@@ -103,6 +104,19 @@ pub fn whole_transfers(sheet: &Sheet, round: &[usize]) -> bool {
         (None, None) => true,
         _ => false,
     })
+}
+
+/// Once a stop with a soiled job is left, no stop with a clean job is met.
+pub fn clean_first(sheet: &Sheet, round: &[usize]) -> bool {
+    let has = |kind: i64, here: usize| sheet.jobs.iter().any(|job| job.kind == kind && job.a == here);
+    let mut soiled = false;
+    for &here in round {
+        if soiled && has(1, here) {
+            return false;
+        }
+        soiled |= has(2, here);
+    }
+    true
 }
 
 /// Walks the round with a tally of what is aboard; half transfers are not taken along.

@@ -1,8 +1,10 @@
 //! The day sheet as numbers, and refusals 1 to 3. Those of the sheet as a whole stand in `whole.rs`.
 
+use crate::limits::{self, Limits, Van};
 use crate::slips;
 use crate::whole;
 
+#[derive(Clone)]
 pub struct Node {
     pub earliest: i64,
     /// The door is shut then: the service must be over.
@@ -13,6 +15,7 @@ pub struct Node {
 }
 
 /// Kind 1 clean, 2 soiled, 3 transfer, as the sheet writes them; b is 0 but for a transfer.
+#[derive(Clone)]
 pub struct Job {
     pub kind: i64,
     pub a: usize,
@@ -20,15 +23,11 @@ pub struct Job {
     pub load: i64,
 }
 
-pub struct Van {
-    pub capacity: i64,
-    pub limit: i64,
-    /// Its class, one of the eight bits.
-    pub bit: i64,
-}
-
+#[derive(Clone)]
 pub struct Sheet {
     vans: Vec<Van>,
+    /// The infection team's rule holds: clean before soiled.
+    pub profile: bool,
     pub nodes: Vec<Node>,
     pub jobs: Vec<Job>,
     seconds: Vec<i64>,
@@ -89,17 +88,15 @@ impl Sheet {
     }
 }
 
-pub const PROGRAM_BYTES: usize = 60_392;
-const MILLION: i64 = 1_000_000;
-/// The eight classes.
-const BITS: [i64; 8] = [1, 2, 4, 8, 16, 32, 64, 128];
+pub const PROGRAM_BYTES: usize = 60_396;
+pub const MILLION: i64 = 1_000_000;
 
 pub fn words(bytes: &[u8]) -> Vec<i64> {
     bytes.chunks_exact(4).map(|c| i64::from(u32::from_le_bytes([c[0], c[1], c[2], c[3]]))).collect()
 }
 
 /// Count, then shortness; hands back where the entries are and moves behind them.
-fn section(w: &[i64], at: &mut usize, low: i64, high: i64, width: usize) -> Result<(usize, usize), u64> {
+pub fn section(w: &[i64], at: &mut usize, low: i64, high: i64, width: usize) -> Result<(usize, usize), u64> {
     let count = *w.get(*at).ok_or(1u64)?;
     if count < low || count > high {
         return Err(2);
@@ -113,35 +110,11 @@ fn section(w: &[i64], at: &mut usize, low: i64, high: i64, width: usize) -> Resu
     Ok((begin, end))
 }
 
-fn within(value: i64, low: i64, high: i64) -> Result<i64, u64> {
+pub fn within(value: i64, low: i64, high: i64) -> Result<i64, u64> {
     if value < low || value > high {
         return Err(3);
     }
     Ok(value)
-}
-
-/// Three numbers a van. A count that three does not divide is as much out of range as 0 or 27.
-fn vans(w: &[i64], at: &mut usize) -> Result<((usize, usize), Vec<Van>), u64> {
-    let no_threes = w.first().is_some_and(|count| count % 3 != 0);
-    if no_threes && !slips::on(slips::LIMITS_SHORT_BEFORE_THEIR_COUNT) {
-        return Err(2);
-    }
-    let span = section(w, at, 3, 24, 1)?;
-    if no_threes {
-        return Err(2);
-    }
-    let vans = w[span.0..span.1].chunks(3).map(van).collect::<Result<_, _>>()?;
-    Ok((span, vans))
-}
-
-fn van(w: &[i64]) -> Result<Van, u64> {
-    let van = Van { capacity: within(w[0], 0, 1000)?, limit: within(w[1], 0, MILLION)?, bit: w[2] };
-    let two_taken =
-        slips::on(slips::TWO_BITS_TAKEN) && (0..256).contains(&van.bit) && van.bit.count_ones() == 2;
-    if !BITS.contains(&van.bit) && !two_taken {
-        return Err(3);
-    }
-    Ok(van)
 }
 
 fn node(w: &[i64]) -> Result<Node, u64> {
@@ -208,7 +181,7 @@ pub fn read_values(bytes: &[u8]) -> Result<Sheet, u64> {
     }
     let w = words(bytes);
     let mut at = 0;
-    let (limits, vans) = vans(&w, &mut at)?;
+    let Limits { span, vans, profile } = limits::read(&w, &mut at)?;
     let of_nodes = section(&w, &mut at, 2, 64, 4)?;
     let nodes: Vec<Node> = w[of_nodes.0..of_nodes.1].chunks(4).map(node).collect::<Result<_, _>>()?;
     let n = nodes.len() as i64;
@@ -224,8 +197,8 @@ pub fn read_values(bytes: &[u8]) -> Result<Sheet, u64> {
     if at != w.len() {
         return Err(1);
     }
-    let spans = vec![limits, of_nodes, of_jobs, of_seconds, of_metres, of_steps];
-    Ok(Sheet { vans, nodes, jobs, seconds, metres, steps, spans })
+    let spans = vec![span, of_nodes, of_jobs, of_seconds, of_metres, of_steps];
+    Ok(Sheet { vans, profile, nodes, jobs, seconds, metres, steps, spans })
 }
 
 /// The bytes of one section's entries.

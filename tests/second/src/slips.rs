@@ -1,5 +1,5 @@
 //! Wrong variants on purpose. The slips that 01 names, those that a fleet, a shut door, loads that
-//! can never ride and van classes invite, and a few more, can be switched on in `listing`, `probe`
+//! can never ride, van classes and the profile invite, and a few more, can be switched on in `listing`, `probe`
 //! and `check` by SECOND_BREAK, so that one can see the comparison and the checks fail. Nothing else
 //! reads the switch: the side that judges is never broken.
 
@@ -65,7 +65,28 @@ pub const CLASSES_IN_THE_FORM: u64 = 57;
 pub const SETTLING_READS_CLASSES: u64 = 58;
 pub const VERDICT_READS_CLASSES: u64 = 59;
 pub const REQUIRING_READS_CLASSES: u64 = 60;
-pub const LAST: u64 = 60;
+pub const PROFILE_FROM_THE_LAST_VANS_CLASS: u64 = 61;
+pub const PROFILE_2_TAKEN: u64 = 62;
+pub const ANY_PROFILE_TAKEN: u64 = 63;
+pub const PROFILE_READ_AS_A_BYTE: u64 = 64;
+pub const LIMITS_WITHOUT_A_PROFILE_TAKEN: u64 = 65;
+pub const SOILED_STOPS_STRICTLY_BEFORE: u64 = 66;
+pub const CLEAN_STOP_AT_THE_PLACE_TOO: u64 = 67;
+pub const A_STOP_AGAINST_ITSELF_IN_SETTLING: u64 = 68;
+pub const A_STOP_AGAINST_ITSELF_IN_THE_VERDICT: u64 = 69;
+pub const PROFILE_ASKED_OF_EVERY_SHEET: u64 = 70;
+pub const VERDICT_WITHOUT_THE_PROFILE: u64 = 71;
+pub const SETTLING_WITHOUT_THE_PROFILE: u64 = 72;
+pub const A_TRANSFERS_SECOND_NODE_IS_CLEAN: u64 = 73;
+pub const A_TRANSFERS_FIRST_NODE_IS_SOILED: u64 = 74;
+pub const FIRST_JOB_OF_A_NODE_ONLY: u64 = 75;
+pub const SOILED_BEFORE_CLEAN: u64 = 76;
+pub const PROFILE_BETWEEN_NEIGHBOURS_ONLY: u64 = 77;
+pub const PROFILE_OF_THE_FIRST_VAN_ONLY: u64 = 78;
+pub const SOILED_NODES_NOT_ASKED: u64 = 79;
+pub const CLEAN_NODES_NOT_ASKED: u64 = 80;
+pub const A_STOP_WITH_BOTH_IS_NEITHER: u64 = 81;
+pub const LAST: u64 = 81;
 /// No number that SECOND_BREAK names: what hangs on it is never left out.
 pub const NONE: u64 = u64::MAX;
 

@@ -1,6 +1,7 @@
-//! The tests of settling, each as 01 words it. True means: this place is struck.
+//! The tests of settling, each as 01, or 02 for the profile, words it. True means: this place is struck.
 
 use crate::facts::Facts;
+use crate::profile;
 use crate::sheet::{Job, Sheet};
 use crate::slips;
 use crate::state::State;
@@ -9,6 +10,7 @@ use crate::state::State;
 pub fn struck(sheet: &Sheet, state: &State, facts: &Facts, x: usize, i: usize) -> bool {
     window(sheet, facts, x, i)
         || metres(sheet, facts, x, i)
+        || (facts.profile && profile::strikes(sheet, &facts.path, x, i))
         || sheet.jobs.iter().any(|job| match job.kind {
             1 => job.a == x && too_full(facts, job.load, 0, i),
             2 => job.a == x && too_full(facts, job.load, i, facts.last_leg()),

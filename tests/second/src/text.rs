@@ -1,6 +1,7 @@
 //! The text form of 01: numbers, with commas, bars and spaces between them. A `#` starts a
 //! remark that runs to the end of its line, so that a sample can say what it is about. The
-//! limits of several vans stand van by van; one van's stand in a row, as 01 has them.
+//! limits of several vans stand van by van, and behind them the number for the whole sheet; one
+//! van's stand in a row, as 01 has them.
 
 use crate::sheet::words;
 
@@ -58,15 +59,11 @@ pub fn from_bytes(bytes: &[u8], long: bool) -> Result<String, String> {
         if i == 1 {
             n = count as usize;
         }
-        let several = i == 0 && count > A_VAN as i64;
-        let row = if long && several {
-            1
-        } else if long {
-            n
-        } else {
-            0
-        };
-        parts.push(section(&rest[..length], if several { A_VAN } else { *width }, row));
+        parts.push(match i {
+            0 if length <= 1 + A_VAN + 1 => plain(&rest[..length]),
+            0 => section(&rest[..length], A_VAN, usize::from(long)),
+            _ => section(&rest[..length], *width, if long { n } else { 0 }),
+        });
         rest = &rest[length..];
     }
     if !rest.is_empty() {
@@ -90,7 +87,7 @@ fn section(words: &[i64], width: usize, row: usize) -> String {
             .collect::<Vec<_>>()
             .join(&format!(",{gap}"));
     }
-    if entries.len() <= A_VAN {
+    if entries.is_empty() {
         return plain(words);
     }
     let rows: Vec<String> = entries.chunks(if row == 0 { entries.len() } else { row }).map(plain).collect();

@@ -2,6 +2,7 @@
 
 use crate::facts::Facts;
 use crate::fleet::Fleet;
+use crate::profile;
 use crate::sheet::Sheet;
 use crate::slips;
 use crate::state::{bit, State};
@@ -40,7 +41,8 @@ pub fn van_alive(sheet: &Sheet, van: usize, state: &State) -> bool {
     });
     let by_class =
         slips::on(slips::VERDICT_READS_CLASSES) && facts.path.iter().any(|&x| !sheet.admits(x, van));
-    !(stranded || late(sheet, &facts) || far || heavy || turned || by_class)
+    let by_profile = facts.profile && profile::broken(sheet, &facts.path);
+    !(stranded || late(sheet, &facts) || far || heavy || turned || by_class || by_profile)
 }
 
 /// E's check: some start of the route is above the last moment there, first and last included.

@@ -24,10 +24,10 @@ const DOUBLED: &str = "2, 1 1 0 1, 1 1 0 1";
 
 /// A van of each of these classes, and these sets at the four nodes.
 fn text_of(bits: &[u32], sets: [u32; 4]) -> String {
-    let vans: String = bits.iter().map(|bit| format!(" 2 60 {bit}")).collect();
+    let vans: String = bits.iter().map(|bit| format!("2 60 {bit} ")).collect();
     let [start, one, two, end] = sets;
     let nodes = format!("0 0 0 {start}, 0 100 5 {one}, 0 30 5 {two}, 0 100 0 {end}");
-    SHEET.replacen("3 2 60 1", &format!("{}{vans}", 3 * bits.len()), 1).replacen(NODES, &nodes, 1)
+    SHEET.replacen("4 2 60 1 0", &format!("{} {vans}0", 3 * bits.len() + 1), 1).replacen(NODES, &nodes, 1)
 }
 
 fn sheet_of(bits: &[u32], sets: [u32; 4]) -> Vec<u8> {
@@ -82,9 +82,9 @@ fn a_bit_is_one_of_eight_and_may_be_shared() {
 }
 
 #[test]
-fn the_count_is_of_words_three_a_van() {
-    for count in [0, 1, 2, 4, 5, 7, 8, 16, 17, 23, 25, 26, 27, 28, 30, u32::MAX] {
-        assert_eq!(open(&words_to_bytes(&[count, 1, 1, 1])).0, 2, "{count}");
+fn the_count_is_of_words_three_a_van_and_one() {
+    for count in [0, 1, 2, 3, 5, 6, 8, 9, 15, 17, 23, 24, 26, 27, 28, 31, u32::MAX] {
+        assert_eq!(open(&words_to_bytes(&[count, 1, 1, 1, 0])).0, 2, "{count}");
     }
     for vans in 1..=8 {
         assert_eq!(opened(&vec![1; vans], [1; 4]), 0, "{vans}");
@@ -96,17 +96,17 @@ fn the_count_is_of_words_three_a_van() {
 fn the_order_within_limits_and_nodes() {
     let answer = |words: &[u32]| open(&words_to_bytes(words)).0;
     for (words, number) in [
-        (&[4][..], 2),
-        (&[25], 2),
-        (&[3], 1),
-        (&[3, 1, 1], 1),
-        (&[6, 1, 1, 3, 1, 1], 1),
-        (&[3, 1, 1, 3], 3),
-        (&[3, 1, 1, 3, 65], 3),
-        (&[3, 1, 1, 1, 65], 2),
-        (&[3, 1, 1, 1, 2, 0, 0, 0, 0, 0, 0, 0], 1),
-        (&[3, 1, 1, 1, 2, 0, 0, 0, 0, 0, 0, 0, 1, 156], 3),
-        (&[3, 1, 1, 1, 2, 0, 0, 0, 1, 0, 0, 0, 1, 156], 2),
+        (&[3][..], 2),
+        (&[26], 2),
+        (&[4], 1),
+        (&[4, 1, 1, 3], 1),
+        (&[7, 1, 1, 3, 1, 1, 1], 1),
+        (&[4, 1, 1, 3, 0], 3),
+        (&[4, 1, 1, 3, 0, 65], 3),
+        (&[4, 1, 1, 1, 0, 65], 2),
+        (&[4, 1, 1, 1, 0, 2, 0, 0, 0, 0, 0, 0, 0], 1),
+        (&[4, 1, 1, 1, 0, 2, 0, 0, 0, 0, 0, 0, 0, 1, 156], 3),
+        (&[4, 1, 1, 1, 0, 2, 0, 0, 0, 1, 0, 0, 0, 1, 156], 2),
     ] {
         assert_eq!(answer(words), number, "{words:?}");
     }
@@ -115,7 +115,7 @@ fn the_order_within_limits_and_nodes() {
 /// 01's text as it was has two words a van.
 #[test]
 fn the_old_layout_is_refused() {
-    let old = SHEET.replacen("3 2 60 1", "2 2 60", 1).replacen(NODES, "0 0 0, 0 100 5, 0 25 5, 0 100 0", 1);
+    let old = SHEET.replacen("4 2 60 1 0", "2 2 60", 1).replacen(NODES, "0 0 0, 0 100 5, 0 25 5, 0 100 0", 1);
     assert_eq!(open(&to_bytes(&old).unwrap()).0, 2);
 }
 
@@ -136,7 +136,8 @@ fn seven_is_for_the_start_and_the_end_and_any_van() {
     ] {
         assert_eq!(opened(bits, sets), number, "{bits:?} {sets:?}");
     }
-    let two_nodes = |end: u32| format!("3 0 0 1 | 2, 0 0 0 1, 0 9 0 {end} | 0 | 4, 0 1 1 0 | 4, 0 0 0 0 | 0");
+    let two_nodes =
+        |end: u32| format!("4 0 0 1 0 | 2, 0 0 0 1, 0 9 0 {end} | 0 | 4, 0 1 1 0 | 4, 0 0 0 0 | 0");
     for (end, number) in [(1, 0), (2, 7)] {
         assert_eq!(open(&to_bytes(&two_nodes(end)).unwrap()).0, number);
     }
@@ -181,8 +182,8 @@ fn all_that_checks_six_checks_seven() {
         assert!(!stretch(&well, number).is_empty(), "{number}");
         assert!(stretch(&shut, number).is_empty(), "{number}");
     }
-    assert_eq!(stretch(&well, 1), &well[4..16]);
-    assert_eq!(stretch(&well, 2), &well[20..84]);
+    assert_eq!(stretch(&well, 1), &well[4..20]);
+    assert_eq!(stretch(&well, 2), &well[24..88]);
 }
 
 #[test]
@@ -313,14 +314,14 @@ fn the_programs_bound_is_the_fullest_sheet() {
     let mut day = full::day(&mut Rng::of(1, 64), 64, 8);
     day.steps = vec![[6, 0, 0]; 2000];
     let mut bytes = day.bytes();
-    assert_eq!((bytes.len(), PROGRAM_BYTES, open(&bytes).0), (60_392, 60_392, 0));
+    assert_eq!((bytes.len(), PROGRAM_BYTES, open(&bytes).0), (60_396, 60_396, 0));
     let lines = listing(&bytes);
     assert!(lines.starts_with("step 1 answer 0 open 496 records 0 rounds 0 alive 1\n"), "{lines}");
     assert_eq!(lines.lines().count(), 2_008);
     bytes.extend([0; 4]);
     assert_eq!(listing(&bytes), "refused 1\n");
     // One word more, and the library's own answer would be another.
-    let mut words = vec![4; 15_099];
+    let mut words = vec![3; 15_100];
     assert_eq!(open(&words_to_bytes(&words)).0, 2);
     assert_eq!(listing(&words_to_bytes(&words)), "refused 1\n");
     words.pop();

@@ -25,7 +25,7 @@ const fn in_van(van: u64, kind: u64) -> u64 {
 }
 
 fn text_of(vans: &str) -> String {
-    SHEET.replacen("3 2 60 1", &of_class_1(vans), 1).replacen("0 25 5", "0 30 5", 1)
+    SHEET.replacen("4 2 60 1 0", &of_class_1(vans), 1).replacen("0 25 5", "0 30 5", 1)
 }
 
 fn sheet_of(vans: &str) -> Vec<u8> {
@@ -50,10 +50,10 @@ fn records(out: &Outcome) -> [u64; 2] {
 
 #[test]
 fn a_counts_of_limits() {
-    for count in [0, 27, 30, 255, u32::MAX] {
+    for count in [0, 28, 31, 256, u32::MAX] {
         assert_eq!(open(&words_to_bytes(&[count, 1, 1])).0, 2, "{count}");
     }
-    assert_eq!(open(&words_to_bytes(&[6, 1, 1, 1, 1001, 1])).0, 1);
+    assert_eq!(open(&words_to_bytes(&[7, 1, 1, 1, 1001, 1, 1])).0, 1);
     for (vans, number) in [("2 60, 1001 60", 3), ("2 60, 2 1000001", 3), ("2 60, 2 60, 2 60", 0)] {
         assert_eq!(open(&sheet_of(vans)).0, number, "{vans}");
     }

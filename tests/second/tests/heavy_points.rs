@@ -18,7 +18,7 @@ use second::text::to_bytes;
 const TOO_HEAVY: &str = "1, 1 1 0 3";
 
 fn text_of(vans: &str, jobs: &str) -> String {
-    SHEET.replacen("3 2 60 1", &of_class_1(vans), 1).replacen("1, 3 1 2 2", jobs, 1)
+    SHEET.replacen("4 2 60 1 0", &of_class_1(vans), 1).replacen("1, 3 1 2 2", jobs, 1)
 }
 
 fn sheet_of(vans: &str, jobs: &str) -> Vec<u8> {
@@ -143,7 +143,7 @@ fn six_wins_over_five() {
 #[test]
 fn a_section_of_such_a_sheet_is_empty() {
     let (well, heavy) = (sheet_of("2 60", "1, 1 1 0 2"), sheet_of("2 60", TOO_HEAVY));
-    assert_eq!(stretch(&well, 1), [2, 0, 0, 0, 60, 0, 0, 0, 1, 0, 0, 0]);
+    assert_eq!(stretch(&well, 1), [2, 0, 0, 0, 60, 0, 0, 0, 1, 0, 0, 0, 0, 0, 0, 0]);
     for number in 1..=6 {
         assert!(!stretch(&well, number).is_empty(), "{number}");
         assert!(stretch(&heavy, number).is_empty(), "{number}");

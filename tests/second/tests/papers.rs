@@ -1,6 +1,6 @@
-//! 01's examples, as cargo tests.
+//! 01's examples, and those of the profile, as cargo tests.
 
-use second::papers;
+use second::{papers, profile_papers};
 
 #[test]
 fn examples_of_the_scope() {
@@ -12,6 +12,13 @@ fn examples_of_the_scope() {
 #[test]
 fn examples_that_are_run_only() {
     for (name, holds) in papers::run_only() {
+        assert!(holds, "{name}");
+    }
+}
+
+#[test]
+fn examples_of_the_profile() {
+    for (name, holds) in profile_papers::table() {
         assert!(holds, "{name}");
     }
 }

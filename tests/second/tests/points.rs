@@ -32,23 +32,23 @@ fn run(bytes: &[u8], steps: &[[u64; 3]]) -> Outcome {
 
 #[test]
 fn length_comes_first() {
-    assert_eq!(open(&[4, 0, 0, 0, 9]).0, 1);
-    assert_eq!(opened(&[4]), 2);
+    assert_eq!(open(&[3, 0, 0, 0, 9]).0, 1);
+    assert_eq!(opened(&[3]), 2);
 }
 
 #[test]
 fn count_then_shortness_then_values() {
-    assert_eq!(opened(&[3, 9999, 0]), 1);
-    assert_eq!(opened(&[3, 9999, 0, 1]), 3);
-    assert_eq!(opened(&[3, 9, 0, 1]), 1);
-    assert_eq!(opened(&[3, 9, 0, 1, 1]), 2);
+    assert_eq!(opened(&[4, 9999, 0, 1]), 1);
+    assert_eq!(opened(&[4, 9999, 0, 1, 0]), 3);
+    assert_eq!(opened(&[4, 9, 0, 1, 0]), 1);
+    assert_eq!(opened(&[4, 9, 0, 1, 0, 1]), 2);
 }
 
 #[test]
 fn the_library_has_no_length_limit_but_the_program_has() {
-    for (head, number) in [(vec![4], 2), (vec![3, 1001], 3)] {
+    for (head, number) in [(vec![3], 2), (vec![4, 1001], 3)] {
         let mut words = head;
-        words.resize(15_099, 0);
+        words.resize(15_100, 0);
         let bytes = words_to_bytes(&words);
         assert_eq!(open(&bytes).0, number);
         assert_eq!(listing(&bytes), "refused 1\n");
@@ -100,7 +100,7 @@ fn triangles_of_roads_nobody_drives_count_too() {
 #[test]
 fn a_sheet_refused_by_five_still_has_sections_and_takes_steps() {
     let bytes = to_bytes(&SHEET.replacen("10 30 20 10 0", "10 31 20 10 0", 1)).unwrap();
-    assert_eq!(stretch(&bytes, 1), &bytes[4..16]);
+    assert_eq!(stretch(&bytes, 1), &bytes[4..20]);
     assert_eq!(step(&bytes, &Fleet::all_open(4, 1), &[0; 8], [1, 0, 2]).answer, 0);
     assert_eq!(verdict(&bytes, &Fleet::all_open(4, 1)), (0, 1));
     assert_eq!(stretch(&bytes, 7), &[] as &[u8]);
@@ -110,7 +110,7 @@ fn a_sheet_refused_by_five_still_has_sections_and_takes_steps() {
 #[test]
 fn a_refused_sheet_beats_a_broken_state() {
     assert_eq!(open_places(&[], &Fleet::zero()), (1, 0));
-    assert_eq!(verdict(&bytes_with(&[(0, 4)]), &Fleet::all_open(4, 1)), (2, 0));
+    assert_eq!(verdict(&bytes_with(&[(0, 3)]), &Fleet::all_open(4, 1)), (2, 0));
     assert_eq!(step(&bytes_with(&[]), &Fleet::zero(), &[], [9, 9, 9]).answer, 19);
 }
 

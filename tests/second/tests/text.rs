@@ -13,12 +13,12 @@ fn prints_the_sheet_as_01_does() {
 fn there_and_back_for_any_words() {
     let sheets: [&[u32]; 7] = [
         &[],
-        &[3],
-        &[3, 1, 1, 1, 64, 5],
-        &[3, 1, 1, 1, 0, 0, 0, 0, 0, 7, 7],
+        &[4],
+        &[4, 1, 1, 1, 0, 64, 5],
+        &[4, 1, 1, 1, 0, 0, 0, 0, 0, 0, 7, 7],
         &[u32::MAX, 1],
-        &[4, 1, 1, 1, 1, 2],
-        &[6, 1, 1, 1],
+        &[5, 1, 1, 1, 1, 2],
+        &[7, 1, 1, 1],
     ];
     for words in sheets {
         let bytes: Vec<u8> = words.iter().flat_map(|w| w.to_le_bytes()).collect();
@@ -28,14 +28,16 @@ fn there_and_back_for_any_words() {
     }
 }
 
-/// One van's limits stand as 01 prints them; those of more stand van by van.
+/// One van's limits stand as 01 prints them; those of more stand van by van, and the profile's number
+/// stands last.
 #[test]
 fn limits_of_a_fleet_stand_van_by_van() {
-    let fleet = "9, 10 1800 2, 6 1200 1, 8 900 4 | 2, 0 0 0 7, 0 9 0 7 | 0 | 4, 0 1 1 0 | 4, 0 0 0 0 | 0\n";
+    let fleet =
+        "10, 10 1800 2, 6 1200 1, 8 900 4, 1 | 2, 0 0 0 7, 0 9 0 7 | 0 | 4, 0 1 1 0 | 4, 0 0 0 0 | 0\n";
     let bytes = to_bytes(fleet).unwrap();
     assert_eq!(from_bytes(&bytes, false).unwrap(), fleet);
     let long = from_bytes(&bytes, true).unwrap();
-    assert!(long.starts_with("9,\n  10 1800 2,\n  6 1200 1,\n  8 900 4 |\n2,\n  0 0 0 7"), "{long}");
+    assert!(long.starts_with("10,\n  10 1800 2,\n  6 1200 1,\n  8 900 4,\n  1 |\n2,\n  0 0 0 7"), "{long}");
     assert_eq!(to_bytes(&long).unwrap(), bytes);
 }
 

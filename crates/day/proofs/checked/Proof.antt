@@ -1,5 +1,5 @@
 use Prim.Native.Nat.{ℕ}
-use mathlib.Core.Path.{_≡_, refl, ap, ap₂, _∙_}
+use mathlib.Core.Path.{_≡_, refl, ap₂, _∙_}
 use mathlib.Core.List.{List}
 use lib.Dec.{leb}
 use Rattle.laws.specs.Basic.{orElse, unless}
@@ -11,7 +11,6 @@ use Rattle.sheet.specs.Section.{readRefusal, mOf}
 use Rattle.sheet.specs.Place.{Laid, found}
 use Rattle.day.specs.Tell.{jobIn, largestOf}
 use Rattle.day.specs.Refuse.{apart, canRide, endsAdmit, callRefusal}
-use Rattle.day.specs.declared.jobs.Looked.{Looked}
 use borrow.Author.Needs.{needs}
 use Rattle.day.proofs.checked.Statement.{statement}
 use Rattle.day.proofs.checked.Tie as tie
@@ -36,7 +35,7 @@ found-apart c =
     let j = c .before in
     let e = j .before in
     found-judged readRefusal apartRefusal _ _ (e .before .before .sections .ensures) (e .if1 .left) (c .judged .ensures)
-    (ap (λ (o : Looked). o .apart) (rw (read-laid e .jobs) at (j .look-over .ensures))) refl
+    (rw (read-laid e .jobs) at (j .look-over .ensures .apart)) refl
 
 apart-laid : (c : tie.Else2) → Laid (c .before .before .before .before .before .before .before .before .args .s .now) (c .before .before .judged .result .layout)
 apart-laid c = found-laid apartRefusal _ (λ z. or-else-zero _ _ z .0) (found-apart (c .before .before)) (c .if2 .left)
@@ -47,7 +46,7 @@ found-light c =
     let m = c .before .before in
     let a = m .before .before .before in
     let j = a .before in
-    let heaviest = ap (λ (o : Looked). o .heaviest) (rw (read-laid (j .before) .jobs) at (j .look-over .ensures)) in
+    let heaviest = rw (read-laid (j .before) .jobs) at (j .look-over .ensures .heaviest) in
     found-judged apartRefusal _ _ _ (found-apart a) (m .before .if2 .left) (c .judged2 .ensures)
     (ap₂ leb heaviest (m .largest .ensures) ∙ peak-within _ _ _) refl
 

@@ -9,20 +9,23 @@ use Rattle.day.proofs.span_of.Tie as tie
 mul-t4 : tie.Need-mul-t4
 mul-t4 c = search needs
 
-mul-t5 : tie.Need-mul-t5
-mul-t5 c = search needs
+add-t5 : tie.Need-add-t5
+add-t5 c = search needs
 
 mul-t6 : tie.Need-mul-t6
 mul-t6 c = search needs
 
 mul-t7 : tie.Need-mul-t7
-mul-t7 c = let p = c .before .before .pre in omega (arith, mul-le-mul (p .1) (p .1))
+mul-t7 c = search needs
 
 mul-t8 : tie.Need-mul-t8
 mul-t8 c = let p = c .before .before .pre in omega (arith, mul-le-mul (p .1) (p .1))
 
 mul-t9 : tie.Need-mul-t9
-mul-t9 c = search needs
+mul-t9 c = let p = c .before .before .pre in omega (arith, mul-le-mul (p .1) (p .1))
+
+mul-t10 : tie.Need-mul-t10
+mul-t10 c = search needs
 
 returns : tie.Need-returns
 unfolding spanOf
@@ -57,11 +60,12 @@ span-of-spec =
     tie.close
     (tie.spec
     mul-t4
-    mul-t5
+    add-t5
     mul-t6
     mul-t7
     mul-t8
     mul-t9
+    mul-t10
     returns
     returns-2
     returns-3

@@ -15,13 +15,18 @@ on-the-road-requires c κs = let p = c .before .before .before .pre in (p .laid,
 carried-requires : tie.Need-carried-requires
 carried-requires c κs = (c .before .before .before .before .pre, c .before .before .word .ensures)
 
+clean-first-requires : tie.Need-clean-first-requires
+clean-first-requires c κs = c .before .before .before .before .before .pre
+
 returns : tie.Need-returns
 returns c =
+    let l = c .before in
+    let r = l .before in
     record {
-      keeps = λ u. c .before .on-the-road .ensures u && c .carried .ensures u;
-      on = c .before .before .before .word .ensures;
-      called = c .before .before .partners-of .ensures;
+      keeps = λ u. r .on-the-road .ensures u && l .carried .ensures u && c .clean-first .ensures u;
+      on = r .before .before .word .ensures;
+      called = r .before .partners-of .ensures;
     }
 
 pub sound-spec : {M : Type 1} → statement M
-sound-spec = tie.close (tie.spec word-requires partners-of-requires on-the-road-requires carried-requires returns)
+sound-spec = tie.close (tie.spec word-requires partners-of-requires on-the-road-requires carried-requires clean-first-requires returns)

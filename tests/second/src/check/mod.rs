@@ -10,7 +10,9 @@ mod verdicts;
 
 use crate::doors;
 use crate::fleet::Fleet;
-use crate::gen::{damage, edges, fleets, parts, sheets};
+use crate::gen::{damage, edges, fleets, parts, profiles, sheets};
+use crate::profile_calls;
+use crate::profile_verdicts;
 use crate::rng::Rng;
 use crate::sheet::Sheet;
 use crate::tally::Tally;
@@ -30,7 +32,8 @@ pub struct Scene {
 pub fn expected() -> Tally {
     let mut names: Vec<String> = vec![];
     let groups = [kept::NAMES, settling::NAMES, verdicts::NAMES, back::NAMES, alike::NAMES, refusals::NAMES];
-    for group in groups.into_iter().chain([doors::NAMES]) {
+    let met = [doors::NAMES, profile_calls::NAMES, profile_verdicts::NAMES];
+    for group in groups.into_iter().chain(met) {
         names.extend(group.iter().map(|name| name.to_string()));
     }
     for number in (1..=7).chain(11..=22) {
@@ -42,7 +45,7 @@ pub fn expected() -> Tally {
 /// Vans and nodes, small enough to list every choice.
 fn size(rng: &mut Rng) -> (usize, usize) {
     match rng.below(8) {
-        0..=2 => (1, *rng.pick(&[2, 3, 4, 4, 5, 5, 5, 6, 6])),
+        0..=2 => (1, *rng.pick(&[2, 3, 4, 4, 5, 5, 5, 6, 6, 7])),
         3..=5 => (2, *rng.pick(&[2, 3, 4, 4, 5, 5, 6])),
         _ => (3, *rng.pick(&[3, 4, 4, 5])),
     }
@@ -51,13 +54,16 @@ fn size(rng: &mut Rng) -> (usize, usize) {
 fn scene(rng: &mut Rng) -> Scene {
     let (v, n) = size(rng);
     let mut draft = sheets::plain(rng, n, v);
-    if rng.one_in(2) {
+    let by_profile = rng.one_in(4);
+    if by_profile {
+        profiles::alone(rng, &mut draft);
+    } else if rng.one_in(2) {
         edges::loosen(rng, &mut draft);
     }
     let sheet = draft.sheet();
     let count = *rng.pick(&[0, 0, 2, 5, 14]);
     let (mut fleet, mut trail) = fleets::reached(rng, &sheet, count);
-    if rng.one_in(3) {
+    if by_profile || rng.one_in(3) {
         fleet = fleets::made_up(rng, &sheet);
     }
     let van = rng.below(v);
@@ -66,8 +72,12 @@ fn scene(rng: &mut Rng) -> Scene {
         fleets::put_levels(rng, &sheet, &mut fleet, &[0; 8]);
         trail.fill(0);
     }
-    for _ in 0..rng.below(3) {
-        edges::sharpen(rng, &mut draft, van, &fleet.vans[van]);
+    if by_profile {
+        profiles::ease(&mut draft, &mut fleet);
+    } else {
+        for _ in 0..rng.below(3) {
+            edges::sharpen(rng, &mut draft, van, &fleet.vans[van]);
+        }
     }
     if rng.one_in(8) && n > 2 {
         damage::triangle(rng, &mut draft);

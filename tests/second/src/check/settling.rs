@@ -8,6 +8,9 @@ use crate::facts::Facts;
 use crate::fleet::Fleet;
 use crate::gen::parts;
 use crate::insertion::falls;
+use crate::profile;
+use crate::profile_calls;
+use crate::profile_verdicts;
 use crate::step::{step_on, Outcome};
 use crate::strike;
 use crate::tally::Tally;
@@ -25,6 +28,7 @@ pub const NAMES: &[&str] = &[
     "settling: of a dead van",
     "struck by window",
     "struck by metres",
+    "struck by the profile",
     "struck by a load",
     "struck by transfer, partner placed",
     "struck by transfer, neither placed",
@@ -45,8 +49,10 @@ pub fn check(scene: &Scene, tally: &mut Tally) -> Result<(), Trouble> {
         super::verdicts::check(scene, &out.fleet, tally)?;
         note_reasons(scene, van, tally);
         doors::note_settled(tally, &scene.sheet, &scene.fleet.vans[van]);
+        profile_calls::note_settled(tally, &scene.sheet, van, &scene.fleet.vans[van]);
     }
     doors::note_judged(tally, &scene.sheet, &scene.fleet);
+    profile_verdicts::note_judged(tally, &scene.sheet, &scene.fleet);
     super::verdicts::check(scene, &scene.fleet, tally)
 }
 
@@ -142,6 +148,7 @@ fn note_reasons(scene: &Scene, van: usize, tally: &mut Tally) {
             tally.add(match by_transfer {
                 _ if strike::window(sheet, &facts, x, i) => "struck by window",
                 _ if strike::metres(sheet, &facts, x, i) => "struck by metres",
+                _ if facts.profile && profile::strikes(sheet, &facts.path, x, i) => "struck by the profile",
                 Some(_) if sheet.partner(x).is_some_and(|y| state.on_route(y)) => {
                     "struck by transfer, partner placed"
                 }

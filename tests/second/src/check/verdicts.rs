@@ -5,7 +5,7 @@ use super::trouble::hold;
 use super::{Scene, Trouble};
 use crate::choices::{all_keep_rules, choices, Choice};
 use crate::fleet::Fleet;
-use crate::rounds::{in_load, in_metres, in_time};
+use crate::rounds::{clean_first, in_load, in_metres, in_time};
 use crate::sheet::Sheet;
 use crate::state::bit;
 use crate::tally::Tally;
@@ -58,6 +58,7 @@ fn sound(sheet: &Sheet, fleet: &Fleet, van: usize) -> bool {
     in_time(sheet, &path)
         && in_metres(sheet, van, &path)
         && load_kept(sheet, van, &path)
+        && (!sheet.profile || clean_first(sheet, &path))
         && !turned
         && !stranded
 }

@@ -8,6 +8,7 @@ use crate::step::Step;
 use crate::tally::Tally;
 use crate::whole::triangle_broken;
 use crate::{class_calls, class_words, classes, doors, heavy, refused};
+use crate::{profile_calls, profile_verdicts, profile_words};
 
 /// Which refusals each kind of step can meet, besides those of the sheet, 11 and 19.
 const OF_KIND: [(u64, &[u64]); 8] = [
@@ -35,7 +36,7 @@ const MORE: &[&str] = &[
     "bad case: cut short",
     "bad case: sheet over its bound",
     "bad case: trail over its bound",
-    "sheet: above 60,392 bytes",
+    "sheet: above 60,396 bytes",
     "sheet: 64 nodes",
     "sheet: 2 nodes",
     "trail: odd length",
@@ -74,9 +75,11 @@ pub fn of_probes() -> Tally {
     let groups = [MORE, doors::NAMES, heavy::OF_SHEETS, &heavy::REFUSED.all(), heavy::OF_SETTLING];
     let of_classes =
         [classes::NAMES, &class_calls::REFUSED.all(), class_calls::OF_STEPS, class_calls::OF_FLEETS];
-    let all = fleets.into_iter().chain(groups).chain(of_classes);
+    let of_profile = [profile_calls::NAMES, profile_verdicts::NAMES];
+    let all = fleets.into_iter().chain(groups).chain(of_classes).chain(of_profile);
     names.extend(all.flatten().map(|name| name.to_string()));
     names.extend(class_words::names());
+    names.extend(profile_words::names());
     Tally::expecting(names)
 }
 
@@ -92,6 +95,7 @@ pub fn note_probe(tally: &mut Tally, case: &Case) {
         (OPEN, answer) => {
             note_opened(tally, &case.bytes, answer);
             class_words::note_opened(tally, &case.bytes, answer);
+            profile_words::note_opened(tally, &case.bytes, answer);
         }
         (_, 6) => refused::note_call(tally, case, &heavy::REFUSED),
         (_, 7) => refused::note_call(tally, case, &class_calls::REFUSED),
@@ -140,12 +144,14 @@ fn note_call(tally: &mut Tally, sheet: &Sheet, case: &Case, answer: u64, after: 
                 let state = &case.fleet.vans[step.van as usize];
                 doors::note_settled(tally, sheet, state);
                 heavy::note_settled(tally, sheet, state);
+                profile_calls::note_settled(tally, sheet, step.van as usize, state);
             }
         }
         _ => {
             fleet_coverage::note_verdict(tally, sheet, case);
             if case.question == VERDICT {
                 doors::note_judged(tally, sheet, &case.fleet);
+                profile_verdicts::note_judged(tally, sheet, &case.fleet);
             }
         }
     }
@@ -188,7 +194,7 @@ fn note_step(tally: &mut Tally, case: &Case, answer: u64, rounds: u64) {
 
 fn note_shape(tally: &mut Tally, case: &Case, (n, v): (usize, usize)) {
     if case.bytes.len() > PROGRAM_BYTES {
-        tally.add("sheet: above 60,392 bytes");
+        tally.add("sheet: above 60,396 bytes");
     }
     if n == 64 || n == 2 {
         tally.add(format!("sheet: {n} nodes"));
@@ -222,8 +228,8 @@ pub fn of_listings() -> Tally {
         "alive 0",
         "alive 1",
         "no steps",
-        "above 60,392 bytes",
-        "exactly 60,392 bytes",
+        "above 60,396 bytes",
+        "exactly 60,396 bytes",
         "64 nodes",
         "2 nodes",
         "empty input",
@@ -231,27 +237,28 @@ pub fn of_listings() -> Tally {
     ] {
         names.push(more.to_string());
     }
-    let groups = [doors::NAMES, heavy::OF_SHEETS, classes::NAMES, class_calls::OF_STEPS];
+    let groups =
+        [doors::NAMES, heavy::OF_SHEETS, classes::NAMES, class_calls::OF_STEPS, profile_words::OF_LISTINGS];
     names.extend(groups.concat().iter().map(|name| name.to_string()));
     Tally::expecting(names)
 }
 
-/// Reads the counts off the expected listing itself, but for doors, loads and classes, which are the
-/// sheet's.
+/// Reads the counts off the expected listing itself, but for doors, loads, classes and the profile,
+/// which are the sheet's.
 pub fn note_listing(tally: &mut Tally, bytes: &[u8], expected: &str) {
     if bytes.len() > PROGRAM_BYTES {
-        tally.add("above 60,392 bytes");
+        tally.add("above 60,396 bytes");
     } else if expected.starts_with("refused") {
         tally.add(expected.trim_end());
     }
     if bytes.len() == PROGRAM_BYTES && expected.starts_with("step") {
-        tally.add("exactly 60,392 bytes");
+        tally.add("exactly 60,396 bytes");
     }
     note_listed_sheet(tally, bytes, expected);
     if bytes.is_empty() {
         tally.add("empty input");
     }
-    if bytes.get(16..20) == Some(&[65, 0, 0, 0]) && expected == "refused 2\n" {
+    if bytes.get(20..24) == Some(&[65, 0, 0, 0]) && expected == "refused 2\n" {
         tally.add("65 nodes");
     }
     if expected.starts_with("route") {
@@ -272,6 +279,9 @@ fn note_listed_sheet(tally: &mut Tally, bytes: &[u8], expected: &str) {
     tally.add(format!("{} vans", sheet.v()));
     if sheet.n() == 64 || sheet.n() == 2 {
         tally.add(format!("{} nodes", sheet.n()));
+    }
+    if number.is_none() {
+        profile_words::note_listed(tally, bytes, expected);
     }
     if expected.starts_with("step") {
         let fresh = Fleet::fresh(&sheet);

@@ -5,7 +5,7 @@ use std::path::Path;
 use super::coverage::{note_listing, of_listings};
 use super::runner::{self, End};
 use super::{Plan, SHOWN};
-use crate::gen::{classes, damage, edges, fleets, full, refused, sheets, steps};
+use crate::gen::{classes, damage, edges, fleets, full, profiles, refused, sheets, steps};
 use crate::listing::listing;
 use crate::papers::{bytes_with, CAPACITY, LATEST_2, LATEST_3, LIMIT, NODES};
 use crate::rng::Rng;
@@ -52,6 +52,7 @@ fn now_and_then(rng: &mut Rng, turn: u64) -> Vec<u8> {
 /// The longest sheet there is, or with some bytes too many.
 fn fullest(rng: &mut Rng, more: usize) -> Vec<u8> {
     let mut draft = full::day(rng, 64, 8);
+    draft.profile = rng.below(2) as u32;
     classes::deal(rng, &mut draft);
     draft.steps = (0..2000).map(|_| [*rng.pick(&[6, 7, 9]), 0, 0]).collect();
     let mut bytes = draft.bytes();
@@ -81,6 +82,7 @@ fn without_steps(rng: &mut Rng) -> Vec<u8> {
 fn whole_day(rng: &mut Rng) -> Vec<u8> {
     let vans = sheets::any_vans(rng);
     let mut draft = full::day(rng, 64, vans);
+    profiles::deal(rng, &mut draft);
     classes::deal(rng, &mut draft);
     draft.steps = full::story(rng, &draft.sheet(), 60);
     draft.bytes()

@@ -110,7 +110,7 @@ pub fn wrong_word(rng: &mut Rng, draft: &mut Draft) {
 /// A count of limits that no number of vans makes, or another number than there are; in half of the
 /// sheets with next to nothing behind it.
 pub fn miscounted(rng: &mut Rng, mut draft: Draft) -> Vec<u8> {
-    let count = *rng.pick(&[1, 2, 4, 5, 16, 16, 18, 23, 25, 26, 27]);
+    let count = *rng.pick(&[0, 1, 2, 3, 5, 6, 16, 19, 24, 24, 26, 27, 28]);
     draft.false_counts.push((0, count));
     let mut bytes = draft.bytes();
     if rng.one_in(2) {

@@ -3,6 +3,7 @@
 use super::classes;
 use super::draft::Draft;
 use super::loads;
+use super::profiles;
 use super::steps::odd;
 use crate::rng::Rng;
 
@@ -20,7 +21,7 @@ fn wrong_count(rng: &mut Rng, good: usize, most: usize) -> u32 {
 
 pub fn count(rng: &mut Rng, draft: &mut Draft) {
     let square = draft.seconds.len();
-    let most = [24, 64, 155, square, square, 2000];
+    let most = [25, 64, 155, square, square, 2000];
     let which = rng.below(6);
     let value = wrong_count(rng, draft.sections()[which].0, most[which]);
     draft.false_counts.push((which, value));
@@ -54,9 +55,10 @@ fn above(rng: &mut Rng) -> u32 {
 /// A word of sections 1 to 5 against its rule (or just within it).
 pub fn value(rng: &mut Rng, draft: &mut Draft) {
     let (n, v) = (draft.n(), draft.v());
-    match rng.below(12) {
+    match rng.below(13) {
         0 => draft.limits[rng.below(v)][0] = *rng.pick(&[1001, 1000, u32::MAX]),
         10 | 11 => classes::wrong_word(rng, draft),
+        12 => profiles::wrong_number(rng, draft),
         1 => draft.limits[rng.below(v)][1] = above(rng),
         2 => draft.nodes[rng.below(n)][rng.below(3)] = above(rng),
         3 => {

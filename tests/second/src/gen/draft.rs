@@ -6,6 +6,8 @@ use crate::sheet::{read, Sheet};
 pub struct Draft {
     /// Capacity, metre limit and class of each van.
     pub limits: Vec<[u32; 3]>,
+    /// 1 for the profile of clean before soiled, else 0.
+    pub profile: u32,
     pub nodes: Vec<[u32; 4]>,
     pub jobs: Vec<[u32; 4]>,
     pub seconds: Vec<u32>,
@@ -27,7 +29,7 @@ impl Draft {
     /// Count and words of each; the limits' count is of words.
     pub fn sections(&self) -> Vec<(usize, Vec<u32>)> {
         vec![
-            (3 * self.limits.len(), self.limits.concat()),
+            (3 * self.limits.len() + 1, [self.limits.concat(), vec![self.profile]].concat()),
             (self.nodes.len(), self.nodes.concat()),
             (self.jobs.len(), self.jobs.concat()),
             (self.seconds.len(), self.seconds.clone()),

@@ -1,6 +1,6 @@
 //! Fleets: reached by steps, made up but in form, quiet but for one van, and garbage.
 
-use super::{parts, states, steps};
+use super::{parts, profiles, states, steps};
 use crate::fleet::{Fleet, WORDS};
 use crate::rng::Rng;
 use crate::sheet::Sheet;
@@ -31,7 +31,8 @@ pub fn most_records(fleet: &Fleet) -> u64 {
     fleet.vans.iter().map(|state| state.records).max().unwrap_or(0)
 }
 
-/// Any fleet in form; nobody need have reached it.
+/// Any fleet in form; nobody need have reached it. At random a route of more than a few wards breaks
+/// the profile, so in half of the fleets they are put in order.
 pub fn made_up(rng: &mut Rng, sheet: &Sheet) -> Fleet {
     let (n, v) = (sheet.n(), sheet.v());
     let mut inner: Vec<usize> = (1..n - 1).collect();
@@ -42,7 +43,11 @@ pub fn made_up(rng: &mut Rng, sheet: &Sheet) -> Fleet {
         paths[rng.below(v)].push(x);
     }
     let mut fleet = Fleet::zero();
+    let ordered = sheet.profile && rng.one_in(2);
     for (van, path) in paths.iter_mut().enumerate() {
+        if ordered {
+            profiles::put_in_order(sheet, &mut path[1..]);
+        }
         path.push(n - 1);
         fleet.vans[van] = states::made_up(rng, path, &free);
         for x in 1..n - 1 {

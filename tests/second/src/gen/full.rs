@@ -50,7 +50,7 @@ fn all_jobs(rng: &mut Rng, n: usize) -> Vec<[u32; 4]> {
 
 /// n nodes, v vans, no steps yet. With 64 nodes it has 155 jobs. Each van could drive the whole
 /// sweep, the later ones with a little less aboard and a little farther. Each is of a class of its
-/// own, and every node admits all of them.
+/// own, and every node admits all of them. There is no profile: every ward has clean and soiled linen.
 pub fn day(rng: &mut Rng, n: usize, v: usize) -> Draft {
     let metres = table(&corners(rng, n));
     // Rounded up, the parts of a way never come to less than the whole: still metric.
@@ -77,6 +77,7 @@ pub fn day(rng: &mut Rng, n: usize, v: usize) -> Draft {
     let van = |i: u32| [capacity - i * capacity / 40, limit + 50 * i, 1 << i];
     Draft {
         limits: (0..v as u32).map(van).collect(),
+        profile: 0,
         nodes,
         jobs,
         seconds: seconds.iter().map(|&v| v as u32).collect(),

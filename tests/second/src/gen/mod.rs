@@ -12,6 +12,7 @@ pub mod full;
 pub mod loads;
 pub mod parts;
 pub mod probes;
+pub mod profiles;
 pub mod refused;
 pub mod sheets;
 pub mod spoil;

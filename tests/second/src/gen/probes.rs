@@ -2,7 +2,7 @@
 //! question and every refusal.
 
 use super::draft::{self, Draft};
-use super::{back, classes, damage, edges, fleets, refused, sheets, spoil, steps, unadmitted};
+use super::{back, classes, damage, edges, fleets, profiles, refused, sheets, spoil, steps, unadmitted};
 use crate::fleet::Fleet;
 use crate::probe::{Case, MOST_BYTES, MOST_TRAIL, OPEN, PLACES, SECTION, STEP, VERDICT};
 use crate::rng::Rng;
@@ -13,7 +13,7 @@ use crate::step::step_on;
 pub fn case(seed: u64, number: u64) -> Case {
     let mut rng = Rng::of(seed, number);
     let rng = &mut rng;
-    match number % 23 {
+    match number % 25 {
         0..=2 => opening(rng),
         3 | 10 => stepping(rng, true),
         4 => section(rng),
@@ -33,6 +33,7 @@ pub fn case(seed: u64, number: u64) -> Case {
         19 => refused::case(rng, damage::heavy),
         20 => refused::case(rng, classes::shut_out),
         21 => unadmitted::case(rng),
+        22 | 23 => profiles::case(rng),
         _ => anything(rng),
     }
 }
@@ -66,7 +67,7 @@ pub fn draft_for_steps(rng: &mut Rng) -> Draft {
 fn damaged(rng: &mut Rng) -> Vec<u8> {
     let size = sized(rng, 90);
     let mut made = sheets::with_steps(rng, size, 3);
-    match rng.below(17) {
+    match rng.below(21) {
         0 => vec![],
         12 | 13 => damage::short_and_wrong(rng, made),
         14 => classes::miscounted(rng, made),
@@ -74,6 +75,11 @@ fn damaged(rng: &mut Rng) -> Vec<u8> {
             classes::wrong_word(rng, &mut made);
             made.bytes()
         }
+        17 | 18 => {
+            profiles::wrong_number(rng, &mut made);
+            made.bytes()
+        }
+        19 | 20 => profiles::other_layout(rng, made),
         1 => (0..4 * rng.below(40)).map(|_| rng.any() as u8).collect(),
         2 => overlong(rng),
         _ => damage::sheet(rng, made),
@@ -82,16 +88,17 @@ fn damaged(rng: &mut Rng) -> Vec<u8> {
 
 /// More than the program reads; here judged in the normal order.
 fn overlong(rng: &mut Rng) -> Vec<u8> {
-    let heads: [&[u32]; 9] = [
-        &[4],
-        &[27],
-        &[3, 1001, 1, 1],
-        &[3, 1, 1, 3],
-        &[9, 1, 1, 1, 1, 1, 1, 1, 1_000_001, 1],
-        &[3, 1, 1, 1, 65],
-        &[3, 1, 1, 1, 2, 5, 4, 0, 1],
-        &[3, 1, 1, 1, 2, 0, 0, 0, 0],
-        &[3, 1, 1, 1, 2, 0, 0, 0, 1, 0, 0, 0, 1],
+    let heads: [&[u32]; 10] = [
+        &[3],
+        &[28],
+        &[4, 1001, 1, 1, 0],
+        &[4, 1, 1, 3, 0],
+        &[4, 1, 1, 1, 2],
+        &[10, 1, 1, 1, 1, 1, 1, 1, 1_000_001, 1, 0],
+        &[4, 1, 1, 1, 0, 65],
+        &[4, 1, 1, 1, 0, 2, 5, 4, 0, 1],
+        &[4, 1, 1, 1, 0, 2, 0, 0, 0, 0],
+        &[4, 1, 1, 1, 0, 2, 0, 0, 0, 1, 0, 0, 0, 1],
     ];
     let mut words = rng.pick(&heads).to_vec();
     words.resize(MOST_BYTES as usize / 4 - rng.below(300), 0);

@@ -5,6 +5,7 @@ use super::classes;
 use super::doors;
 use super::draft::Draft;
 use super::loads;
+use super::profiles;
 use super::steps;
 use super::tables;
 use crate::rng::Rng;
@@ -75,7 +76,8 @@ fn jobs(rng: &mut Rng, n: usize, most_load: i64) -> Vec<[u32; 4]> {
 }
 
 /// A sheet of v vans without steps. Each van has limits of its own around the same tour, now and
-/// then a door is shut too early for anyone, and some wards do not admit every van.
+/// then a door is shut too early for anyone, some wards do not admit every van, and half of the
+/// sheets have the profile.
 pub fn plain(rng: &mut Rng, n: usize, v: usize) -> Draft {
     let seconds = tables::any(rng, n);
     let metres = if rng.one_in(3) { seconds.clone() } else { tables::any(rng, n) };
@@ -89,6 +91,7 @@ pub fn plain(rng: &mut Rng, n: usize, v: usize) -> Draft {
     };
     let mut draft = Draft {
         limits: (0..v).map(|_| van()).collect(),
+        profile: 0,
         nodes: windows(rng, n, &path, &seconds),
         jobs: jobs(rng, n, most_load),
         seconds: seconds.iter().map(|&v| clip(v)).collect(),
@@ -96,6 +99,7 @@ pub fn plain(rng: &mut Rng, n: usize, v: usize) -> Draft {
         steps: vec![],
         false_counts: vec![],
     };
+    profiles::deal(rng, &mut draft);
     loads::ride(rng, &mut draft);
     doors::shut_some(rng, &mut draft);
     classes::deal(rng, &mut draft);

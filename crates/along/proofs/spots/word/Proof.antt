@@ -8,8 +8,8 @@ use lib.ListN.{getD}
 use Rattle.laws.specs.Basic.{mem}
 use Rattle.rules.specs.Along.{behind}
 use Rattle.bits.specs.Places.{has}
-use Rattle.bits.proofs.Members.{has-none}
-use Rattle.along.proofs.SpotLaws.{behind-on, put-has}
+use Rattle.bits.proofs.Members.{has-none, has-with}
+use Rattle.along.proofs.SpotLaws.{behind-on}
 use Rattle.along.proofs.spots.word.Statement.{statement}
 use Rattle.along.proofs.spots.word.Tie as tie
 
@@ -43,7 +43,7 @@ loop-again c =
     let o = c .before .before .before .before in
     let p = getD (o .args .route .now) (v .i) 0 in (
       omega arith,
-      λ x. ap (λ (k : ℕ). has k x) (c .put .ensures) ∙ put-has (v .w) p x (o .pre .2 (v .i) (c .before .before .loop-test .taken))
+      λ x. ap (λ (k : ℕ). has k x) (c .put .ensures) ∙ has-with (v .w) p x (o .pre .2 (v .i) (c .before .before .loop-test .taken))
           ∙ ap (λ (b : Bool). eqb p x || b) (v .inv .1 x) ∙ ap (λ (k : ℕ). mem x (behind (o .args .route .now) k)) (sym (add-one (v .i))),
     )
 

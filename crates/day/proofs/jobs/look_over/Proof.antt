@@ -5,9 +5,10 @@ use Prim.Native.Nat.{_-_, _≤_}
 use Rattle.laws.specs.Basic.{peak}
 use Rattle.laws.proofs.Peak.{peak-none, peak-next}
 use Rattle.rules.specs.Load.{loadOf}
+use Rattle.rules.specs.Profile.{cleanAt, soiledAt}
 use Rattle.day.specs.Tell.{jobIn}
 use Rattle.day.specs.Seen.{Placed}
-use Rattle.day.proofs.SeenLaws.{Passed, pass-none, pass-goes, pass-done}
+use Rattle.day.proofs.SeenLaws.{Passed, pass-none, pass-goes, pass-done, met-any}
 use Rattle.day.proofs.Fit.{placed-read}
 use borrow.Author.Needs.{needs}
 use Rattle.day.proofs.jobs.look_over.Statement.{statement}
@@ -55,7 +56,13 @@ returns c =
     let l = c .before in
     let v = l .before .loop in
     let e : v .i ≡ l .before .before .before .args .l .jobs = omega arith in
-    rw (pass-done _ _ _ (v .inv .0) (l .loop-test .left) (v .inv .1), rw e at (v .inv .2))
+    let p = v .inv .1 .seen in
+    record {
+      apart = pass-done _ _ _ (v .inv .0) (l .loop-test .left) (v .inv .1);
+      heaviest = rw e at (v .inv .2);
+      clean = met-any cleanAt _ _ _ _ e (p .clean);
+      soiled = met-any soiledAt _ _ _ _ e (p .soiled);
+    }
 
 pub look-over-spec : {M : Type 1} → statement M
 look-over-spec =
