@@ -1,14 +1,14 @@
 -- What each change opens and closes, place by place (01, Steps; 02, No. 1).
 use mathlib.Core.Path.{_≡_, refl, ap, sym, _∙_}
-use mathlib.Core.Bool.{Bool, true, false, cond, not, _&&_, _||_, and-false, and-true, or-true, or-false}
+use mathlib.Core.Bool.{Bool, true, false, cond, not, _&&_, _||_, and-false, and-true, or-comm}
 use Prim.Native.Nat.{ℕ, _<_, _≤_}
 use native.Mathlib.Omega.{arith}
 use lib.ListN.{length, List·getD-eq-default}
 use lib.Dec.{eqb, ltb}
 use borrow.Author.Tests.{eqb-true, eqb-false, eq-eqb, ltb-true, ltb-false}
-use Rattle.laws.proofs.Logic.{decided}
+use Rattle.laws.proofs.Logic.{decided, eqb-turn}
 use Rattle.bits.specs.Places.{has, with, without}
-use Rattle.bits.proofs.Members.{has-none, with-same, with-other, without-same, without-other}
+use Rattle.bits.proofs.Members.{has-none, with-same, with-other, has-with, without-same, without-other}
 use Rattle.rules.proofs.Inner.{is-inner}
 use Rattle.board.specs.Board.{Board, setOf, openAt}
 use Rattle.board.specs.Change.{heir, putSet, placedAfter, marked, obliged}
@@ -43,10 +43,7 @@ open-excluded b x y q l =
 
 -- x put into a set, and no other
 with-adds : (w x y : ℕ) → x < 64 → has (with w x) y ≡ has w y || eqb y x
-with-adds w x y l =
-    decided (eqb y x)
-    (λ e. rw (eqb-true y x e, with-same w x l, eq-eqb x x refl) (sym (or-true (has w x))))
-    (λ e. rw (with-other w x y (eqb-false y x e), e) (sym (or-false (has w y))))
+with-adds w x y l = has-with w x y l ∙ or-comm (eqb x y) (has w y) ∙ ap (λ (b : Bool). has w y || b) (eqb-turn x y)
 
 -- step 4 marks x and no other
 pub mark-marked : (b : Board) (x y : ℕ) → x < 64 → has (marked b x .marks) y ≡ has (b .marks) y || eqb y x

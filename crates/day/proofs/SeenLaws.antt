@@ -1,7 +1,7 @@
 -- The one pass over the jobs finds two that clash exactly if the test for all pairs does.
 use Prim.Native.Nat.{ℕ, _+_, _^_, _<_, _≤_}
 use mathlib.Core.Path.{_≡_, refl, sym, ap, ap₂, _∙_}
-use mathlib.Core.Bool.{Bool, true, false, not, _&&_, _||_, and-true, and-false, or-true}
+use mathlib.Core.Bool.{Bool, true, false, not, _&&_, _||_, and-true, or-comm}
 use lib.Dec.{eqb}
 use Rattle.laws.proofs.Below.{below-none, below-both, flag-goes, flag-done, below-tab}
 use Rattle.laws.proofs.Lists.{none-any}
@@ -41,10 +41,8 @@ not-or-is : (a b : Bool) {c : Bool} → not b ≡ c → not (a || b) ≡ (not a 
 not-or-is true b e = refl
 not-or-is false b e = e
 
--- the same, the other way round
-turned : (a b : Bool) → not (a || b) ≡ (not b && not a)
-turned true b = sym (and-false (not b))
-turned false b = sym (and-true (not b))
+in-with : (w p x : ℕ) → p < 64 → has (with w p) x ≡ (has w x || eqb p x)
+in-with w p x h = has-with w p x h ∙ or-comm (eqb p x) (has w x)
 
 more : (f : ℕ → Job → Bool) (g : ℕ → Job) (i w v : ℕ) → Met f g i w → ((x : ℕ) → x < 64 → not (has v x) ≡ (not (has w x) && not (f x (g i)))) → Met f g (i + 1) v
 more f g i w v m e x l = e x l ∙ ap (λ (b : Bool). b && not (f x (g i))) (m x l) ∙ sym (flag-goes i (λ j. not (f x (g j))) refl refl)
@@ -53,16 +51,15 @@ same : (f : ℕ → Job → Bool) (g : ℕ → Job) (i w : ℕ) → Met f g i w 
 same f g i w m e = more f g i w w m (λ x l. rw (e x) (sym (and-true (not (has w x)))))
 
 one : (f : ℕ → Job → Bool) (g : ℕ → Job) (i w a : ℕ) → a < 64 → Met f g i w → ((x : ℕ) → f x (g i) ≡ eqb a x) → Met f g (i + 1) (with w a)
-one f g i w a h m e = more f g i w (with w a) m (λ x l. rw (has-with w a x h, e x) (turned (eqb a x) (has w x)))
+one f g i w a h m e = more f g i w (with w a) m (λ x l. rw (in-with w a x h, e x) (not-or (has w x) (eqb a x)))
 
 two : (f : ℕ → Job → Bool) (g : ℕ → Job) (i w a b : ℕ) → a < 64 → b < 64 → Met f g i w → ((x : ℕ) → f x (g i) ≡ (eqb a x || eqb b x)) → Met f g (i + 1) (with (with w a) b)
 two f g i w a b h k m e =
-    more f g i w (with (with w a) b) m (λ x l. rw (has-with (with w a) b x k, has-with w a x h, e x) (three (has w x) (eqb a x) (eqb b x)))
+    more f g i w (with (with w a) b) m (λ x l. rw (in-with (with w a) b x k, in-with w a x h, e x) (three (has w x) (eqb a x) (eqb b x)))
   where
-    three : (p q r : Bool) → not (r || (q || p)) ≡ (not p && not (q || r))
-    three p q true = sym (ap (λ (b : Bool). not p && not b) (or-true q) ∙ and-false (not p))
-    three p true false = sym (and-false (not p))
-    three p false false = sym (and-true (not p))
+    three : (p q r : Bool) → not (p || q || r) ≡ (not p && not (q || r))
+    three true q r = refl
+    three false q r = refl
 
 pub seen-next : (g : ℕ → Job) (i : ℕ) (s : Seen) (q : Job) → g i ≡ q → Placed q → SeenBelow g i s → SeenBelow g (i + 1) (seeing s q)
 seen-next g i s (Clean a w) e h m = record {

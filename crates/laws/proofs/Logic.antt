@@ -133,8 +133,11 @@ imp-imp-e false b c h t n = absurd t
 pub neqb : (m n : ℕ) → T (not (eqb m n)) → m ≢ n
 neqb m n h e = absurd (subst (λ (k : ℕ). T (not (eqb m k)) → ⊥) e (λ t. T-not (eqb m m) t (eqb-refl m)) h)
 
+pub eqb-turn : (m n : ℕ) → eqb m n ≡ eqb n m
+eqb-turn m n = T-ext (eqb m n) (eqb n m) (λ t. subst (λ (k : ℕ). T (eqb k m)) (eqb→eq m n t) (eqb-refl m)) (λ t. subst (λ (k : ℕ). T (eqb k n)) (eqb→eq n m t) (eqb-refl n))
+
 pub ne-sym : (m n : ℕ) → T (not (eqb m n)) → T (not (eqb n m))
-ne-sym m n = contra (eqb n m) (eqb m n) (λ e. rw (eqb→eq n m e) (eqb-refl m))
+ne-sym m n = subst (λ (b : Bool). T (not b)) (eqb-turn m n)
 
 -- ---- a choice by a test
 

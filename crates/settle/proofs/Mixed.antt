@@ -1,6 +1,6 @@
 -- Clean before soiled: the legs that a look along the route shuts to a node are those in which it would mix something.
-use mathlib.Core.Path.{_≡_, sym, ap, _∙_, subst}
-use Prim.Native.Nat.{ℕ, suc, _-_, _<_}
+use mathlib.Core.Path.{_≡_, refl, sym, ap, _∙_, subst}
+use Prim.Native.Nat.{ℕ, suc, _-_, _<_, _≤_}
 use mathlib.Core.Bool.{Bool, true, false, not, _&&_, _||_}
 use mathlib.Core.List.{List}
 use mathlib.Core.Logic.{⊎-elim}
@@ -10,7 +10,7 @@ use lib.ListN.{getD, take, drop}
 use lib.Seq.{getD-take}
 use Rattle.laws.proofs.Logic.{true→T, T→true, and-i, and-l, and-r, and-mono, or-r, or-e, not-or-l, not-or-r, contra, imp-e}
 use Rattle.laws.proofs.Lists.{any-i, any-e, mem-in, in-mem}
-use Rattle.laws.specs.Basic.{any, tab}
+use Rattle.laws.specs.Basic.{mem, any, tab}
 use Rattle.bits.specs.Places.{has}
 use Rattle.rules.specs.Day.{Day}
 use Rattle.rules.specs.Profile.{cleanAt, soiledAt, isClean, isSoiled, unmixed}
@@ -22,7 +22,7 @@ use Rattle.day.specs.Tell.{dayOf, jobIn}
 use Rattle.walks.specs.Walks.{Kept}
 use Rattle.along.specs.Ready.{Ready}
 use Rattle.along.proofs.ReadyLaws.{jobs-are}
-use Rattle.along.proofs.SpotLaws.{behind-found, found-behind, drop-found, found-drop}
+use Rattle.along.proofs.SpotLaws.{Found, behind-found, found-behind, drop-found, found-drop}
 use Rattle.along.proofs.Facts.{size, near-nodes}
 use Rattle.profile.specs.Shut.{Shuts, shutTo}
 use Rattle.profile.specs.declared.Shut.{Shut}
@@ -49,60 +49,39 @@ module _ {s : List ℕ} {at : Layout} {l : List ℕ} {n : ℕ} {ws : List ℕ} {
   unfolding isSoiled
   soiled-is x h = k .soiled x h ∙ ap (λ (e : ℕ). any (soiledAt x) (tab e (jobIn s))) (jobs-are (r .laid))
 
+  -- a word that tells f of every node tells it of the stops
+  module _ (w : ℕ) (f : ℕ → Bool) (is : (x : ℕ) → x < 64 → has w x ≡ f x) where
+    stop-has : {a lo hi : ℕ} (p : Found m lo hi a) → hi ≤ n → T (f a) → T (has w (getD l (p .i) 0))
+    stop-has p h t =
+        let g : p .i < n = omega (arith, p .high) in
+        true→T _ (is (getD l (p .i) 0) (near-nodes r (p .i) g) ∙ ap f (sym (getD-take n l (p .i) 0 g) ∙ p .is) ∙ T→true _ t)
+
+    has-stop : (L : List ℕ) (i : ℕ) → i < n → T (mem (getD l i 0) L) → T (has w (getD l i 0)) → T (any f L)
+    has-stop L i h u t = any-i f (mem-in (getD l i 0) L u) (true→T _ (sym (is (getD l i 0) (near-nodes r i h)) ∙ T→true _ t))
+
   -- a soiled stop at the i-th leg's beginning or before it: the leg is late
   to-late : (i : ℕ) → i < n - 1 → T (any (isSoiled d) (behind m (suc i))) → T (has (sh .late) (getD l i 0))
-  to-late i h = any-e (isSoiled d) (behind m (suc i)) (λ a u t.
-      let f = behind-found a m (suc i) (in-mem u) in
-      let g : f .i < n = omega (arith, f .high) in
-      let e = sym (getD-take n l (f .i) 0 g) ∙ f .is in
-      z .late (getD l i 0) .1 (record {
-        leg = i;
-        stop = f .i;
-        named = λ v. getD l i 0;
-        low = h;
-        order = omega (arith, f .high);
-        is = true→T _ (soiled-is (getD l (f .i) 0) (near-nodes r (f .i) g) ∙ ap (isSoiled d) e ∙ T→true _ t);
-      }))
+  to-late i h = any-e (isSoiled d) (behind m (suc i)) (λ a u t. let f = behind-found a m (suc i) (in-mem u) in
+      z .late (getD l i 0) .1 (record { leg = i; stop = f .i; named = refl; low = h; order = omega (arith, f .high); is = stop-has (j .soiled) (isSoiled d) soiled-is f (omega arith) t }))
 
   from-late : (q : ℕ) → T (has (sh .late) q) → (i : ℕ) × (i < n - 1) × (getD l i 0 ≡ q) × T (any (isSoiled d) (behind m (suc i)))
   from-late q t =
       let f = z .late q .0 t in
-      let g : f .stop < n = omega (arith, f .order, f .low) in (
-        f .leg,
-        f .low,
-        f .named,
-        any-i (isSoiled d) (mem-in (getD l (f .stop) 0) (behind m (suc (f .leg)))
-            (found-behind (getD l (f .stop) 0) m (suc (f .leg)) (record { i = f .stop; low = omega arith; high = omega (arith, f .order); is = getD-take n l (f .stop) 0 g })))
-            (true→T _ (sym (soiled-is (getD l (f .stop) 0) (near-nodes r (f .stop) g)) ∙ T→true _ (f .is))),
-      )
+      let g : f .stop < n = omega (arith, f .order, f .low) in
+      let p = found-behind (getD l (f .stop) 0) m (suc (f .leg)) (record { i = f .stop; low = omega arith; high = omega (arith, f .order); is = getD-take n l (f .stop) 0 g }) in
+      (f .leg, f .low, f .named, has-stop (j .soiled) (isSoiled d) soiled-is (behind m (suc (f .leg))) (f .stop) g p (f .is))
 
   -- a clean stop after it: the leg is early
   to-early : (i : ℕ) → i < n - 1 → T (any (isClean d) (drop (suc i) m)) → T (has (sh .early) (getD l i 0))
-  to-early i h = any-e (isClean d) (drop (suc i) m) (λ a u t.
-      let f = drop-found a m (suc i) (in-mem u) in
-      let g : f .i < n = omega (arith, f .high, size r) in
-      let e = sym (getD-take n l (f .i) 0 g) ∙ f .is in
-      z .early (getD l i 0) .1 (record {
-        leg = i;
-        stop = f .i;
-        named = λ v. getD l i 0;
-        low = omega (arith, g);
-        order = f .low;
-        is = true→T _ (clean-is (getD l (f .i) 0) (near-nodes r (f .i) g) ∙ ap (isClean d) e ∙ T→true _ t);
-      }))
+  to-early i h = any-e (isClean d) (drop (suc i) m) (λ a u t. let f = drop-found a m (suc i) (in-mem u) in
+      z .early (getD l i 0) .1 (record { leg = i; stop = f .i; named = refl; low = omega (arith, f .high, size r); order = f .low; is = stop-has (j .clean) (isClean d) clean-is f (omega (arith, size r)) t }))
 
   from-early : (q : ℕ) → T (has (sh .early) q) → (i : ℕ) × (i < n - 1) × (getD l i 0 ≡ q) × T (any (isClean d) (drop (suc i) m))
   from-early q t =
       let f = z .early q .0 t in
-      let o : f .leg < n - 1 = omega (arith, f .order, f .low) in
-      let g : f .stop < n = omega (arith, f .order, f .low) in (
-        f .leg,
-        o,
-        f .named,
-        any-i (isClean d) (mem-in (getD l (f .stop) 0) (drop (suc (f .leg)) m)
-            (found-drop (getD l (f .stop) 0) m (suc (f .leg)) (record { i = f .stop; low = f .order; high = omega (arith, g, size r); is = getD-take n l (f .stop) 0 g })))
-            (true→T _ (sym (clean-is (getD l (f .stop) 0) (near-nodes r (f .stop) g)) ∙ T→true _ (f .is))),
-      )
+      let g : f .stop < n = omega (arith, f .order, f .low) in
+      let p = found-drop (getD l (f .stop) 0) m (suc (f .leg)) (record { i = f .stop; low = f .order; high = omega (arith, g, size r); is = getD-take n l (f .stop) 0 g }) in
+      (f .leg, omega (arith, f .order, f .low), f .named, has-stop (j .clean) (isClean d) clean-is (drop (suc (f .leg)) m) (f .stop) g p (f .is))
 
   module _ (y : ℕ) (low : y < 64) where
     abbrev late : ℕ → Bool

@@ -8,8 +8,8 @@ use native.Mathlib.Omega.{arith}
 use lib.Dec.{leb, eqb}
 use lib.ListN.{getD, take, drop, length, length-take, drop-of-length-le}
 use lib.Seq.{getD-take, drop-cons}
-use borrow.Author.Tests.{eqb-true, eqb-false, eq-eqb, ne-eqb, leb-true}
-use Rattle.laws.proofs.Logic.{decided, and-true}
+use borrow.Author.Tests.{ne-eqb, leb-true}
+use Rattle.laws.proofs.Logic.{decided, and-true, eqb-turn}
 use Rattle.laws.proofs.Lists.{none-any}
 use Rattle.laws.proofs.Below.{below-same, below-tab}
 use Rattle.laws.proofs.Sum.{sum-zero}
@@ -32,8 +32,8 @@ use Rattle.verdict.proofs.Carry.{near}
 
 -- a load at a is never 0
 load-none : (x a w : ℕ) → loadOk w ≡ true → eqb (cond (eqb x a) w 0) 0 ≡ not (eqb a x)
-load-none x a w h = decided (eqb x a) (λ e. rw (e, eqb-true x a e, eq-eqb a a refl) (ne-eqb w 0 (λ z. absurd (omega (arith, leb-true 1 w (and-true (leb 1 w) (leb w 1000) h .0))))))
-    (λ e. rw (e, ne-eqb a x (λ z. eqb-false x a e (sym z))))
+load-none x a w h = rw (← eqb-turn x a) (decided (eqb x a)
+    (λ e. rw e (ne-eqb w 0 (λ z. absurd (omega (arith, leb-true 1 w (and-true (leb 1 w) (leb w 1000) h .0)))))) (λ e. rw e))
 
 clean-none : (n x : ℕ) (j : Job) → jobFine n j ≡ true → eqb (cleanLoad x j) 0 ≡ not (cleanAt x j)
 clean-none n x (Clean a w) h = load-none x a w (and-true (isInner n a) (loadOk w) h .1)
