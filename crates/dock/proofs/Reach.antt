@@ -23,7 +23,7 @@ use Rattle.day.specs.Refuse.{callRefusal}
 use Rattle.day.proofs.RefuseLaws.{call-fine}
 use Rattle.day.specs.Tell.{dayOf, vanOf, admitted}
 use Rattle.board.specs.Board.{Board, boardOf, placesOf, setOf}
-use Rattle.board.specs.Held.{Held, Words, Sound}
+use Rattle.board.specs.Held.{Held, Words}
 use Rattle.board.specs.declared.State.{State}
 use Rattle.trail.proofs.Bound.{records-bound}
 use Rattle.trail.proofs.Still.{move-still}
@@ -31,7 +31,7 @@ use Rattle.stands.specs.Stands.{planOf}
 use Rattle.listing.specs.Text.{stepLine}
 use Rattle.fleet.specs.Fleet.{stateIn, boardIn, trailIn, HeldAll}
 use Rattle.fleet.specs.Form.{inFormAll, formWithAll}
-use Rattle.fleet.specs.Rows.{figuresIn, rowState, rowBoard, fleetWith, Rows, Figured, ReadyAll}
+use Rattle.fleet.specs.Rows.{figuresIn, rowState, fleetWith, Rows, Figured, ReadyAll}
 use Rattle.fleet.specs.Sums.{placesAll, recordsAll, allServed}
 use Rattle.fleet.specs.declared.Fleet.{Fleet}
 use Rattle.fleet.proofs.FleetLaws.{state-of}
@@ -191,16 +191,6 @@ module _ {sheet : List ℕ} {at : Layout} {t : List ℕ} (z : callRefusal sheet 
   pub summing : {told : List (List ℕ)} → ToldAll sheet (fleetWith routes sets levels figures) told
       → (at .vans ≤ mostVans) × ((j : ℕ) → j < at .vans → (getD (getD told j []) 0 0 ≤ 4096) × (getD (getD told j []) 1 0 ≤ 4096))
   summing w = (omega (arith, l .vans, l .fine .vans-high), λ j h. told-few z p w j (omega (arith, h, l .vans)))
-
-  -- what is asked of the boards for the wards that must go somewhere
-  pub serving : (1 ≤ at .vans) × (at .vans ≤ mostVans) × (2 ≤ at .nodes) × Figured figures × ((j : ℕ) → j < at .vans → Sound (at .nodes) (rowBoard routes sets figures j))
-  serving = (
-    omega (arith, l .vans, l .fine .vans-low),
-    omega (arith, l .vans, l .fine .vans-high),
-    omega (arith, l .nodes, l .fine .n-low),
-    figured,
-    λ j h. subst (λ (n : ℕ). Sound n (rowBoard routes sets figures j)) (sym (l .nodes)) (readied .each j (omega (arith, h, l .vans))),
-  )
 
   -- a step more: a van whose records are those of before is told as before
   pub told-on : {told : List (List ℕ)} (word a b : ℕ) {k r : ℕ} {t′ : List ℕ} (routes′ sets′ levels′ figures′ : List (List ℕ))

@@ -118,7 +118,7 @@ fn put_lines(
         let o = step_at(sheet, at, i, routes, sets, levels, figures, trail);
         tell_vans(sheet, at, jobs, routes, sets, figures, false, &mut told);
         let sums = sum_up(&told, at.vans);
-        let all = served(routes, sets, figures, at.nodes, at.vans);
+        let all = served(routes, sets, figures, at.vans);
         used = put_line(out, used, i, o.answer, o.rounds, sums, all);
         i += 1;
     }

@@ -24,12 +24,10 @@ use Rattle.board.specs.Form.{inForm}
 use Rattle.board.specs.declared.State.{State}
 use Rattle.board.proofs.RouteLaws.{word-find}
 use Rattle.board.proofs.FormLaws.{on-word, in-form}
-use Rattle.board.proofs.Keep.{must-inner}
-use Rattle.board.specs.Held.{Sound, FormedBoard, Wide}
+use Rattle.board.specs.Held.{Sound, Wide}
 use Rattle.board.proofs.TestLaws.{outer, outer-first}
-use Rattle.fleet.specs.Fleet.{stateIn, boardIn}
+use Rattle.fleet.specs.Fleet.{boardIn}
 use Rattle.fleet.specs.Form.{hasWard, sharesNone}
-use Rattle.fleet.specs.Sums.{allServed}
 use Rattle.fleet.specs.Wards.{Nodes, HasWards, AddsVan}
 use Rattle.fleet.specs.declared.Fleet.{Fleet}
 use Rattle.fleet.specs.declared.wards.Wards.{Wards}
@@ -130,7 +128,7 @@ adds-any n w route stops sets marks must r a = record { placed = a .placed; reac
 -- ---- the wards of all vans so far
 
 -- some number below i + 1 passes: one below i does, or i
-any-next : (i : ℕ) (f : ℕ → Bool) → anyBelow (i + 1) f ≡ anyBelow i f || f i
+pub any-next : (i : ℕ) (f : ℕ → Bool) → anyBelow (i + 1) f ≡ anyBelow i f || f i
 unfolding anyBelow
 any-next i f = rw add-one refl
 
@@ -220,23 +218,10 @@ module _ (n : ℕ) (small : n ≤ 64) (f : Fleet) (j : ℕ) (w r : Wards) (h : H
       go true a b = refl
       go false a b = refl
 
--- ---- the wards that must go somewhere
+-- ---- what a board in form knows of its route
 
--- what a board in form knows of its route
 pub sound-nodes : (n : ℕ) (b : Board) → Sound n b → Nodes n (b .stops) (b .route)
 sound-nodes n b s = (s .small, omega (arith, s .small, s .form .route .most), s .wide .route, s .form .route .below)
 
 pub form-nodes : (n : ℕ) (s : State) → n ≤ 64 → Wide (boardOf s) → inForm n s ≡ true → Nodes n (s .stops) (s .route)
 form-nodes n s small wide e = sound-nodes n (boardOf s) (record { small = small; wide = wide; form = in-form n s small wide e .board })
-
-pub served-none : (v : ℕ) (f : Fleet) → stateIn f 0 .must ≡ 0 → allServed v f ≡ true
-unfolding allServed
-served-none v f e = below-make 64 (λ y. not (has (stateIn f 0 .must) y) || anyBelow v (λ j. hasWard (boardIn f j) y)) (λ y l. rw (e, has-none y) refl)
-
-pub served-is : (n v : ℕ) (f : Fleet) (w : Wards) → HasWards n v f w → FormedBoard n (boardIn f 0) → within (stateIn f 0 .must) (w .reached) ≡ allServed v f
-unfolding allServed within
-served-is n v f w h b =
-    below-same 64 _ _ (λ y l.
-    decided (has (stateIn f 0 .must) y)
-    (λ m. rw (m, h .reached y, must-inner n (boardIn f 0) b y l m) refl)
-    (λ m. rw m refl))

@@ -7,12 +7,13 @@ ghost use Rattle.rules.specs.Numbers.{mostVans};
 ghost use Rattle.rules.specs.Fleet.{aliveAll};
 ghost use Rattle.sheet.specs.Section.{vansOf};
 ghost use Rattle.day.specs.Tell.{vanOf, dayOf};
-ghost use Rattle.board.specs.Held.{Ends, Sound};
+ghost use Rattle.board.specs.Held.{Ends};
 ghost use Rattle.fleet.specs.Sums.{plansIn, placesAll, allServed};
-ghost use Rattle.fleet.specs.Rows.{rowBoard, fleetWith, Figured, ReadyAll};
+ghost use Rattle.fleet.specs.Rows.{figuresIn, fleetWith, Figured, ReadyAll};
+ghost use Rattle.fleet.specs.Wards.{Nodes};
 use crate::Fleet;
 use crate::rows::figures_in;
-use crate::wards::gather;
+use crate::wards::missed;
 use along::nodes::Jobs;
 use along::nodes::by_node;
 use board::Figures;
@@ -36,23 +37,29 @@ pub fn places(sets: &[[u64; Node::MOST]; Fleet::VANS], n: usize, v: usize) -> us
     k
 }
 
-// Whether every ward that must go somewhere is placed or open in some van.
+// Whether every ward that must go somewhere is placed or open in some van. Van by van, those are left that no van so far has.
 pub fn served<'a>(
     routes: &'a [[usize; Node::MOST]; Fleet::VANS],
     sets: &'a [[u64; Node::MOST]; Fleet::VANS],
     figures: &'a [[u64; Figures::COUNT]; Fleet::VANS],
-    n: usize,
     v: usize,
 ) -> bool
-    requires { ⌜ (1 ≤ v) × (v ≤ mostVans) × (2 ≤ n) × Figured (now figures) × ((j : ℕ) → j < v → Sound n (rowBoard (now routes) (now sets) (now figures) j)) ⌝ }
+    requires { ⌜ (v ≤ mostVans) × Figured (now figures) ⌝ }
+    requires { ⌜ ((j : ℕ) → j < v → Nodes 64 (figuresIn (getD (now figures) j []) .stops) (getD (now routes) j [])) ⌝ }
     ensures { λ r. ⌜ ((levels : List (List ℕ)) → r ≡ allServed v (fleetWith (now (routes .entry)) (now (sets .entry)) levels (now (figures .entry)))) ⌝ }
 {
     let one = figures_in(&figures[0]);
-    if one.must == 0 {
-        return true;
+    let mut left = one.must;
+    let mut j = 0;
+    while left != 0 {
+        if j == v {
+            return false;
+        }
+        let f = figures_in(&figures[j]);
+        left = missed(left, &routes[j], &sets[j], f.stops);
+        j += 1;
     }
-    let w = gather(routes, sets, figures, n, v);
-    bits::within(one.must, w.reached)
+    true
 }
 
 // The verdict: dead if a van is, or if a ward that must go somewhere is placed or open in none.
@@ -79,5 +86,5 @@ pub fn alive<'a>(
         }
         j += 1;
     }
-    served(routes, sets, figures, at.nodes, v)
+    served(routes, sets, figures, v)
 }

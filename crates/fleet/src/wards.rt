@@ -1,4 +1,4 @@
-// What the vans have of the wards, each a word: those on a route, and those on a route or open.
+// What the vans have of the wards, each a word: those on a route, those on a route or open, and those that are neither.
 ghost use mathlib.Core.Path.{_≡_};
 ghost use mathlib.Core.Bool.{not, _&&_};
 ghost use mathlib.Core.List.{List, []};
@@ -8,6 +8,7 @@ ghost use lib.Dec.{eqb, ltb};
 ghost use Rattle.rules.specs.Numbers.{mostVans};
 ghost use Rattle.bits.specs.Places.{has, minus, within};
 ghost use Rattle.board.specs.Board.{board};
+ghost use Rattle.fleet.specs.Form.{hasWard};
 ghost use Rattle.fleet.specs.Rows.{figuresIn, fleetWith, Figured};
 ghost use Rattle.fleet.specs.Wards.{Nodes, HasWards, AddsVan};
 use crate::Fleet;
@@ -64,6 +65,30 @@ fn with_van<'a>(
         reached: bits::join(wards.reached, bits::join(on, open)),
         apart: wards.apart & apart(on, wards.reached) & apart(open, wards.placed),
     }
+}
+
+// The members of a set that a van has neither on its route nor open: its other wards are not looked at.
+pub fn missed<'a>(
+    members: u64,
+    route: &'a [usize; Node::MOST],
+    sets: &'a [u64; Node::MOST],
+    stops: usize,
+) -> u64
+    requires { ⌜ Nodes 64 stops (now route) ⌝ }
+    ensures { λ r. ⌜ ((marks must y : ℕ) → y < 64
+        → has r y ≡ has members y && not (hasWard (board (now (route .entry)) stops (now (sets .entry)) marks must) y)) ⌝ }
+{
+    let off = bits::minus(members, word(route, stops));
+    let mut kept = off;
+    let mut left = off;
+    while left != 0 {
+        let x = bits::lowest(left);
+        if sets[x] != 0 {
+            kept = bits::take(kept, x);
+        }
+        left = bits::rest(left);
+    }
+    kept
 }
 
 // The wards of v vans: one pass.

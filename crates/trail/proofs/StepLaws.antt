@@ -20,6 +20,7 @@ use Rattle.board.specs.Held.{InForm, Splits}
 use Rattle.board.specs.declared.State.{State}
 use Rattle.records.specs.Trail.{roomOf, shrunk}
 use Rattle.records.proofs.TrailLaws.{shrunk-still, note-still, Noted}
+use Rattle.records.proofs.UndoLaws.{many-none}
 use Rattle.trail.specs.Refusals.{placeShut, placeRefusal, excludeRefusal, requireRefusal, obligeRefusal}
 use Rattle.trail.specs.Steps.{Ran, answered, unlessRefused, settleStep, baseOf, undoLevel, dropped, backStep}
 
@@ -148,6 +149,11 @@ base-low n s f h = f .levels .held (s .depth - 1) (omega arith)
 pub back-none : (n : ℕ) (s : State) (t : List ℕ) → s .depth < 1 → backStep n s t ≡ answered refusal.DEPTH s t
 unfolding backStep orElse
 back-none n s t h = rw (le-ltb 0 (s .depth) (omega arith)) (step-no refusal.DEPTH s t _ (eqb-false refusal.DEPTH 0 refl))
+
+-- a level without a record: nothing is undone
+pub level-empty : (n : ℕ) (s : State) (t : List ℕ) → baseOf s ≡ s .records → undoLevel n s t ≡ (true, boardOf s)
+unfolding undoLevel
+level-empty n s t e = let k : s .records - baseOf s ≡ 0 = omega (arith, e) in rw k (many-none n (boardOf s) (s .records) t)
 
 module _ (n : ℕ) (s : State) (t : List ℕ) (f : Bool) (b : Board) (h : 0 < s .depth) (e : undoLevel n s t ≡ (f, b)) where
   pub back-misfit : f ≡ false → backStep n s t ≡ answered refusal.MISFIT s t

@@ -26,7 +26,7 @@ ghost use Rattle.board.specs.Held.{Sound};
 ghost use Rattle.records.specs.Trail.{roomOf, Alike};
 ghost use Rattle.trail.specs.Refusals.{placeRefusal, excludeRefusal};
 ghost use Rattle.records.specs.Undo.{Readable, undid};
-ghost use Rattle.trail.specs.Steps.{ran, asBefore, shrank, placeStep, closeStep, excludeStep, requireStep, settleStep, levelStep, dropped, backStep, obligeStep};
+ghost use Rattle.trail.specs.Steps.{answered, ran, asBefore, shrank, placeStep, closeStep, excludeStep, requireStep, settleStep, levelStep, dropped, backStep, obligeStep};
 
 // Nothing changed: refused with a number, or 0 where nothing was to be done.
 pub fn same(answer: usize, f: Figures) -> Outcome
@@ -280,25 +280,44 @@ pub fn oblige(f: Figures, n: usize, x: usize, trail: &mut [u64]) -> Outcome
     }
 }
 
-// The last level dropped, once the records above it are undone: the numbers of the state before it.
-pub fn drop_level(levels: &mut [usize; State::LEVELS], f: Figures, u: Undone) -> Figures
+// No record undone.
+fn untouched(f: Figures) -> Undone
+    ensures { λ r. ⌜ r ≡ record { fits = true; stops = f .stops; marks = f .marks; must = f .must; legs = 0 } ⌝ }
+{
+    Undone {
+        fits: true,
+        stops: f.stops,
+        marks: f.marks,
+        must: f.must,
+        legs: 0,
+    }
+}
+
+// The last level dropped, once the records above it are undone: the state before it.
+fn drop_level(levels: &mut [usize; State::LEVELS], f: Figures, u: Undone) -> Outcome
     requires { ⌜ (0 < f .depth) × (f .depth ≤ 64) × (length (now levels) ≡ 64) ⌝ }
-    ensures { λ r. ⌜ ((stops places route sets : List ℕ) →
-        stateWith route sets (now (levels .exit)) r ≡ dropped (stateWith stops places (now (levels .entry)) f) (undid u route sets .1)) ⌝ }
+    ensures { λ r. ⌜ ((stops places route sets t : List ℕ)
+        → answered 0 (dropped (stateWith stops places (now (levels .entry)) f) (undid u route sets .1)) t ≡ ran r route sets (now (levels .exit)) t) ⌝ }
 {
     let d = f.depth - 1;
     let base = levels[d];
     levels[d] = 0;
-    Figures {
+    let after = Figures {
         stops: u.stops,
         marks: u.marks,
         must: u.must,
         depth: d,
         records: base,
+    };
+    Outcome {
+        answer: 0,
+        rounds: 0,
+        after: after,
     }
 }
 
-// Step back: undo to the last level and drop it. The undoing is tried on copies, since a record that does not fit refuses all.
+// Step back: undo to the last level and drop it. The undoing is tried on copies, since a record that does not fit refuses all. Where the level has no
+// record, as in most vans of a fleet, nothing is copied.
 pub fn back(
     route: &mut [usize; Node::MOST],
     sets: &mut [u64; Node::MOST],
@@ -317,6 +336,9 @@ pub fn back(
         return same(Refusal::DEPTH, f);
     }
     let base = levels[depth - 1];
+    if base == f.records {
+        return drop_level(levels, f, untouched(f));
+    }
     let mut stops = *route;
     let mut places = *sets;
     let u = undo_many(&mut stops, &mut places, f, n, base, trail);
@@ -325,10 +347,5 @@ pub fn back(
     }
     *route = stops;
     *sets = places;
-    let after = drop_level(levels, f, u);
-    Outcome {
-        answer: 0,
-        rounds: 0,
-        after: after,
-    }
+    drop_level(levels, f, u)
 }

@@ -6,12 +6,13 @@ use lib.ListN.{length}
 use Rattle.bits.proofs.Members.{false-true}
 use Rattle.fleet.specs.Rows.{fleetWith, RowsOf, Rows, Figured}
 use Rattle.fleet.specs.declared.Fleet.{Fleet}
+use Rattle.fleet.proofs.ServedLaws.{serving}
 use Rattle.listing.specs.Put.{Put}
 use Rattle.listing.proofs.TextLaws.{step-takes}
 use Rattle.dock.specs.Listing.{comeTo, linesOf, Reached}
 use Rattle.telling.specs.Told.{ToldAll}
 use Rattle.telling.proofs.VanLaws.{told-none}
-use Rattle.dock.proofs.Reach.{begun, readied, goes-on, line-is, summing, serving, told-on}
+use Rattle.dock.proofs.Reach.{begun, readied, goes-on, line-is, summing, told-on}
 use Rattle.dock.proofs.LineLaws.{come-none, come-next, lines-none, lines-next}
 use borrow.Author.Needs.{needs}
 use Rattle.dock.proofs.lines.put_lines.Statement.{statement}
@@ -113,7 +114,7 @@ served-requires : tie.Need-served-requires Inv-loop μ-loop
 served-requires c κs =
     let p = c .before .before .before .before .before .before .before .before .before .before .before .before in
     let d = start p in
-    serving (d .pre .0 .0) (d .pre .0 .1) (routes-at p) (sets-at p) (levels-at p) (figures-at p) (p .step-at .ensures .1 .3) (on p)
+    serving (readied (d .pre .0 .0) (d .pre .0 .1) (routes-at p) (sets-at p) (levels-at p) (figures-at p) (p .step-at .ensures .1 .3) (on p))
 
 put-line-requires : tie.Need-put-line-requires Inv-loop μ-loop
 put-line-requires c κs =

@@ -21,6 +21,7 @@ use Rattle.fleet.specs.Sums.{plansIn, allServed}
 use Rattle.fleet.specs.Rows.{rowState, rowBoard, fleetWith}
 use Rattle.fleet.proofs.FleetLaws.{state-of}
 use Rattle.fleet.proofs.PlanLaws.{alive-all}
+use Rattle.fleet.proofs.ServedLaws.{serving}
 use Rattle.fleet.proofs.sums.alive.Statement.{statement}
 use Rattle.fleet.proofs.sums.alive.Tie as tie
 
@@ -136,15 +137,7 @@ loop-again c =
     (omega arith, v .1, below-goes (d .loop .j) _ (v .2) (passed (c .before)) (c .if1 .left))
 
 served-requires : tie.Need-served-requires Inv-loop μ-loop
-served-requires c κs =
-    let s = c .before .before .before .before .before in
-    let f = s .pre .laid .fine in (
-      omega (arith, s .pre .laid .vans, f .vans-low),
-      omega (arith, s .pre .laid .vans, f .vans-high),
-      omega (arith, s .pre .laid .nodes, f .n-low),
-      s .pre .figured,
-      λ j l. subst (λ (n : ℕ). Sound n (rowBoard (s .args .routes .now) (s .args .sets .now) (s .args .figures .now) j)) (sym (s .pre .laid .nodes)) (s .pre .each j (omega (arith, s .pre .laid .vans, l))),
-    )
+served-requires c κs = serving (c .before .before .before .before .before .pre)
 
 returns-2 : tie.Need-returns-2 Inv-loop μ-loop
 returns-2 c =

@@ -1,12 +1,11 @@
-use mathlib.Core.Path.{sym, ap, _∙_}
+use mathlib.Core.Path.{refl, _∙_}
 use native.Mathlib.Omega.{arith}
 use borrow.Author.Tests.{not-true, not-false}
 use Rattle.board.specs.Board.{stateWith}
 use Rattle.board.proofs.FormLaws.{in-form, form-with}
 use Rattle.board.specs.Held.{InForm}
-use Rattle.board.specs.declared.State.{State}
-use Rattle.trail.specs.Steps.{answered, baseOf, undoLevel}
-use Rattle.trail.proofs.StepLaws.{base-low, back-none, back-misfit, back-fits}
+use Rattle.trail.specs.Steps.{baseOf, undoLevel}
+use Rattle.trail.proofs.StepLaws.{base-low, level-empty, back-none, back-misfit, back-fits}
 use borrow.Author.Needs.{needs}
 use Rattle.trail.proofs.steps.back.Statement.{statement}
 use Rattle.trail.proofs.steps.back.Tie as tie
@@ -26,36 +25,53 @@ mul-base c = omega (arith, form c .levels .most)
 element-copy-out-base : tie.Need-element-copy-out-base
 element-copy-out-base c = omega (arith, form c .levels .most)
 
+untouched-requires : tie.Need-untouched-requires
+untouched-requires c κs = search needs
+
+drop-level-requires : tie.Need-drop-level-requires
+drop-level-requires c κs =
+    let e = c .before .before .before .before .before in
+    (e .if1 .left, form e .levels .most, e .before .before .pre .0 .1)
+
+returns-2 : tie.Need-returns-2
+unfolding baseOf
+returns-2 c =
+    let u = c .before in
+    let t = u .before .before in
+    let e = t .before .before .before in
+    let a = e .before .before .args in
+    back-fits _ _ _ _ _ (e .if1 .left) (level-empty _ _ _ (t .if2 .taken)) refl
+    ∙ rw (u .untouched .ensures) at (c .drop-level .ensures (a .route .now) (a .sets .now) (a .route .now) (a .sets .now) (a .trail .now))
+
 undo-many-requires : tie.Need-undo-many-requires
 unfolding baseOf
 undo-many-requires c κs =
-    let e = c .before .before .before .before .before in
+    let e = c .before .before .before .before .before .before .before in
     let h = e .before .before .pre in
     (h .0 .0, base-low _ _ (form e) (e .if1 .left), form-with _ _ _ (h .1) .1)
 
 same-requires-2 : tie.Need-same-requires-2
 same-requires-2 c κs = search needs
 
-returns-2 : tie.Need-returns-2
-unfolding undoLevel baseOf
-returns-2 c =
-    let u = c .before .before .before in
-    let e = u .before .before .before .before .before .before in
-    rw (c .same2 .ensures) (back-misfit _ _ _ _ _ (e .if1 .left) (u .undo-many .ensures) (not-true _ (c .before .if2 .taken)))
-
-drop-level-requires : tie.Need-drop-level-requires
-drop-level-requires c κs =
-    let e = c .before .before .before .before .before .before .before .before .before in
-    (e .if1 .left, form e .levels .most, e .before .before .pre .0 .1)
-
 returns-3 : tie.Need-returns-3
 unfolding undoLevel baseOf
 returns-3 c =
+    let u = c .before .before .before in
+    let e = u .before .before .before .before .before .before .before .before in
+    rw (c .same2 .ensures) (back-misfit _ _ _ _ _ (e .if1 .left) (u .undo-many .ensures) (not-true _ (c .before .if3 .taken)))
+
+drop-level-requires-2 : tie.Need-drop-level-requires-2
+drop-level-requires-2 c κs =
+    let e = c .before .before .before .before .before .before .before .before .before .before .before in
+    (e .if1 .left, form e .levels .most, e .before .before .pre .0 .1)
+
+returns-4 : tie.Need-returns-4
+unfolding undoLevel baseOf
+returns-4 c =
     let l = c .before .before in
     let u = l .before .before in
-    let e = u .before .before .before .before .before .before in
-    back-fits _ _ _ _ _ (e .if1 .left) (u .undo-many .ensures) (not-false _ (l .if2 .left))
-    ∙ ap (λ (q : State). answered 0 q (e .before .before .args .trail .now)) (sym (c .drop-level .ensures _ _ _ _))
+    let e = u .before .before .before .before .before .before .before .before in
+    back-fits _ _ _ _ _ (e .if1 .left) (u .undo-many .ensures) (not-false _ (l .if3 .left)) ∙ c .drop-level2 .ensures _ _ _ _ _
 
 pub back-spec : {M : Type 1} → statement M
 back-spec =
@@ -65,8 +81,11 @@ back-spec =
     returns
     mul-base
     element-copy-out-base
+    untouched-requires
+    drop-level-requires
+    returns-2
     undo-many-requires
     same-requires-2
-    returns-2
-    drop-level-requires
-    returns-3)
+    returns-3
+    drop-level-requires-2
+    returns-4)

@@ -21,7 +21,7 @@ element-write-levels c = search needs
 
 returns : tie.Need-returns
 unfolding dropped baseOf
-returns c = λ stops places route sets. refl
+returns c = λ stops places route sets t. refl
 
 pub drop-level-spec : {M : Type 1} → statement M
 drop-level-spec =
