@@ -68,7 +68,8 @@ static u64 read_limits(Reader *r, Sheet *s)
         s->classes |= class;
     }
     s->profile = word(e);
-    return bad | (s->profile > 1) ? 3 : 0;
+    bad |= s->profile > 1;
+    return bad ? 3 : 0;
 }
 
 static u64 read_nodes(Reader *r, Sheet *s)
