@@ -38,6 +38,7 @@
 
 #include "plain/types.h"
 #include "plain/sheet.h"
+#include "plain/triangle.h"
 #include "plain/open.h"
 #include "plain/form.h"
 #include "plain/route.h"

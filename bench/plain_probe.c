@@ -4,6 +4,7 @@
 #include "plain/types.h"
 #include "plain/sheet.h"
 #include "plain/section.h"
+#include "plain/triangle.h"
 #include "plain/open.h"
 #include "plain/form.h"
 #include "plain/route.h"

@@ -1,27 +1,4 @@
-/* Opening: the triangles, and the fresh fleet. */
-
-static i32 square[MOST_NODES][MOST_NODES];
-
-/* Two rows at a time, both ways round: what (i, k) is above (j, k) must be within (i, j), and the
-   other way within (j, i); what is left of either is negative if the rule is broken. With a
-   diagonal of 0, triples that are not different can never break it, so nothing is asked of k. */
-static int triangle_broken(const u8 *table, u64 n)
-{
-    i32 bad = 0;
-    for (u64 i = 0; i < n; i++) {
-        for (u64 k = 0; k < n; k++) square[i][k] = (i32)word(table + 4 * (i * n + k));
-        square[i][i] = 0;
-    }
-    for (u64 i = 1; i < n && bad >= 0; i++)
-        for (u64 j = 0; j < i; j++) {
-            i32 there = square[i][j], back = square[j][i];
-            for (u64 k = 0; k < n; k++) {
-                i32 above = square[i][k] - square[j][k];
-                bad |= (there - above) | (back + above);
-            }
-        }
-    return bad < 0;
-}
+/* Opening: the triangles of both tables, and the fresh fleet. */
 
 /* A ward is open in the vans that it admits. */
 static void fresh(const Sheet *s, Fleet *fleet)

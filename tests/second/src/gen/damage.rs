@@ -134,6 +134,19 @@ pub fn triangle(rng: &mut Rng, draft: &mut Draft) {
     table[i * n + k] = round.saturating_add(more).min(1_000_000);
 }
 
+/// One entry above the shortest way round by 1, or just not above it.
+pub fn one_way(rng: &mut Rng, draft: &mut Draft) {
+    let n = draft.n();
+    let any = rng.below(n);
+    let to = *rng.pick(&[0, n - 1, any, any]);
+    let from = (to + 1 + rng.below(n - 1)) % n;
+    let table = if rng.one_in(2) { &mut draft.seconds } else { &mut draft.metres };
+    let others = (0..n).filter(|&by| by != from && by != to);
+    let round = others.map(|by| table[from * n + by] + table[by * n + to]).min().unwrap_or(0);
+    let more = *rng.pick(&[0, 1, 1, 1]);
+    table[from * n + to] = (round + more).min(1_000_000);
+}
+
 /// Bytes cut off, words cut off, words added, or half words.
 pub fn length(rng: &mut Rng, bytes: &mut Vec<u8>) {
     match rng.below(5) {

@@ -14,6 +14,7 @@ pub fn case(seed: u64, number: u64) -> Case {
     let mut rng = Rng::of(seed, number);
     let rng = &mut rng;
     match number % 25 {
+        2 if number % 2 == 0 => one_way_too_long(rng),
         0..=2 => opening(rng),
         3 | 10 => stepping(rng, true),
         4 => section(rng),
@@ -111,6 +112,17 @@ fn opening(rng: &mut Rng) -> Case {
     let fleet = if rng.one_in(4) { fleets::garbage(rng) } else { Fleet::all_open(5, 3) };
     let trail = (0..rng.below(5)).map(|_| rng.any()).collect();
     Case { question: OPEN, words: [rng.any(), 1, 2], fleet, bytes, trail }
+}
+
+/// A sheet of any size, often of a few nodes more than a round number, that opens but for one way;
+/// often one to the last node or the first, so that a look that ends too early is seen.
+fn one_way_too_long(rng: &mut Rng) -> Case {
+    let few = 8 * (1 + rng.below(7)) + 1 + rng.below(2);
+    let any = 3 + rng.below(62);
+    let size = *rng.pick(&[few, any, any]);
+    let mut made = sheets::plain(rng, size, 1);
+    damage::one_way(rng, &mut made);
+    Case { question: OPEN, words: [0; 3], fleet: Fleet::zero(), bytes: made.bytes(), trail: vec![] }
 }
 
 /// The number stands in all three words, so that it does not matter which one is read.
