@@ -14,14 +14,14 @@ use Rattle.laws.proofs.Logic.{decided}
 use Rattle.laws.specs.Basic.{mem, sumBelow, peak, tab, Filled}
 use Rattle.laws.proofs.Sum.{sum-next, sum-same, sum-most}
 use Rattle.laws.proofs.Peak.{peak-next, peak-same}
-use Rattle.laws.proofs.Table.{filled-none, filled-more}
+use Rattle.laws.proofs.Table.{same-entries, filled-none, filled-more}
 use Rattle.rules.specs.Load.{loadOf, aboard, sum}
 use Rattle.rules.specs.Rounds.{Distinct}
 use Rattle.rules.specs.Along.{behind}
 use Rattle.rules.specs.declared.Job.{Job}
 use Rattle.rules.specs.declared.Job.the-variants.{Clean, Soiled, Transfer}
 use Rattle.along.specs.Spots.{Spots}
-use Rattle.along.proofs.SpotLaws.{same-entries, rides, aboard-is}
+use Rattle.along.proofs.SpotLaws.{rides, aboard-is}
 use Rattle.along.specs.Loads.{more, stowFirst, stowOn, stowOff, running, Flows}
 
 -- ---- the jobs one after the other, and all of them

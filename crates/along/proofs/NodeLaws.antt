@@ -18,7 +18,7 @@ use Rattle.rules.specs.declared.Job.{Job}
 use Rattle.rules.specs.declared.Job.the-variants.{Clean, Soiled, Transfer}
 use Rattle.day.specs.Seen.{Placed}
 use Rattle.along.specs.Nodes.{cleanLoad, soiledLoad, firstLoad, secondLoad, mateOr, mateIn, Entered, ByNode, Mates}
-use Rattle.along.proofs.SpotLaws.{same-entries}
+use Rattle.laws.proofs.Table.{same-entries}
 
 -- ---- one job more
 

@@ -11,6 +11,7 @@ use lib.ListN.{getD, set, replicate, take, drop, length, length-take, length-set
 use lib.Seq.{ext-getD, getD-set-same, getD-set-other, getD-take}
 use borrow.Author.Tests.{eqb-true, eqb-false, eq-eqb, ltb-true, ltb-false}
 use Rattle.laws.proofs.Logic.{decided, T-ext, and-i, and-l, and-r, or-l, or-r, or-e, true→T}
+use Rattle.laws.proofs.Table.{same-entries}
 use Rattle.laws.specs.Basic.{mem}
 use Rattle.rules.specs.Rounds.{Distinct, none, more}
 use Rattle.rules.specs.Along.{behind}
@@ -28,12 +29,6 @@ spot-in (y ∷ a) (suc x) h = spot-in a x (omega arith)
 
 pub spot-node : (a : List ℕ) (x : ℕ) → length a ≡ 64 → x < 64 → getD a x 0 ≡ getD a x 64
 spot-node a x n h = spot-in a x (omega arith)
-
--- every entry of an array of one number, and what stands for those past it
-pub same-entries : (a k x : ℕ) → getD (replicate k a) x a ≡ a
-same-entries a zero x = refl
-same-entries a (suc k) zero = refl
-same-entries a (suc k) (suc x) = same-entries a k x
 
 pub spots-none : (l : List ℕ) → Spots l 0 (replicate 64 64)
 unfolding spot

@@ -19,7 +19,7 @@ use Rattle.rules.specs.Class.{oneBit, classSet}
 use Rattle.rules.specs.Day.{Day}
 use Rattle.rules.specs.declared.Van.{Van}
 use Rattle.tables.specs.Cell.{Table, cell}
-use Rattle.tables.proofs.RowLaws.{row-low, entry-low}
+use Rattle.tables.proofs.TableLaws.{row-low, entry-low}
 use Rattle.day.specs.Tell.{vanOf, bitOf, nodeAt, classOf, dayOf, Told, jobIn}
 
 pub record Limits (v : Van) : Type 0 where

@@ -91,6 +91,14 @@ below-split n f u s (suc k) h =
 pub below-all : (n : ℕ) (f u : ℕ → Bool) → ((i : ℕ) → i < n → u i ≡ (f i && u (suc i))) → u n ≡ true → u 0 ≡ allBelow n f
 below-all n f u s e = sym (below-split n f u s n (le-refl n)) ∙ ap (λ (b : Bool). allBelow n f && b) e ∙ and-true (allBelow n f)
 
+-- k numbers, and m more
+pub below-join : (k m : ℕ) (f : ℕ → Bool) → allBelow (k + m) f ≡ (allBelow k f && allBelow m (λ v. f (k + v)))
+unfolding allBelow
+below-join k zero f = let e : k + 0 ≡ k = omega arith in rw e (sym (and-true (allBelow k f)))
+below-join k (suc m) f =
+    let e : k + suc m ≡ suc (k + m) = omega arith in
+    rw e (ap (λ (b : Bool). b && f (k + m)) (below-join k m f) ∙ and-assoc (allBelow k f) (allBelow m (λ v. f (k + v))) (f (k + m)))
+
 -- a test of two parts is the two tests
 pub below-both : (n : ℕ) (f g h : ℕ → Bool) → ((i : ℕ) → h i ≡ (f i && g i)) → allBelow n h ≡ (allBelow n f && allBelow n g)
 unfolding allBelow

@@ -7,7 +7,7 @@ use Rattle.laws.specs.Basic.{tab, Filled, In, here, there}
 use native.Mathlib.Nat.{le-of-suc-le-suc, not-suc-le-zero, ne-of-lt}
 use native.Mathlib.Omega.{arith}
 use borrow.Author.Count.{below-more}
-use lib.ListN.{length, getD, set, length-set}
+use lib.ListN.{length, getD, set, replicate, length-set}
 use lib.Seq.{getD-set-same, getD-set-other}
 
 pub length-tab : {A : Type 0} (n : ℕ) (f : ℕ → A) → length (tab n f) ≡ n
@@ -20,6 +20,12 @@ unfolding tab
 getD-tab zero f d k l = absurd (not-suc-le-zero l)
 getD-tab (suc n) f d zero l = refl
 getD-tab (suc n) f d (suc k) l = getD-tab n (λ j. f (suc j)) d k (le-of-suc-le-suc l)
+
+-- every entry of an array of one number, and what stands for those past it
+pub same-entries : (a k x : ℕ) → getD (replicate k a) x a ≡ a
+same-entries a zero x = refl
+same-entries a (suc k) zero = refl
+same-entries a (suc k) (suc x) = same-entries a k x
 
 pub filled-none : {A : Type 0} (n : ℕ) (f : ℕ → A) (d : A) (l : List A) → length l ≡ n → Filled n f d 0 l
 filled-none n f d l e = record { long = e; at = λ k h. absurd (not-suc-le-zero h) }

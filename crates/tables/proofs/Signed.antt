@@ -69,29 +69,29 @@ sign-or a b =
 pub sign-more : (x : ℕ) (z : ℤ) → mag z < 2147483648 → leZ (pos 0) (toZ w32 (bitOr x (ofZ w32 z))) ≡ (leZ (pos 0) (toZ w32 x) && leZ (pos 0) z)
 sign-more x z h = sign-or x (ofZ w32 z) ∙ ap (λ (y : ℤ). leZ (pos 0) (toZ w32 x) && leZ (pos 0) y) (toZ-ofZ {w = w32} {z = z} (record { sfits = h }))
 
--- ---- a and w are entries of two rows, v is what was read of w; t and b are the ways between the rows
-module _ {a w v t b : ℕ} (ha : a ≤ 2000000) (hw : w ≤ 1000000) (r : v ≡ w) (ht : t ≤ 1000000) (hb : b ≤ 1000000) where
-  above-is : toZ w32 a -ℤ toZ w32 v ≡ subℕ a w
-  above-is = rw (r, toZ-pos w32 {n = a} (omega arith), toZ-pos w32 {n = w} (omega arith)) (sub-is a w)
+-- ---- a and w are entries of two rows; t and b are the ways between the rows
+module _ {a w t b : ℕ} (ha : a ≤ 1000000) (hw : w ≤ 1000000) (ht : t ≤ 1000000) (hb : b ≤ 1000000) where
+  below-is : toZ w32 w -ℤ toZ w32 a ≡ subℕ w a
+  below-is = rw (toZ-pos w32 {n = w} (omega arith), toZ-pos w32 {n = a} (omega arith)) (sub-is w a)
 
-  pub above-fits : SFits w32 (toZ w32 a -ℤ toZ w32 v)
-  above-fits = rw above-is (record { sfits = omega (arith, sub-low a w) })
+  pub below-fits : SFits w32 (toZ w32 w -ℤ toZ w32 a)
+  below-fits = rw below-is (record { sfits = omega (arith, sub-low w a) })
 
-  above-back : toZ w32 (ofZ w32 (toZ w32 a -ℤ toZ w32 v)) ≡ subℕ a w
-  above-back = toZ-ofZ above-fits ∙ above-is
+  below-back : toZ w32 (ofZ w32 (toZ w32 w -ℤ toZ w32 a)) ≡ subℕ w a
+  below-back = toZ-ofZ below-fits ∙ below-is
 
   -- what is left of the way there, and of the way back
   abbrev there : ℤ
-  there = toZ w32 t -ℤ toZ w32 (ofZ w32 (toZ w32 a -ℤ toZ w32 v))
+  there = toZ w32 t +ℤ toZ w32 (ofZ w32 (toZ w32 w -ℤ toZ w32 a))
 
   abbrev back : ℤ
-  back = toZ w32 b +ℤ toZ w32 (ofZ w32 (toZ w32 a -ℤ toZ w32 v))
+  back = toZ w32 b -ℤ toZ w32 (ofZ w32 (toZ w32 w -ℤ toZ w32 a))
 
   there-is : there ≡ subℕ (t + w) a
-  there-is = rw (above-back, toZ-pos w32 {n = t} (omega arith)) (sub-from t a w)
+  there-is = rw (below-back, toZ-pos w32 {n = t} (omega arith)) (sub-on t w a)
 
   back-is : back ≡ subℕ (b + a) w
-  back-is = rw (above-back, toZ-pos w32 {n = b} (omega arith)) (sub-on b a w)
+  back-is = rw (below-back, toZ-pos w32 {n = b} (omega arith)) (sub-from b w a)
 
   pub there-fits : SFits w32 there
   there-fits = rw there-is (record { sfits = omega (arith, sub-low (t + w) a) })

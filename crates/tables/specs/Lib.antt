@@ -1,3 +1,3 @@
--- Cell: a table of a sheet and its entries. For contracts: Row (one row held as numbers).
+-- Cell: a table of a sheet and its entries. For contracts: Square (a table held as numbers).
 pub mod Cell
-pub mod Row
+pub mod Square

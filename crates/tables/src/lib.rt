@@ -1,84 +1,136 @@
 // The tables of a sheet, and the triangle rule over them.
 ghost use mathlib.Core.Path.{_≡_};
-ghost use mathlib.Core.Bool.{true};
 ghost use Prim.Native.Nat.{_+_, _*_, _<_, _≤_};
-ghost use lib.ListN.{length, getD, set};
+ghost use lib.ListN.{length};
 ghost use lib.IntN.{pos};
 ghost use lib.Signed.{leZ};
-ghost use Rattle.laws.specs.Basic.{allBelow, Filled};
-ghost use Rattle.words.specs.Word.{words, entryOk};
+ghost use Rattle.laws.specs.Basic.{allBelow};
+ghost use Rattle.words.specs.Word.{words, wordAt};
 ghost use Rattle.rules.specs.Day.{triangle};
 ghost use Rattle.tables.specs.Cell.{cell, Table};
-ghost use Rattle.tables.specs.Row.{rowAt, heldOk, lineOk, raised, bothLines};
-use rules::Node;
+ghost use Rattle.tables.specs.Square.{wideOf, InRange, Cleared, Copied, Squared, lineOk, stripOk, rowOk};
 use words::word;
 
-// Row i of a table, with 0 at the diagonal: n entries from word `at` on.
-fn read_row(s: &[u8], at: usize, n: usize, i: usize, row: &mut [u32; Node::MOST])
-    requires { ⌜ (n ≤ 64) × (i < n) × (at + n ≤ words (now s)) × (length (now row) ≡ 64) ⌝ }
-    ensures { λ _. ⌜ Filled 64 (rowAt (now (s .entry)) at i) 0 n (now (row .exit)) ⌝ }
+// A table as numbers, each built from its bytes once: its rows one after another, each with 0 on the diagonal and made up with 0 to `wide` entries.
+struct Square;
+
+impl Square {
+    // A row is made up to a multiple of this, so that vector code is left with no single entries.
+    const STEP: usize = 8;
+
+    // So many entries of a row stay in vector registers while the rows before it go by.
+    const STRIP: usize = 32;
+
+    // A table of few rows has a room of its own, which is cleared sooner: most rows, and the room.
+    const FEW: usize = 16;
+
+    const SMALL: usize = 256;
+
+    // The room for any table.
+    const LARGE: usize = 4096;
+}
+
+// n entries of a table, from word `at` on, into the square from `to` on.
+fn read_row(s: &[u8], at: usize, n: usize, to: usize, square: &mut [u32])
+    requires { ⌜ (at + n ≤ words (now s)) × (to + n ≤ length (now square)) ⌝ }
+    ensures { λ _. ⌜ Copied (now (square .entry)) to n (λ k. wordAt (now (s .entry)) (at + k)) (now (square .exit)) ⌝ }
 {
     let mut k = 0;
     while k < n {
-        row[k] = word(s, at + k);
+        square[to + k] = word(s, at + k);
         k += 1;
     }
-    row[i] = 0;
 }
 
-// Every entry of the row against that of another, which begins at word `at`, both ways round: what one is above the other must be within `there`,
-// and the other way within `back`. What is left of either is gathered, with no exit inside: vector code, and the sign tells if one was broken.
-fn line_left(s: &[u8], at: usize, n: usize, row: &[u32; Node::MOST], there: u32, back: u32) -> i32
-    requires { ⌜ (n ≤ 64) × (length (now row) ≡ 64) × (at + n ≤ words (now s)) × (there ≤ 1000000) × (back ≤ 1000000) ⌝ }
-    requires { ⌜ (allBelow n (entryOk (now s) at) ≡ true) × (allBelow n (heldOk (now row)) ≡ true) ⌝ }
-    ensures { λ r. ⌜ leZ (pos 0) r ≡ allBelow n (lineOk (now (s .entry)) (now (row .entry)) there back at) ⌝ }
+// Every row of a table of n rows whose entries begin at word `from`.
+fn read_rows(s: &[u8], from: usize, n: usize, wide: usize, square: &mut [u32])
+    requires { ⌜ Table (now s) from n × (n ≤ wide) × (n * wide ≤ length (now square)) × Cleared (now square) ⌝ }
+    ensures { λ _. ⌜ Squared n wide (cell (now (s .entry)) from n) n (now (square .exit)) × (length (now (square .exit)) ≡ length (now (square .entry))) ⌝ }
+{
+    let mut at = from;
+    let mut to = 0;
+    let mut i = 0;
+    while i < n {
+        read_row(s, at, n, to, square);
+        square[to + i] = 0;
+        at += n;
+        to += wide;
+        i += 1;
+    }
+}
+
+// Every entry of one row against that of another, from `a` and from `b` on, both ways round: what one is above the other must be within `there`, and the
+// other way within `back`. What is left of either is gathered, with no exit inside: vector code, and the sign tells if one was broken. `near` is taken
+// from `far`, not the other way: `near` stays in its register, and `far` was just loaded, so nothing is copied.
+fn line_left(square: &[u32], a: usize, b: usize, width: usize, there: u32, back: u32) -> i32
+    requires { ⌜ (a + width ≤ length (now square)) × (b + width ≤ length (now square)) × InRange (now square) × (there ≤ 1000000) × (back ≤ 1000000) ⌝ }
+    ensures { λ r. ⌜ leZ (pos 0) r ≡ allBelow width (lineOk (now (square .entry)) there back a b) ⌝ }
 {
     let to = there as i32;
     let fro = back as i32;
     let mut left = 0i32;
     let mut k = 0;
-    while k < n {
-        let near = row[k] as i32;
-        let far = word(s, at + k) as i32;
-        let above = near - far;
-        left = left | (to - above) | (fro + above);
+    while k < width {
+        let near = square[a + k] as i32;
+        let far = square[b + k] as i32;
+        let below = far - near;
+        left = left | (to + below) | (fro - below);
         k += 1;
     }
     left
 }
 
-// Row j is asked as the sheet has it: where (j, j), which is never used, would break the way back, (i, j) is held with that added. Written only
-// then, since vector code waits for what was just written.
-fn raise(row: &mut [u32; Node::MOST], j: usize, there: u32, back: u32, own: u32)
-    requires { ⌜ (length (now row) ≡ 64) × (j < 64) × (there ≡ getD (now row) j 0) × (there ≤ 1000000) × (back ≤ 1000000) × (own ≤ 1000000) ⌝ }
-    ensures { λ _. ⌜ now (row .exit) ≡ set (now (row .entry)) j (raised there back own) ⌝ }
+// A strip of row i, `width` entries from k on, against that of every row before it.
+fn strip_left(square: &[u32], wide: usize, i: usize, k: usize, width: usize) -> i32
+    requires { ⌜ (i < wide) × (i * wide + wide ≤ length (now square)) × (k + width ≤ wide) × InRange (now square) ⌝ }
+    ensures { λ r. ⌜ leZ (pos 0) r ≡ allBelow i (stripOk (now (square .entry)) wide i k width) ⌝ }
 {
-    if there + back < own {
-        row[j] = there + own;
-    }
-}
-
-// Row i against every row before it; `row` is room for it, which the rows of a table share. Row j begins at word `at`, which goes on row by row.
-fn row_ok(s: &[u8], from: usize, n: usize, i: usize, row: &mut [u32; Node::MOST]) -> bool
-    requires { ⌜ Table (now s) from n × (i < n) × (length (now row) ≡ 64) ⌝ }
-    ensures { λ r. ⌜ (r ≡ allBelow i (bothLines n (cell (now (s .entry)) from n) i)) × (length (now (row .exit)) ≡ 64) ⌝ }
-{
-    read_row(s, from + i * n, n, i, row);
+    let a = i * wide;
     let mut left = 0i32;
-    let mut at = from;
+    let mut b = 0;
     let mut j = 0;
     while j < i {
-        let there = row[j];
-        let own = word(s, at + j);
-        let back = word(s, at + i);
-        raise(row, j, there, back, own);
-        let line = line_left(s, at, n, row, there, back);
-        row[j] = there;
+        let there = square[a + j];
+        let back = square[b + i];
+        let line = line_left(square, a + k, b + k, width, there, back);
         left = left | line;
-        at += n;
+        b += wide;
         j += 1;
     }
-    left >= 0
+    left
+}
+
+// Row i against every row before it, strip by strip. The compiler makes code of its own for the full strips, whose width it knows.
+fn row_ok(square: &[u32], wide: usize, i: usize) -> bool
+    requires { ⌜ (i < wide) × (i * wide + wide ≤ length (now square)) × InRange (now square) ⌝ }
+    ensures { λ r. ⌜ r ≡ rowOk (now (square .entry)) wide i ⌝ }
+{
+    let mut left = 0i32;
+    let mut k = 0;
+    while Square::STRIP <= wide - k {
+        let strip = strip_left(square, wide, i, k, Square::STRIP);
+        left = left | strip;
+        k += Square::STRIP;
+    }
+    let rest = strip_left(square, wide, i, k, wide - k);
+    (left | rest) >= 0
+}
+
+// The triangle rule of a table, with room for its square. All rows are read before one is asked, since vector code waits for what was just written.
+fn table_ok(s: &[u8], from: usize, n: usize, room: &mut [u32]) -> bool
+    requires { ⌜ Table (now s) from n × (n * wideOf n ≤ length (now room)) × Cleared (now room) ⌝ }
+    ensures { λ r. ⌜ r ≡ triangle n (cell (now (s .entry)) from n) ⌝ }
+{
+    let wide = (n + 7) / Square::STEP * Square::STEP;
+    read_rows(s, from, n, wide, room);
+    let mut i = 0;
+    while i < n {
+        if !row_ok(room, wide, i) {
+            return false;
+        }
+        i += 1;
+    }
+    true
 }
 
 // The triangle rule of a table of n rows whose entries begin at word `from`.
@@ -86,13 +138,10 @@ pub fn triangle_ok(s: &[u8], from: usize, n: usize) -> bool
     requires { ⌜ Table (now s) from n ⌝ }
     ensures { λ r. ⌜ r ≡ triangle n (cell (now (s .entry)) from n) ⌝ }
 {
-    let mut row = [0u32; Node::MOST];
-    let mut i = 0;
-    while i < n {
-        if !row_ok(s, from, n, i, &mut row) {
-            return false;
-        }
-        i += 1;
+    if n <= Square::FEW {
+        let mut room = [0u32; Square::SMALL];
+        return table_ok(s, from, n, &mut room);
     }
-    true
+    let mut room = [0u32; Square::LARGE];
+    table_ok(s, from, n, &mut room)
 }

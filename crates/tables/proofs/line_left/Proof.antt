@@ -1,24 +1,23 @@
 use borrow.Author.Needs.{needs}
 use native.Mathlib.Omega.{arith}
 use mathlib.Core.Path.{_≡_, refl, sym, _∙_}
-use Prim.Native.Nat.{_-_, _≤_}
+use Prim.Native.Nat.{_+_, _-_, _≤_}
 use lib.IntN.{pos}
 use lib.Signed.{leZ}
 use mir.Syntax.{w32}
 use mir.Val.{toZ}
 use Rattle.laws.proofs.Below.{below-none, flag-goes, flag-done}
 use Rattle.laws.specs.Basic.{allBelow}
-use Rattle.tables.specs.Row.{lineOk}
-use Rattle.tables.proofs.RowLaws.{entry-low, held-low}
-use Rattle.tables.proofs.Signed.{above-fits, there-fits, back-fits, left-goes}
+use Rattle.tables.specs.Square.{lineOk}
+use Rattle.tables.proofs.Signed.{below-fits, there-fits, back-fits, left-goes}
 use Rattle.tables.proofs.line_left.Statement.{statement}
 use Rattle.tables.proofs.line_left.Tie as tie
 
 abbrev Inv-loop : tie.InvT-loop
-Inv-loop s at n row there back to fro left₀ k₀ left k = (k ≤ n) × (allBelow k (lineOk s row there back at) ≡ leZ (pos 0) (toZ w32 left))
+Inv-loop square a b width there back to fro left₀ k₀ left k = (k ≤ width) × (allBelow k (lineOk square there back a b) ≡ leZ (pos 0) (toZ w32 left))
 
 abbrev μ-loop : tie.MeasureT-loop
-μ-loop s at n row there back to fro left₀ k₀ left k = n - k
+μ-loop square a b width there back to fro left₀ k₀ left k = width - k
 
 cast-to : tie.Need-cast-to Inv-loop μ-loop
 cast-to c = record { sfits = omega arith }
@@ -29,44 +28,40 @@ cast-fro c = record { sfits = omega arith }
 loop-holds : tie.Need-loop-holds Inv-loop μ-loop
 loop-holds c = (search needs, below-none _)
 
+add-near : tie.Need-add-near Inv-loop μ-loop
+add-near c = search needs
+
 mul-near : tie.Need-mul-near Inv-loop μ-loop
 mul-near c = search needs
 
-element-copy-out-near : tie.Need-element-copy-out-near Inv-loop μ-loop
-element-copy-out-near c = search needs
+shared-slice-read-near : tie.Need-shared-slice-read-near Inv-loop μ-loop
+shared-slice-read-near c = search needs
 
 cast-near : tie.Need-cast-near Inv-loop μ-loop
-cast-near c = record { sfits = omega (arith, held-low (c .before .before .before .before .args .row .now) _ _ (c .before .before .before .before .pre .1 .1) (c .before .loop-test .taken)) }
+cast-near c =
+    let b = c .before .before .before in record { sfits = omega (arith, b .pre .2 .low (b .args .a + c .before .before .loop .k)) }
 
-add-word : tie.Need-add-word Inv-loop μ-loop
-add-word c = search needs
+add-far : tie.Need-add-far Inv-loop μ-loop
+add-far c = search needs
 
-word-requires : tie.Need-word-requires Inv-loop μ-loop
-word-requires c κs = search needs
+mul-far : tie.Need-mul-far Inv-loop μ-loop
+mul-far c = search needs
+
+shared-slice-read-far : tie.Need-shared-slice-read-far Inv-loop μ-loop
+shared-slice-read-far c = search needs
 
 cast-far : tie.Need-cast-far Inv-loop μ-loop
-cast-far c = record { sfits = omega (arith, entry-low _ _ _ _ (c .before .before .before .before .before .pre .1 .0) (c .before .before .loop-test .taken), c .word .ensures .is) }
+cast-far c =
+    let b = c .before .before .before .before in record { sfits = omega (arith, b .pre .2 .low (b .args .b + c .before .before .before .loop .k)) }
 
-sub-above : tie.Need-sub-above Inv-loop μ-loop
-sub-above c =
-    let b = c .before .before .before .before .before in
-    let h = c .before .before .loop-test .taken in
-    let p = b .pre in
-    above-fits (held-low (b .args .row .now) _ _ (p .1 .1) h) (entry-low _ _ _ _ (p .1 .0) h) (c .word .ensures .is) (p .0 .3) (p .0 .4)
-
-sub-left : tie.Need-sub-left Inv-loop μ-loop
-sub-left c =
-    let b = c .before .before .before .before .before in
-    let h = c .before .before .loop-test .taken in
-    let p = b .pre in
-    there-fits (held-low (b .args .row .now) _ _ (p .1 .1) h) (entry-low _ _ _ _ (p .1 .0) h) (c .word .ensures .is) (p .0 .3) (p .0 .4)
+sub-below : tie.Need-sub-below Inv-loop μ-loop
+sub-below c = let p = c .before .before .before .before .pre in below-fits (p .2 .low _) (p .2 .low _) (p .3) (p .4)
 
 add-left : tie.Need-add-left Inv-loop μ-loop
-add-left c =
-    let b = c .before .before .before .before .before in
-    let h = c .before .before .loop-test .taken in
-    let p = b .pre in
-    back-fits (held-low (b .args .row .now) _ _ (p .1 .1) h) (entry-low _ _ _ _ (p .1 .0) h) (c .word .ensures .is) (p .0 .3) (p .0 .4)
+add-left c = let p = c .before .before .before .before .pre in there-fits (p .2 .low _) (p .2 .low _) (p .3) (p .4)
+
+sub-left : tie.Need-sub-left Inv-loop μ-loop
+sub-left c = let p = c .before .before .before .before .pre in back-fits (p .2 .low _) (p .2 .low _) (p .3) (p .4)
 
 add-k : tie.Need-add-k Inv-loop μ-loop
 add-k c = search needs
@@ -76,11 +71,9 @@ loop-less c = search needs
 
 loop-again : tie.Need-loop-again Inv-loop μ-loop
 loop-again c =
-    let b = c .before .before .before .before .before in
-    let h = c .before .before .loop-test .taken in
-    let p = b .pre in
-    let g = left-goes (held-low (b .args .row .now) _ _ (p .1 .1) h) (entry-low _ _ _ _ (p .1 .0) h) (c .word .ensures .is) (p .0 .3) (p .0 .4) (c .before .before .before .loop .left) in
-    (omega arith, flag-goes _ _ (c .before .before .before .loop .inv .1) refl ∙ sym g)
+    let l = c .before .before .before .loop in
+    let p = c .before .before .before .before .pre in
+    (omega arith, flag-goes _ _ (l .inv .1) refl ∙ sym (left-goes (p .2 .low _) (p .2 .low _) (p .3) (p .4) (l .left)))
 
 returns : tie.Need-returns Inv-loop μ-loop
 returns c = flag-done _ _ _ (c .before .loop .inv .0) (c .loop-test .left) (c .before .loop .inv .1)
@@ -94,15 +87,17 @@ line-left-spec =
     cast-to
     cast-fro
     loop-holds
+    add-near
     mul-near
-    element-copy-out-near
+    shared-slice-read-near
     cast-near
-    add-word
-    word-requires
+    add-far
+    mul-far
+    shared-slice-read-far
     cast-far
-    sub-above
-    sub-left
+    sub-below
     add-left
+    sub-left
     add-k
     loop-less
     loop-again

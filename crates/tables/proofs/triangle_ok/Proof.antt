@@ -1,55 +1,33 @@
-use native.Mathlib.Omega.{arith}
-use mathlib.Core.Path.{_≡_, refl, _∙_}
-use mathlib.Core.Bool.{true}
-use Prim.Native.Nat.{_-_, _≤_}
-use lib.ListN.{length}
-use Rattle.laws.proofs.Below.{below-none, below-stops, below-goes, below-done}
-use Rattle.laws.specs.Basic.{allBelow}
-use Rattle.tables.specs.Row.{bothLines}
-use Rattle.tables.specs.Cell.{cell}
+use Rattle.tables.proofs.SquareLaws.{cleared, room-holds}
 use borrow.Author.Needs.{needs}
-use Rattle.tables.proofs.RowLaws.{pairs-all}
 use Rattle.tables.proofs.triangle_ok.Statement.{statement}
 use Rattle.tables.proofs.triangle_ok.Tie as tie
 
-abbrev Inv-loop : tie.InvT-loop
-Inv-loop s from n row₀ i₀ row i = (i ≤ n) × (length row ≡ 64) × (allBelow i (λ q. allBelow q (bothLines n (cell s from n) q)) ≡ true)
+slice-aggregate-table-ok : tie.Need-slice-aggregate-table-ok
+slice-aggregate-table-ok c = search needs
 
-abbrev μ-loop : tie.MeasureT-loop
-μ-loop s from n row₀ i₀ row i = n - i
+table-ok-requires : tie.Need-table-ok-requires
+table-ok-requires c κs = (c .before .before .before .pre, room-holds _ 2 (c .before .if1 .taken), cleared 256)
 
-loop-holds : tie.Need-loop-holds Inv-loop μ-loop
-loop-holds c = (search needs, refl, below-none _)
+returns : tie.Need-returns
+returns c = search needs
 
-row-ok-requires : tie.Need-row-ok-requires Inv-loop μ-loop
-row-ok-requires c κs = search needs
+slice-aggregate-table-ok-2 : tie.Need-slice-aggregate-table-ok-2
+slice-aggregate-table-ok-2 c = search needs
 
-returns : tie.Need-returns Inv-loop μ-loop
-returns c = below-stops _ _ _ (c .before .before .before .loop-test .taken) (c .before .row-ok .ensures .0) (c .if1 .taken) ∙ pairs-all _ _
+table-ok-requires-2 : tie.Need-table-ok-requires-2
+table-ok-requires-2 c κs = let p = c .before .before .before .pre in (p, room-holds _ 8 (p .rows), cleared 4096)
 
-add-i : tie.Need-add-i Inv-loop μ-loop
-add-i c = omega arith
-
-loop-less : tie.Need-loop-less Inv-loop μ-loop
-loop-less c = omega arith
-
-loop-again : tie.Need-loop-again Inv-loop μ-loop
-loop-again c =
-    let r = c .before .row-ok .ensures in (omega arith, r .1, below-goes _ _ (c .before .before .before .before .loop .inv .2) (r .0) (c .if1 .left))
-
-returns-2 : tie.Need-returns-2 Inv-loop μ-loop
-returns-2 c = below-done _ _ _ (c .before .loop .inv .0) (c .loop-test .left) (c .before .loop .inv .2) ∙ pairs-all _ _
+returns-2 : tie.Need-returns-2
+returns-2 c = search needs
 
 pub triangle-ok-spec : {M : Type 1} → statement M
 triangle-ok-spec =
     tie.close
     (tie.spec
-    Inv-loop
-    μ-loop
-    loop-holds
-    row-ok-requires
+    slice-aggregate-table-ok
+    table-ok-requires
     returns
-    add-i
-    loop-less
-    loop-again
+    slice-aggregate-table-ok-2
+    table-ok-requires-2
     returns-2)

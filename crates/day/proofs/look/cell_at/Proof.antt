@@ -1,6 +1,6 @@
 use native.Mathlib.Omega.{arith}
 use Rattle.tables.specs.Cell.{cell}
-use Rattle.tables.proofs.RowLaws.{row-end, row-low, entry-low}
+use Rattle.tables.proofs.TableLaws.{row-end, row-low, entry-low}
 use Rattle.day.proofs.Range.{told}
 use borrow.Author.Needs.{needs}
 use Rattle.day.proofs.look.cell_at.Statement.{statement}
