@@ -28,7 +28,7 @@
    Standard output of 1 to 9, two lines:
      result R        the sum over all times, modulo 2^64, of
                      1: answer + stops of all states
-                     2 to 5 and 9: answer + rounds + records of all vans + open places of all vans
+                     2 to 5 and 9: answer + rounds + stops and records of all states
                      6: answer + alive     8: answer + places
                      7: length of the text + the sum of its bytes
      nanoseconds T   wall clock of the loop; a side without a clock leaves this line out and is

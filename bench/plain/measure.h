@@ -64,7 +64,7 @@ static void build(Task *t, u64 stops)
 static u64 sum_of(const Task *t, const Turned *to)
 {
     u64 sum = to->answer.answer + to->answer.rounds;
-    for (u64 v = 0; v < t->vans; v++) sum += to->fleet.vans[v].records + count_places(&to->fleet.vans[v], MOST_NODES);
+    for (u64 v = 0; v < MOST_VANS; v++) sum += to->fleet.vans[v].stops + to->fleet.vans[v].records;
     return sum;
 }
 

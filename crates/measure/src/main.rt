@@ -12,23 +12,28 @@ use libc::STDOUT_FILENO;
 use listing::put_number;
 use rules::Node;
 use rules::Step;
+use std::num::wrapping_add_u32;
 use std::num::wrapping_add_u64;
 
-fn wide(b: u8) -> u64 {
-    b as u64
+fn wide(b: u8) -> u32 {
+    b as u32
+}
+
+fn long(w: u32) -> u64 {
+    w as u64
 }
 
 // The number of a text's bytes and their sum; the text is the first bytes of the buffer.
 fn weigh(out: &[u8], used: usize) -> u64
     requires { ⌜ used ≤ length (now out) ⌝ }
 {
-    let mut sum = used as u64;
+    let mut sum: u32 = 0;
     let mut i = 0;
     while i < used {
-        sum = wrapping_add_u64(sum, wide(out[i]));
+        sum = wrapping_add_u32(sum, wide(out[i]));
         i += 1;
     }
-    sum
+    wrapping_add_u64(used as u64, long(sum))
 }
 
 // Operation 7: the listing, weighed.
@@ -39,12 +44,6 @@ fn listing_of(sheet: &[u8], trail: &mut [u64], out: &mut [u8]) -> u64
     weigh(out, used)
 }
 
-// What a van has: its records and its open places.
-fn van_sum(one: State) -> u64 {
-    let places = count(&one.sets, Node::MOST);
-    wrapping_add_u64(one.records as u64, places as u64)
-}
-
 // A step that is measured.
 struct Task {
     word: usize,
@@ -52,16 +51,16 @@ struct Task {
     second: usize,
 }
 
-// One step: the sum of what it gives, over v vans.
-fn one_step(sheet: &[u8], fleet: Fleet, v: usize, trail: &mut [u64], task: Task) -> u64 {
+// One step: the sum of what it gives, of the fleet the stops and records of every state. Each stands at a place that the compiler knows, so that no
+// state is copied for the sum.
+fn one_step(sheet: &[u8], fleet: Fleet, trail: &mut [u64], task: Task) -> u64 {
     let s = planner::step(sheet, fleet, trail, task.word, task.first, task.second);
     let vans = s.fleet.vans;
     let mut sum = wrapping_add_u64(s.answer as u64, s.rounds as u64);
     let mut j = 0;
     while j < Fleet::VANS {
-        if j < v {
-            sum = wrapping_add_u64(sum, van_sum(vans[j]));
-        }
+        let one = vans[j];
+        sum = wrapping_add_u64(sum, wrapping_add_u64(one.stops as u64, one.records as u64));
         j += 1;
     }
     sum
@@ -86,14 +85,7 @@ fn one_opening(sheet: &[u8]) -> u64 {
 }
 
 // Operations 1 to 6, 8 and 9, once.
-fn ask(
-    operation: usize,
-    sheet: &[u8],
-    fleet: Fleet,
-    v: usize,
-    trail: &mut [u64],
-    task: Task,
-) -> u64 {
+fn ask(operation: usize, sheet: &[u8], fleet: Fleet, trail: &mut [u64], task: Task) -> u64 {
     match operation {
         1 => one_opening(sheet),
         6 => {
@@ -104,7 +96,7 @@ fn ask(
             let p = planner::open_places(sheet, fleet);
             wrapping_add_u64(p.answer as u64, p.places as u64)
         },
-        _ => one_step(sheet, fleet, v, trail, task),
+        _ => one_step(sheet, fleet, trail, task),
     }
 }
 
@@ -195,7 +187,6 @@ fn repeat(
     count: usize,
     sheet: &mut [u8],
     fleet: Fleet,
-    v: usize,
     trail: &mut [u64],
     task: Task,
 ) -> u64 {
@@ -204,7 +195,7 @@ fn repeat(
     let mut i = 0;
     while i < count {
         mark(sheet, spot, i % 1000);
-        sum = wrapping_add_u64(sum, ask(operation, sheet, fleet, v, trail, task));
+        sum = wrapping_add_u64(sum, ask(operation, sheet, fleet, trail, task));
         i += 1;
     }
     sum
@@ -360,7 +351,7 @@ fn repeat_on(
     let lent: &mut [u64] = &mut trail[..words];
     let fleet = start(operation, sheet, fresh, v, lent, n);
     let task = task_of(operation, fleet, v, n);
-    tell(repeat(operation, count, sheet, fleet, v, lent, task));
+    tell(repeat(operation, count, sheet, fleet, lent, task));
 }
 
 fn main() {

@@ -5,10 +5,10 @@ use Rattle.measure.proofs.one_step.Statement.{statement}
 use Rattle.measure.proofs.one_step.Tie as tie
 
 abbrev Inv-loop : tie.InvT-loop
-Inv-loop sheet v trail vans sum₀ j₀ sum j = j ≤ 8
+Inv-loop sheet trail vans sum₀ j₀ sum j = j ≤ 8
 
 abbrev μ-loop : tie.MeasureT-loop
-μ-loop sheet v trail vans sum₀ j₀ sum j = 8 - j
+μ-loop sheet trail vans sum₀ j₀ sum j = 8 - j
 
 step-requires : tie.Need-step-requires Inv-loop μ-loop
 step-requires c κs = search needs
@@ -19,17 +19,17 @@ wrapping-add-u64-requires c κs = search needs
 loop-holds : tie.Need-loop-holds Inv-loop μ-loop
 loop-holds c = omega arith
 
-mul-van-sum : tie.Need-mul-van-sum Inv-loop μ-loop
-mul-van-sum c = omega arith
+mul-one : tie.Need-mul-one Inv-loop μ-loop
+mul-one c = omega arith
 
-array-copy-out-van-sum : tie.Need-array-copy-out-van-sum Inv-loop μ-loop
-array-copy-out-van-sum c = omega arith
-
-van-sum-requires : tie.Need-van-sum-requires Inv-loop μ-loop
-van-sum-requires c κs = search needs
+array-copy-out-one : tie.Need-array-copy-out-one Inv-loop μ-loop
+array-copy-out-one c = omega arith
 
 wrapping-add-u64-requires-2 : tie.Need-wrapping-add-u64-requires-2 Inv-loop μ-loop
 wrapping-add-u64-requires-2 c κs = search needs
+
+wrapping-add-u64-requires-3 : tie.Need-wrapping-add-u64-requires-3 Inv-loop μ-loop
+wrapping-add-u64-requires-3 c κs = search needs
 
 add-j : tie.Need-add-j Inv-loop μ-loop
 add-j c = omega arith
@@ -55,10 +55,10 @@ one-step-spec =
     step-requires
     wrapping-add-u64-requires
     loop-holds
-    mul-van-sum
-    array-copy-out-van-sum
-    van-sum-requires
+    mul-one
+    array-copy-out-one
     wrapping-add-u64-requires-2
+    wrapping-add-u64-requires-3
     add-j
     loop-less
     loop-again

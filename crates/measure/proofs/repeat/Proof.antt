@@ -7,10 +7,10 @@ use Rattle.measure.proofs.repeat.Statement.{statement}
 use Rattle.measure.proofs.repeat.Tie as tie
 
 abbrev Inv-loop : tie.InvT-loop
-Inv-loop operation count sheet₀ fleet v trail₀ task spot sum₀ i₀ sheet trail sum i = (i ≤ count) × (length sheet ≡ length sheet₀) × (length trail ≡ length trail₀)
+Inv-loop operation count sheet₀ fleet trail₀ task spot sum₀ i₀ sheet trail sum i = (i ≤ count) × (length sheet ≡ length sheet₀) × (length trail ≡ length trail₀)
 
 abbrev μ-loop : tie.MeasureT-loop
-μ-loop operation count sheet₀ fleet v trail₀ task spot sum₀ i₀ sheet trail sum i = count - i
+μ-loop operation count sheet₀ fleet trail₀ task spot sum₀ i₀ sheet trail sum i = count - i
 
 diagonal-requires : tie.Need-diagonal-requires Inv-loop μ-loop
 diagonal-requires c κs = search needs

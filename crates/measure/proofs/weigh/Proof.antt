@@ -1,6 +1,6 @@
 use borrow.Author.Needs.{needs}
 use native.Mathlib.Omega.{arith}
-use Prim.Native.Nat.{_-_, _≤_}
+use Prim.Native.Nat.{_≤_, _-_}
 use Rattle.measure.proofs.weigh.Statement.{statement}
 use Rattle.measure.proofs.weigh.Tie as tie
 
@@ -11,7 +11,7 @@ abbrev μ-loop : tie.MeasureT-loop
 μ-loop out used sum₀ i₀ sum i = used - i
 
 loop-holds : tie.Need-loop-holds Inv-loop μ-loop
-loop-holds c = search needs
+loop-holds c = omega arith
 
 shared-slice-read-wide : tie.Need-shared-slice-read-wide Inv-loop μ-loop
 shared-slice-read-wide c = search needs
@@ -19,17 +19,23 @@ shared-slice-read-wide c = search needs
 wide-requires : tie.Need-wide-requires Inv-loop μ-loop
 wide-requires c κs = search needs
 
-wrapping-add-u64-requires : tie.Need-wrapping-add-u64-requires Inv-loop μ-loop
-wrapping-add-u64-requires c κs = search needs
+wrapping-add-u32-requires : tie.Need-wrapping-add-u32-requires Inv-loop μ-loop
+wrapping-add-u32-requires c κs = search needs
 
 add-i : tie.Need-add-i Inv-loop μ-loop
 add-i c = search needs
 
 loop-less : tie.Need-loop-less Inv-loop μ-loop
-loop-less c = search needs
+loop-less c = omega arith
 
 loop-again : tie.Need-loop-again Inv-loop μ-loop
 loop-again c = omega arith
+
+long-requires : tie.Need-long-requires Inv-loop μ-loop
+long-requires c κs = search needs
+
+wrapping-add-u64-requires : tie.Need-wrapping-add-u64-requires Inv-loop μ-loop
+wrapping-add-u64-requires c κs = search needs
 
 returns : tie.Need-returns Inv-loop μ-loop
 returns c = search needs
@@ -43,8 +49,10 @@ weigh-spec =
     loop-holds
     shared-slice-read-wide
     wide-requires
-    wrapping-add-u64-requires
+    wrapping-add-u32-requires
     add-i
     loop-less
     loop-again
+    long-requires
+    wrapping-add-u64-requires
     returns)
