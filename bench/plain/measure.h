@@ -61,7 +61,7 @@ static void build(Task *t, u64 stops)
     for (u64 x = 1; x + 1 < stops; x++) t->from = next_ward(t, x).fleet;
 }
 
-static u64 sum_of(const Task *t, const Turned *to)
+static u64 sum_of(const Turned *to)
 {
     u64 sum = to->answer.answer + to->answer.rounds;
     for (u64 v = 0; v < MOST_VANS; v++) sum += to->fleet.vans[v].stops + to->fleet.vans[v].records;
@@ -71,13 +71,13 @@ static u64 sum_of(const Task *t, const Turned *to)
 static __attribute__((noinline)) u64 one_placing(const Task *t)
 {
     Turned to = next_ward(t, t->n / 2 - 1);
-    return sum_of(t, &to);
+    return sum_of(&to);
 }
 
 static __attribute__((noinline)) u64 one_step(const Task *t)
 {
     Turned to = take_step(t, t->operation == 9 ? 7 : 5, 0, 0);
-    return sum_of(t, &to);
+    return sum_of(&to);
 }
 
 static __attribute__((noinline)) u64 one_listing(const Task *t)

@@ -14,7 +14,7 @@ use board::State;
 use fleet::Fleet;
 use fleet::rows::figures_in;
 use fleet::rows::put_figures;
-use fleet::wards::gather;
+use fleet::wards::share_none;
 use rules::Node;
 use rules::Refusal;
 use rules::Step;
@@ -199,8 +199,7 @@ fn back(
     if !each(n, v, share, routes, sets, levels, figures, trail, step) {
         return answered(Refusal::MISFIT);
     }
-    let w = gather(routes, sets, figures, n, v);
-    if w.apart {
+    if share_none(routes, sets, figures, n, v) {
         answered(0)
     } else {
         answered(Refusal::MISFIT)

@@ -1,6 +1,6 @@
 -- What holds of a fleet that steps have led to from the fresh one, where a step leads on, and what a line tells of it.
 use Prim.Native.Nat.{ℕ, _+_, _-_, _<_, _≤_}
-use mathlib.Core.Bool.{Bool, true, false, cond, not, _&&_}
+use mathlib.Core.Bool.{Bool, true, false, cond, not, _&&_, _||_}
 use mathlib.Core.List.{List, [], _∷_}
 use mathlib.Core.Path.{_≡_, refl, sym, ap, ap₂, subst, _∙_}
 use mathlib.Core.Logic.{⊎-elim}
@@ -10,10 +10,13 @@ use lib.ListN.{getD}
 use lib.Count.{ones, ones-le}
 use lib.Dec.{eqb}
 use borrow.Author.Tests.{eqb-true, eqb-false}
-use Rattle.laws.proofs.Logic.{decided}
+use Rattle.laws.proofs.Logic.{decided, T→true, true→T}
 use Rattle.laws.proofs.Sum.{sum-same, sum-most}
 use Rattle.laws.proofs.Below.{below-same}
-use Rattle.laws.specs.Basic.{orElse, sumBelow, allBelow}
+use Rattle.laws.specs.Basic.{orElse, sumBelow, allBelow, anyBelow}
+use Rattle.laws.proofs.AnyLaws.{any-below-i, any-below-same}
+use Rattle.bits.specs.Places.{has}
+use Rattle.bits.proofs.Members.{false-true}
 use Rattle.rules.specs.Numbers.{refusal, mostVans, stepSaid}
 use Rattle.rules.specs.Verdict.{alive}
 use Rattle.sheet.specs.Section.{nOf, vansOf}
@@ -30,7 +33,7 @@ use Rattle.trail.proofs.Still.{move-still}
 use Rattle.stands.specs.Stands.{planOf}
 use Rattle.listing.specs.Text.{stepLine}
 use Rattle.fleet.specs.Fleet.{stateIn, boardIn, trailIn, HeldAll}
-use Rattle.fleet.specs.Form.{inFormAll, formWithAll}
+use Rattle.fleet.specs.Form.{hasWard, inFormAll, formWithAll}
 use Rattle.fleet.specs.Rows.{figuresIn, rowState, fleetWith, Rows, Figured, ReadyAll}
 use Rattle.fleet.specs.Sums.{placesAll, recordsAll, allServed}
 use Rattle.fleet.specs.declared.Fleet.{Fleet}
@@ -48,7 +51,7 @@ use Rattle.planner.proofs.Never.{never-misfit}
 use Rattle.fleet.proofs.FormLaws.{form-with-all}
 use Rattle.planner.proofs.RowFacts.{rows-ready}
 use Rattle.telling.specs.declared.Sums.{Sums}
-use Rattle.telling.specs.Told.{toldIn, ToldAll}
+use Rattle.telling.specs.Told.{toldIn, ToldAll, anew, sumsOf}
 use Rattle.dock.specs.Listing.{Reached, lineOf}
 
 -- where a listing begins
@@ -162,15 +165,33 @@ module _ {sheet : List ℕ} {f : Fleet} {t : List ℕ} (z : callRefusal sheet �
     pub told-few : (j : ℕ) → j < vansOf sheet → (getD (getD told j []) 0 0 ≤ 4096) × (getD (getD told j []) 1 0 ≤ 4096)
     told-few j l = (omega (arith, entry 0 j l, few-places j l), omega (arith, entry 1 j l, few-records j l))
 
-    pub line-is : {v : ℕ} {sums : Sums} {all : Bool} (i k r : ℕ) → v ≡ vansOf sheet
-        → sums ≡ record {
-          places = sumBelow v (λ j. getD (getD told j []) 0 0);
-          records = sumBelow v (λ j. getD (getD told j []) 1 0);
-          alive = allBelow v (λ j. not (eqb (getD (getD told j []) 2 0) 0));
-        }
-        → all ≡ allServed v f → stepLine (i + 1) k (sums .places) (sums .records) r (cond (sums .alive && all) 1 0) ≡ lineOf sheet i (record { answer = k; rounds = r; fleet = f })
+    pub line-is : {v : ℕ} {sums : Sums} (i k r : ℕ) → v ≡ vansOf sheet → sums ≡ sumsOf v told f
+        → stepLine (i + 1) k (sums .places) (sums .records) r (cond (sums .alive) 1 0) ≡ lineOf sheet i (record { answer = k; rounds = r; fleet = f })
     unfolding lineOf
-    line-is i k r e s served = rw (s, served, e, sym places-all, sym records-all, sym alive-all-is) refl
+    line-is i k r e s = rw (s, e, sym places-all, sym records-all, sym alive-all-is) refl
+
+-- ---- where no van is told anew
+
+-- each has the records that were told
+none-anew : (v : ℕ) (figures before : List (List ℕ)) → anyBelow v (anew false figures before) ≡ false
+    → (j : ℕ) → j < v → figuresIn (getD figures j []) .records ≡ getD (getD before j []) 1 0
+none-anew v figures before e j l =
+    decided (eqb (figuresIn (getD figures j []) .records) (getD (getD before j []) 1 0)) (eqb-true _ _)
+    (λ z. absurd (false-true (sym e ∙ T→true (anyBelow v (anew false figures before)) (any-below-i v j (anew false figures before) l (true→T (anew false figures before j) (rw z refl))))))
+
+-- the same boards serve the same wards
+served-same : (v : ℕ) (f g : Fleet) → 1 ≤ v → ((j : ℕ) → j < v → boardIn f j ≡ boardIn g j) → allServed v f ≡ allServed v g
+unfolding allServed
+served-same v f g some same =
+    below-same 64 _ _ (λ y l. λ u. not (has (same 0 some u .must) y) || any-below-same v (λ j. hasWard (boardIn f j) y) (λ j. hasWard (boardIn g j) y) (λ j h. ap (λ (b : Board). hasWard b y) (same j h)) u)
+
+-- the same rows have the same sums
+same-sums : (v : ℕ) (told told′ : List (List ℕ)) (f g : Fleet) → ((j : ℕ) → j < v → getD told j [] ≡ getD told′ j []) → allServed v f ≡ allServed v g → sumsOf v told f ≡ sumsOf v told′ g
+same-sums v told told′ f g same served = λ u. record {
+  places = sum-same v _ _ (λ j h. ap (λ (o : List ℕ). getD o 0 0) (same j h)) u;
+  records = sum-same v _ _ (λ j h. ap (λ (o : List ℕ). getD o 1 0) (same j h)) u;
+  alive = below-same v _ _ (λ j h. ap (λ (o : List ℕ). not (eqb (getD o 2 0) 0)) (same j h)) u && served u;
+}
 
 -- ---- a fleet in rows
 
@@ -192,16 +213,39 @@ module _ {sheet : List ℕ} {at : Layout} {t : List ℕ} (z : callRefusal sheet 
       → (at .vans ≤ mostVans) × ((j : ℕ) → j < at .vans → (getD (getD told j []) 0 0 ≤ 4096) × (getD (getD told j []) 1 0 ≤ 4096))
   summing w = (omega (arith, l .vans, l .fine .vans-high), λ j h. told-few z p w j (omega (arith, h, l .vans)))
 
+  -- the records of a van, in rows and as they were told
+  records-on : {told : List (List ℕ)} (routes′ sets′ levels′ figures′ : List (List ℕ)) → ToldAll sheet (fleetWith routes sets levels figures) told → (j : ℕ) → j < vansOf sheet
+      → figuresIn (getD figures′ j []) .records ≡ getD (getD told j []) 1 0
+      → stateIn (fleetWith routes′ sets′ levels′ figures′) j .records ≡ stateIn (fleetWith routes sets levels figures) j .records
+  records-on routes′ sets′ levels′ figures′ w j h same =
+      ap (λ (s : State). s .records) (state-of (rowState routes′ sets′ levels′ figures′) j (omega (arith, h, l .fine .vans-high))) ∙ same ∙ ap (λ (o : List ℕ). getD o 1 0) (w .each j h)
+
   -- a step more: a van whose records are those of before is told as before
   pub told-on : {told : List (List ℕ)} (word a b : ℕ) {k r : ℕ} {t′ : List ℕ} (routes′ sets′ levels′ figures′ : List (List ℕ))
       → stepOf sheet (fleetWith routes sets levels figures) t word a b ≡ actedAll k r (fleetWith routes′ sets′ levels′ figures′) t′
       → ToldAll sheet (fleetWith routes sets levels figures) told
       → (j : ℕ) → j < vansOf sheet → figuresIn (getD figures′ j []) .records ≡ getD (getD told j []) 1 0
       → getD told j [] ≡ toldIn sheet (fleetWith routes′ sets′ levels′ figures′) j
-  told-on word a b routes′ sets′ levels′ figures′ e w j h same =
-      w .each j h
-      ∙ told-again z p word a b e j h
-      (ap (λ (s : State). s .records) (state-of (rowState routes′ sets′ levels′ figures′) j (omega (arith, h, l .fine .vans-high))) ∙ same ∙ ap (λ (o : List ℕ). getD o 1 0) (w .each j h))
+  told-on word a b routes′ sets′ levels′ figures′ e w j h same = w .each j h ∙ told-again z p word a b e j h (records-on routes′ sets′ levels′ figures′ w j h same)
+
+  -- and where all are, so are the sums
+  pub sums-on : {told told′ : List (List ℕ)} (word a b : ℕ) {k r : ℕ} {t′ : List ℕ} (routes′ sets′ levels′ figures′ : List (List ℕ))
+      → stepOf sheet (fleetWith routes sets levels figures) t word a b ≡ actedAll k r (fleetWith routes′ sets′ levels′ figures′) t′
+      → ToldAll sheet (fleetWith routes sets levels figures) told → ToldAll sheet (fleetWith routes′ sets′ levels′ figures′) told′
+      → {one : Bool} {before now : Sums} → one ≡ anyBelow (vansOf sheet) (anew false figures′ told) → now ≡ cond one (sumsOf (at .vans) told′ (fleetWith routes′ sets′ levels′ figures′)) before
+      → before ≡ sumsOf (at .vans) told (fleetWith routes sets levels figures) → now ≡ sumsOf (at .vans) told′ (fleetWith routes′ sets′ levels′ figures′)
+  sums-on {told} {told′} word a b routes′ sets′ levels′ figures′ e w w′ {one} c n s =
+      decided one (λ y. n ∙ rw y refl) (λ y. n ∙ rw y (s ∙ rw (l .vans) (same-sums (vansOf sheet) told told′ _ _ (λ j h. row j h (none y j h)) (served-same (vansOf sheet) _ _ (l .fine .vans-low) (λ j h. board j h (none y j h))))))
+    where
+      none : one ≡ false → (j : ℕ) → j < vansOf sheet → figuresIn (getD figures′ j []) .records ≡ getD (getD told j []) 1 0
+      none y j h = none-anew (vansOf sheet) figures′ told (sym c ∙ y) j h
+
+      row : (j : ℕ) → j < vansOf sheet → figuresIn (getD figures′ j []) .records ≡ getD (getD told j []) 1 0 → getD told j [] ≡ getD told′ j []
+      row j h same = told-on word a b routes′ sets′ levels′ figures′ e w j h same ∙ sym (w′ .each j h)
+
+      board : (j : ℕ) → j < vansOf sheet → figuresIn (getD figures′ j []) .records ≡ getD (getD told j []) 1 0
+          → boardIn (fleetWith routes sets levels figures) j ≡ boardIn (fleetWith routes′ sets′ levels′ figures′) j
+      board j h same = sym (same-board z p word a b e j h (records-on routes′ sets′ levels′ figures′ w j h same))
 
 -- eight rows that have a held fleet are rows of 64
 pub rows-held : (routes sets levels figures : List (List ℕ)) → HeldAll (fleetWith routes sets levels figures) → EightRows routes sets levels figures

@@ -1,6 +1,6 @@
 // The lines of the steps, the routes at the end, and the whole listing.
 ghost use mathlib.Core.Path.{_≡_};
-ghost use mathlib.Core.Bool.{cond, _&&_};
+ghost use mathlib.Core.Bool.{cond};
 ghost use mathlib.Core.List.{List, []};
 ghost use Prim.Native.Nat.{ℕ, _+_, _*_, _<_, _≤_};
 ghost use lib.ListN.{length, getD, replicate};
@@ -24,7 +24,6 @@ use fleet::Fleet;
 use fleet::fresh_van;
 use fleet::rows::figures_in;
 use fleet::rows::unpack;
-use fleet::sums::served;
 use listing::Three;
 use listing::put_refused;
 use listing::put_route;
@@ -34,7 +33,7 @@ use sheet::Layout;
 use telling::Sums;
 use telling::Told;
 use telling::one_if;
-use telling::sum_up;
+use telling::sums_now;
 use telling::tell_vans;
 use turns::Outcomes;
 
@@ -70,11 +69,10 @@ fn put_line(
     answer: usize,
     rounds: usize,
     sums: Sums,
-    served: bool,
 ) -> usize
     requires { ⌜ (i < 2000) × (used + 200 ≤ length (now out)) ⌝ }
     ensures { λ r. ⌜ Put (now (out .entry)) used
-        (stepLine (i + 1) answer (sums .places) (sums .records) rounds (cond (sums .alive && served) 1 0)) r (now (out .exit)) ⌝ }
+        (stepLine (i + 1) answer (sums .places) (sums .records) rounds (cond (sums .alive) 1 0)) r (now (out .exit)) ⌝ }
 {
     let head = Three {
         first: (i + 1) as u64,
@@ -84,7 +82,7 @@ fn put_line(
     let tail = Three {
         first: sums.records as u64,
         second: rounds as u64,
-        third: one_if(sums.alive & served) as u64,
+        third: one_if(sums.alive) as u64,
     };
     put_step(out, used, head, tail)
 }
@@ -112,14 +110,19 @@ fn put_lines(
 {
     let mut told = [[0usize; Told::COUNT]; Fleet::VANS];
     tell_vans(sheet, at, jobs, routes, sets, figures, true, &mut told);
+    let none = Sums {
+        places: 0,
+        records: 0,
+        alive: true,
+    };
+    let mut sums = sums_now(true, none, &told, routes, sets, figures, at.vans);
     let mut used = 0;
     let mut i = 0;
     while i < at.steps {
         let o = step_at(sheet, at, i, routes, sets, levels, figures, trail);
-        tell_vans(sheet, at, jobs, routes, sets, figures, false, &mut told);
-        let sums = sum_up(&told, at.vans);
-        let all = served(routes, sets, figures, at.vans);
-        used = put_line(out, used, i, o.answer, o.rounds, sums, all);
+        let one = tell_vans(sheet, at, jobs, routes, sets, figures, false, &mut told);
+        sums = sums_now(one, sums, &told, routes, sets, figures, at.vans);
+        used = put_line(out, used, i, o.answer, o.rounds, sums);
         i += 1;
     }
     used

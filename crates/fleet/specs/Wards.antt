@@ -1,6 +1,6 @@
 -- What a pass over the vans finds of the wards.
 use mathlib.Core.Path.{_≡_}
-use mathlib.Core.Bool.{not, _&&_, _||_}
+use mathlib.Core.Bool.{Bool, true, false, not, _&&_, _||_}
 use mathlib.Core.List.{List}
 use Prim.Native.Nat.{ℕ, _≤_, _<_}
 use lib.ListN.{length, getD}
@@ -8,9 +8,10 @@ use lib.Dec.{eqb}
 use Rattle.laws.specs.Basic.{allBelow, anyBelow}
 use Rattle.rules.specs.Day.{isInner}
 use Rattle.bits.specs.Places.{has}
-use Rattle.board.specs.Board.{Board, onRoute, setOf}
+use Rattle.board.specs.Board.{Board, boardOf, onRoute, setOf}
+use Rattle.board.specs.declared.State.{State}
 use Rattle.fleet.specs.Fleet.{boardIn}
-use Rattle.fleet.specs.Form.{hasWard, sharesNone}
+use Rattle.fleet.specs.Form.{hasWard, sharesNone, vanFits}
 use Rattle.fleet.specs.declared.Fleet.{Fleet}
 use Rattle.fleet.specs.declared.wards.Wards.{Wards}
 
@@ -29,3 +30,9 @@ pub record AddsVan (n : ℕ) (w : Wards) (b : Board) (r : Wards) : Type 0 where
   pub placed : (y : ℕ) → has (r .placed) y ≡ has (w .placed) y || isInner n y && onRoute b y
   pub reached : (y : ℕ) → has (r .reached) y ≡ has (w .reached) y || isInner n y && hasWard b y
   pub apart : r .apart ≡ w .apart && (allBelow 64 (λ y. not (isInner n y && (onRoute b y && has (w .reached) y))) && allBelow 64 (λ y. not (isInner n y && (not (eqb (setOf b y) 0) && has (w .placed) y))))
+
+-- one van more, whose state is s, which may be the only one: not in form, the flag is down; the only one has no other; any other is added
+pub record JoinsVan (n : ℕ) (w : Wards) (s : State) (depth : ℕ) (first alone : Bool) (r : Wards) : Type 0 where
+  pub misfit : vanFits n s depth first ≡ false → r ≡ record { placed = 0; reached = 0; apart = false }
+  pub only : vanFits n s depth first ≡ true → alone ≡ true → r ≡ w
+  pub added : vanFits n s depth first ≡ true → alone ≡ false → AddsVan n w (boardOf s) r

@@ -11,17 +11,19 @@ ghost use Rattle.board.specs.Board.{stateWith};
 ghost use Rattle.fleet.specs.Fleet.{stateIn};
 ghost use Rattle.fleet.specs.Form.{vanOk, vanFits, idle, sharesNone};
 ghost use Rattle.fleet.specs.Rows.{figuresIn, fleetWith, Rows, Figured};
+ghost use Rattle.fleet.specs.Wards.{JoinsVan};
 use crate::Fleet;
 use crate::rows::figures_in;
 use crate::rows::unpack;
-use crate::wards::gather;
+use crate::wards::Wards;
+use crate::wards::with_van;
 use board::Figures;
 use board::State;
 use board::form::in_form;
 use rules::Node;
 
 // Every number 0: gathered in one word, with no exit inside.
-fn is_idle(s: State) -> bool
+pub fn is_idle(s: State) -> bool
     ensures { λ r. ⌜ r ≡ idle s ⌝ }
 {
     let mut all = (s.stops | s.depth | s.records) as u64 | s.marks | s.must;
@@ -76,6 +78,34 @@ fn van_ok<'a>(
     in_form(route, sets, levels, f, n)
 }
 
+// One van more of a fleet, to those whose wards are given: in form, and apart from them; `only` says that it has no other to be apart from.
+pub fn join_van<'a>(
+    wards: Wards,
+    route: &'a [usize; Node::MOST],
+    sets: &'a [u64; Node::MOST],
+    levels: &'a [usize; State::LEVELS],
+    f: Figures,
+    n: usize,
+    depth: usize,
+    first: bool,
+    only: bool,
+) -> Wards
+    requires { ⌜ (2 ≤ n) × (n ≤ 64) × (length (now route) ≡ 64) × (length (now sets) ≡ 64) ⌝ }
+    ensures { λ r. ⌜ JoinsVan n wards (stateWith (now (route .entry)) (now (sets .entry)) (now (levels .entry)) f) depth first only r ⌝ }
+{
+    if !van_ok(route, sets, levels, f, n, depth, first) {
+        return Wards {
+            placed: 0,
+            reached: 0,
+            apart: false,
+        };
+    }
+    if only {
+        return wards;
+    }
+    with_van(wards, route, sets, f.stops, n)
+}
+
 // The vans, in rows, and the rule between them.
 pub fn vans_ok<'a>(
     routes: &'a [[usize; Node::MOST]; Fleet::VANS],
@@ -91,19 +121,24 @@ pub fn vans_ok<'a>(
 {
     let one = figures_in(&figures[0]);
     let depth = one.depth;
+    let mut wards = Wards::none();
     let mut j = 0;
     while j < v {
         let f = figures_in(&figures[j]);
-        if !van_ok(&routes[j], &sets[j], &levels[j], f, n, depth, j == 0) {
-            return false;
-        }
+        wards = join_van(
+            wards,
+            &routes[j],
+            &sets[j],
+            &levels[j],
+            f,
+            n,
+            depth,
+            j == 0,
+            v == 1,
+        );
         j += 1;
     }
-    if v == 1 {
-        return true;
-    }
-    let w = gather(routes, sets, figures, n, v);
-    w.apart
+    wards.apart
 }
 
 // No van has more records than its part of the trail has room for.

@@ -1,8 +1,7 @@
 // A fleet: eight states by value, of which a sheet tells how many are vans. form: when it is in form. wards: what the vans have of the wards.
-// rows: a fleet in arrays, a row of each for every van, which steps change in place. sums: its open places in all, and its verdict.
+// rows: a fleet in arrays, a row of each for every van, which steps change in place.
 pub mod form;
 pub mod rows;
-pub mod sums;
 pub mod wards;
 
 ghost use mathlib.Core.Path.{_≡_};

@@ -28,6 +28,19 @@ pub fn figures_in(row: &[u64; Figures::COUNT]) -> Figures
     }
 }
 
+// The numbers of a state.
+pub fn figures_of(s: State) -> Figures
+    ensures { λ r. ⌜ r ≡ record { stops = s .stops; marks = s .marks; must = s .must; depth = s .depth; records = s .records } ⌝ }
+{
+    Figures {
+        stops: s.stops,
+        marks: s.marks,
+        must: s.must,
+        depth: s.depth,
+        records: s.records,
+    }
+}
+
 // A row for these numbers.
 pub fn put_figures(row: &mut [u64; Figures::COUNT], f: Figures)
     requires { ⌜ length (now row) ≡ 5 ⌝ }
@@ -58,14 +71,7 @@ pub fn unpack(
     *route = stops;
     *sets = places;
     *levels = heights;
-    let f = Figures {
-        stops: s.stops,
-        marks: s.marks,
-        must: s.must,
-        depth: s.depth,
-        records: s.records,
-    };
-    put_figures(row, f);
+    put_figures(row, figures_of(s));
 }
 
 // The state that its rows have.

@@ -1,6 +1,7 @@
-// What the vans have of the wards, each a word: those on a route, those on a route or open, and those that are neither.
+// What the vans have of the wards, each a word: those on a route, those on a route or open, and those that are neither; and whether those that must go
+// somewhere can.
 ghost use mathlib.Core.Path.{_≡_};
-ghost use mathlib.Core.Bool.{not, _&&_};
+ghost use mathlib.Core.Bool.{true, not, _&&_};
 ghost use mathlib.Core.List.{List, []};
 ghost use Prim.Native.Nat.{ℕ, _<_, _≤_};
 ghost use lib.ListN.{getD};
@@ -8,8 +9,9 @@ ghost use lib.Dec.{eqb, ltb};
 ghost use Rattle.rules.specs.Numbers.{mostVans};
 ghost use Rattle.bits.specs.Places.{has, minus, within};
 ghost use Rattle.board.specs.Board.{board};
-ghost use Rattle.fleet.specs.Form.{hasWard};
+ghost use Rattle.fleet.specs.Form.{hasWard, sharesNone};
 ghost use Rattle.fleet.specs.Rows.{figuresIn, fleetWith, Figured};
+ghost use Rattle.fleet.specs.Sums.{allServed};
 ghost use Rattle.fleet.specs.Wards.{Nodes, HasWards, AddsVan};
 use crate::Fleet;
 use crate::rows::figures_in;
@@ -48,7 +50,7 @@ fn apart(a: u64, b: u64) -> bool
 }
 
 // One van more. The ends, which every route has, are left out.
-fn with_van<'a>(
+pub fn with_van<'a>(
     wards: Wards,
     route: &'a [usize; Node::MOST],
     sets: &'a [u64; Node::MOST],
@@ -91,8 +93,21 @@ pub fn missed<'a>(
     kept
 }
 
+impl Wards {
+    // Of no van.
+    pub fn none() -> Wards
+        ensures { λ r. ⌜ r ≡ record { placed = 0; reached = 0; apart = true } ⌝ }
+    {
+        Wards {
+            placed: 0,
+            reached: 0,
+            apart: true,
+        }
+    }
+}
+
 // The wards of v vans: one pass.
-pub fn gather<'a>(
+fn gather<'a>(
     routes: &'a [[usize; Node::MOST]; Fleet::VANS],
     sets: &'a [[u64; Node::MOST]; Fleet::VANS],
     figures: &'a [[u64; Figures::COUNT]; Fleet::VANS],
@@ -103,11 +118,7 @@ pub fn gather<'a>(
     requires { ⌜ ((j : ℕ) → j < v → Nodes n (figuresIn (getD (now figures) j []) .stops) (getD (now routes) j [])) ⌝ }
     ensures { λ r. ⌜ ((levels : List (List ℕ)) → HasWards n v (fleetWith (now (routes .entry)) (now (sets .entry)) levels (now (figures .entry))) r) ⌝ }
 {
-    let mut all = Wards {
-        placed: 0,
-        reached: 0,
-        apart: true,
-    };
+    let mut all = Wards::none();
     let mut j = 0;
     while j < v {
         let f = figures_in(&figures[j]);
@@ -115,4 +126,48 @@ pub fn gather<'a>(
         j += 1;
     }
     all
+}
+
+// Whether no ward on a route is on or open in another van. One van alone has no other.
+pub fn share_none<'a>(
+    routes: &'a [[usize; Node::MOST]; Fleet::VANS],
+    sets: &'a [[u64; Node::MOST]; Fleet::VANS],
+    figures: &'a [[u64; Figures::COUNT]; Fleet::VANS],
+    n: usize,
+    v: usize,
+) -> bool
+    requires { ⌜ (v ≤ mostVans) × (2 ≤ n) × Figured (now figures) ⌝ }
+    requires { ⌜ ((j : ℕ) → j < v → Nodes n (figuresIn (getD (now figures) j []) .stops) (getD (now routes) j [])) ⌝ }
+    ensures { λ r. ⌜ ((levels : List (List ℕ)) → r ≡ sharesNone n v (fleetWith (now (routes .entry)) (now (sets .entry)) levels (now (figures .entry)))) ⌝ }
+{
+    if v == 1 {
+        return true;
+    }
+    let w = gather(routes, sets, figures, n, v);
+    w.apart
+}
+
+// Whether every ward that must go somewhere is placed or open in some van. Van by van, those are left that no van so far has.
+pub fn served<'a>(
+    routes: &'a [[usize; Node::MOST]; Fleet::VANS],
+    sets: &'a [[u64; Node::MOST]; Fleet::VANS],
+    figures: &'a [[u64; Figures::COUNT]; Fleet::VANS],
+    v: usize,
+) -> bool
+    requires { ⌜ (v ≤ mostVans) × Figured (now figures) ⌝ }
+    requires { ⌜ ((j : ℕ) → j < v → Nodes 64 (figuresIn (getD (now figures) j []) .stops) (getD (now routes) j [])) ⌝ }
+    ensures { λ r. ⌜ ((levels : List (List ℕ)) → r ≡ allServed v (fleetWith (now (routes .entry)) (now (sets .entry)) levels (now (figures .entry)))) ⌝ }
+{
+    let one = figures_in(&figures[0]);
+    let mut left = one.must;
+    let mut j = 0;
+    while left != 0 {
+        if j == v {
+            return false;
+        }
+        let f = figures_in(&figures[j]);
+        left = missed(left, &routes[j], &sets[j], f.stops);
+        j += 1;
+    }
+    true
 }

@@ -3,13 +3,14 @@ use mathlib.Core.Path.{_≡_, refl, sym, ap, _∙_, subst}
 use mathlib.Core.Bool.{Bool, true, false, not, _&&_}
 use mathlib.Core.List.{List}
 use mathlib.Core.Logic.{_↔_}
-use Prim.Native.Nat.{ℕ, _+_, _^_, _<_}
+use Prim.Native.Nat.{ℕ, max, _+_, _^_, _<_}
 use native.Mathlib.Numerals.{add-one}
 use native.Mathlib.Omega.{arith}
-use lib.Dec.{T, eqb}
+use lib.Dec.{T, eqb, leb}
 use lib.ListN.{getD}
-use lib.IntN.{ℤ}
-use borrow.Author.Tests.{not-true, not-false, eqb-true, eqb-false}
+use lib.IntN.{ℤ, pos, negsuc}
+use lib.Signed.{leZ}
+use borrow.Author.Tests.{not-true, not-false, eqb-true, eqb-false, leb-true, leb-false, le-leb, lt-leb}
 use Rattle.laws.proofs.Logic.{decided, T→true, true→T}
 use Rattle.bits.specs.Places.{has, without, lowest}
 use Rattle.bits.proofs.Members.{has-none, without-same, without-other, without-part, members-once}
@@ -86,6 +87,19 @@ first-fails {r} b e t = ap (λ (c : Bool). c && b) (sym (not-true r t) ∙ e)
 
 pub second-tells : {r q a b : Bool} → r ≡ a → not r ≡ false → q ≡ b → q ≡ (a && b)
 second-tells {r} {q} e t f = (λ u. (sym (not-false r t) ∙ e) u && f u)
+
+-- the later of two is not after a moment: neither is
+pub both-later : (a b : ℕ) (z : ℤ) → leZ (pos a) z && leZ (pos b) z ≡ leZ (pos (max a b)) z
+both-later a b (pos k) = decided (leb a k)
+    (λ e. decided (leb b k)
+    (λ f. rw (e, f) (sym (le-leb (max a b) k (omega (arith, leb-true a k e, leb-true b k f)))))
+    (λ f. rw (e, f) (sym (lt-leb (max a b) k (omega (arith, leb-false b k f))))))
+    (λ e. rw e (sym (lt-leb (max a b) k (omega (arith, leb-false a k e)))))
+both-later a b (negsuc k) = refl
+
+-- and so much after both
+pub later-on : (a b c d : ℕ) → max (a + (c + d)) (b + (c + d)) ≡ max a b + c + d
+later-on a b c d = omega arith
 
 -- a walk from leg to leg: when the i-th is left, and the start at its other end
 pub left-told : (d : Day) (l : List ℕ) (i : ℕ) {p t b : ℕ} → p ≡ getD l i 0 → t ≡ startAt d l i → b ≡ d .service p → t + b ≡ leftAt d l i

@@ -1,6 +1,8 @@
 // The tests of a place that read the route only: window and metres.
 ghost use mathlib.Core.Path.{_≡_};
-ghost use Prim.Native.Nat.{_+_, _<_};
+ghost use Prim.Native.Nat.{max, _+_, _<_};
+ghost use lib.IntN.{pos};
+ghost use lib.Signed.{leZ};
 ghost use lib.ListN.{take, length};
 ghost use Rattle.rules.specs.Time.{driven};
 ghost use Rattle.sheet.specs.Place.{Laid};
@@ -36,17 +38,26 @@ pub struct Trial {
     pub total: usize,
 }
 
-// Window: x is started in time, and what follows it, too.
+// Whether the later of two moments is not after `last`: neither is. Nothing is chosen between them, so nothing has to be guessed by the machine.
+fn both_in_time(a: usize, b: usize, last: i64) -> bool
+    requires { ⌜ (a < 4611686018427387904) × (b < 4611686018427387904) ⌝ }
+    ensures { λ r. ⌜ r ≡ leZ (pos (max a b)) last ⌝ }
+{
+    in_time(a, last) & in_time(b, last)
+}
+
+// Window: x is started in time, and what follows it, too. x starts at its earliest or on arrival, whichever is later, and the next stop so much after.
 fn window(s: &[u8], at: Layout, x: usize, gap: Gap) -> bool
     requires { ⌜ Laid (now s) at × (x < at .nodes) × GapIn (at .nodes) gap ⌝ }
     ensures { λ r. ⌜ r ≡ inWindow (dayOf (now (s .entry))) x gap ⌝ }
 {
-    let a = reach(s, at, gap.leave, gap.from, x);
-    if !in_time(a, last_moment(s, at, x)) {
+    let e = earliest(s, at, x);
+    let a = gap.leave + seconds(s, at, gap.from, x);
+    if !both_in_time(e, a, last_moment(s, at, x)) {
         return false;
     }
-    let b = a + service(s, at, x) + seconds(s, at, x, gap.to);
-    in_time(b, gap.last)
+    let on = service(s, at, x) + seconds(s, at, x, gap.to);
+    both_in_time(e + on, a + on, gap.last)
 }
 
 // Window, and metres: the route with x in the gap is not too long.

@@ -1,7 +1,7 @@
 -- Asking a call: what the code finds in rows is what the form asks of the fleet.
 use Prim.Native.Nat.{ℕ, _≤_, _<_}
-use mathlib.Core.Path.{_≡_, refl, sym, ap, subst, _∙_}
-use mathlib.Core.Bool.{Bool, true, false, cond, _&&_, _||_}
+use mathlib.Core.Path.{_≡_, refl, sym, ap, ap₂, subst, _∙_}
+use mathlib.Core.Bool.{Bool, true, false, cond, _&&_, _||_, and-assoc}
 use mathlib.Core.List.{List}
 use native.Mathlib.Omega.{arith}
 use lib.Dec.{ltb}
@@ -69,6 +69,26 @@ form-idle n v f h e =
     and-true (allBelow mostVans (λ j. ltb j v || idle (stateIn f j))) _
     (slots n v f h ∙ and-true (allBelow mostVans (λ j. cond (ltb j v) (vanOk n f j) (idle (stateIn f j)))) _ e .0) .0
 
+-- a sheet that no call refuses: the call is refused by the form alone
+module _ (sheet : List ℕ) {r : Found} (e : r ≡ found callRefusal sheet) (z : r .answer ≡ 0) (f : Fleet) where
+  pub ask-taken : inFormAll (nOf sheet) (vansOf sheet) f ≡ true → 0 ≡ askRefusal sheet f
+  unfolding askRefusal orElse
+  ask-taken q = rw (sym (found-answer callRefusal sheet e) ∙ z, q) refl
+
+  pub ask-form : inFormAll (nOf sheet) (vansOf sheet) f ≡ false → refusal.FORM ≡ askRefusal sheet f
+  unfolding askRefusal orElse
+  ask-form q = rw (sym (found-answer callRefusal sheet e) ∙ z, q) refl
+
+-- the form, as it is found of the states: those that are no vans, and the vans
+pub form-asked : {sheet : List ℕ} {at : Layout} → Laid sheet at → (f : Fleet) {a b : Bool} → a ≡ allBelow mostVans (λ j. ltb j (at .vans) || idle (stateIn f j))
+    → b ≡ allBelow (at .vans) (vanOk (at .nodes) f) && sharesNone (at .nodes) (at .vans) f → a && b ≡ inFormAll (nOf sheet) (vansOf sheet) f
+unfolding inFormAll
+form-asked {at = at} l f p q =
+    ap₂ _&&_ p q
+    ∙ sym (and-assoc (allBelow mostVans (λ j. ltb j (at .vans) || idle (stateIn f j))) (allBelow (at .vans) (vanOk (at .nodes) f)) (sharesNone (at .nodes) (at .vans) f))
+    ∙ ap (λ (c : Bool). c && sharesNone (at .nodes) (at .vans) f) (slots (at .nodes) (at .vans) f (sized l .most))
+    ∙ rw (l .vans, l .nodes) refl
+
 module _ {sheet : List ℕ} {r : Found} (e : r ≡ found callRefusal sheet) (z : r .answer ≡ 0) (l : Laid sheet (r .layout)) (f g : Fleet) (held : HeldAll f)
     (rows : g ≡ fleetOf (λ j. cond (ltb j (r .layout .vans)) (stateIn f j) noState)) where
   -- where what is no van is idle, the rows have the whole fleet
@@ -110,14 +130,6 @@ module _ {sheet : List ℕ} {r : Found} (e : r ≡ found callRefusal sheet) (z :
       counted : allBelow mostVans (λ j. cond (ltb j v) (vanOk n f j) (idle (stateIn f j))) && sharesNone n v f
           ≡ allBelow mostVans (λ j. cond (ltb j (vansOf sheet)) (vanOk (nOf sheet) f j) (idle (stateIn f j))) && sharesNone (nOf sheet) (vansOf sheet) f
       counted = rw (l .vans, l .nodes) refl
-
-  pub ask-taken : inFormAll (nOf sheet) (vansOf sheet) f ≡ true → 0 ≡ askRefusal sheet f
-  unfolding askRefusal orElse
-  ask-taken q = rw (sym (found-answer callRefusal sheet e) ∙ z, q) refl
-
-  pub ask-form : inFormAll (nOf sheet) (vansOf sheet) f ≡ false → refusal.FORM ≡ askRefusal sheet f
-  unfolding askRefusal orElse
-  ask-form q = rw (sym (found-answer callRefusal sheet e) ∙ z, q) refl
 
 -- a call that is not refused
 pub asked : (sheet : List ℕ) (f : Fleet) → askRefusal sheet f ≡ 0 → (callRefusal sheet ≡ 0) × (inFormAll (nOf sheet) (vansOf sheet) f ≡ true)

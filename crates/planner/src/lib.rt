@@ -2,21 +2,31 @@
 ghost use mathlib.Core.Path.{_≡_};
 ghost use mathlib.Core.List.{List};
 ghost use Prim.Native.Nat.{ℕ, _≤_};
+ghost use lib.Dec.{eqb};
 ghost use Rattle.rules.specs.Numbers.{mostVans};
 ghost use Rattle.sheet.specs.Place.{found};
 ghost use Rattle.day.specs.Refuse.{callRefusal};
 ghost use Rattle.fleet.specs.Rows.{Rows, Figured};
+ghost use Rattle.fleet.specs.Wards.{JoinsVan};
 ghost use Rattle.fleet.specs.declared.Fleet.{Fleet};
 ghost use Rattle.planner.specs.Asked.{Sized, TakenIn, putBack};
 ghost use Rattle.planner.specs.Face.{askRefusal, stepOf, Opens, Sections, Stepping, Counts, Judges};
 use acts::act;
+use along::nodes::Jobs;
+use along::nodes::by_node;
 use board::Figures;
 use board::State;
+use board::places::count;
 use fleet::Fleet;
+use fleet::form::is_idle;
+use fleet::form::join_van;
 use fleet::form::take_in;
 use fleet::form::vans_ok;
 use fleet::form::within_room;
+use fleet::rows::figures_of;
 use fleet::rows::pack;
+use fleet::wards::Wards;
+use fleet::wards::missed;
 use rules::Node;
 use rules::Refusal;
 use rules::Step;
@@ -192,43 +202,67 @@ pub fn step(
     }
 }
 
+// A state of a fleet asked as van j of v, with those before it, whose wards are given; the first has so many levels.
+fn ask_van(wards: Wards, s: State, n: usize, v: usize, j: usize, depth: usize) -> Wards
+    requires { ⌜ (2 ≤ n) × (n ≤ 64) ⌝ }
+    ensures { λ r. ⌜ JoinsVan n wards s depth (eqb j 0) (eqb v 1) r ⌝ }
+{
+    let f = figures_of(s);
+    join_van(
+        wards,
+        &s.route,
+        &s.sets,
+        &s.levels,
+        f,
+        n,
+        depth,
+        j == 0,
+        v == 1,
+    )
+}
+
 // The open places of a fleet in all.
 pub fn open_places(sheet: &[u8], fleet: Fleet) -> Counted
     ensures { λ r. ⌜ Counts (now (sheet .entry)) fleet r ⌝ }
 {
-    let mut routes = [[0usize; Node::MOST]; Fleet::VANS];
-    let mut sets = [[0u64; Node::MOST]; Fleet::VANS];
-    let mut levels = [[0usize; State::LEVELS]; Fleet::VANS];
-    let mut figures = [[0u64; Figures::COUNT]; Fleet::VANS];
     let read = day::checked(sheet);
+    if read.answer != 0 {
+        return uncounted(read.answer);
+    }
     let at = read.layout;
     let v = at.vans;
     let vans = fleet.vans;
-    let mut idle = true;
+    let head = vans[0];
+    let mut wards = Wards::none();
+    let mut places = 0;
     let mut j = 0;
-    while j < Fleet::VANS {
+    while j < v {
         let s = vans[j];
-        idle = idle
-            & take_in(
-                s,
-                j < v,
-                &mut routes[j],
-                &mut sets[j],
-                &mut levels[j],
-                &mut figures[j],
-            );
+        wards = ask_van(wards, s, at.nodes, v, j, head.depth);
+        places += count(&s.sets, at.nodes);
         j += 1;
     }
-    let answer = asked(read, idle, &routes, &sets, &levels, &figures);
-    if answer != 0 {
-        return Counted {
-            answer: answer,
-            places: 0,
-        };
+    let mut idle = true;
+    while j < Fleet::VANS {
+        idle = idle & is_idle(vans[j]);
+        j += 1;
+    }
+    if !(idle & wards.apart) {
+        return uncounted(Refusal::FORM);
     }
     Counted {
         answer: 0,
-        places: fleet::sums::places(&sets, at.nodes, at.vans),
+        places: places,
+    }
+}
+
+// 0 stands beside a refusal.
+fn uncounted(answer: usize) -> Counted
+    ensures { λ r. ⌜ r ≡ record { answer = answer; places = 0 } ⌝ }
+{
+    Counted {
+        answer: answer,
+        places: 0,
     }
 }
 
@@ -236,38 +270,51 @@ pub fn open_places(sheet: &[u8], fleet: Fleet) -> Counted
 pub fn verdict(sheet: &[u8], fleet: Fleet) -> Judged
     ensures { λ r. ⌜ Judges (now (sheet .entry)) fleet r ⌝ }
 {
-    let mut routes = [[0usize; Node::MOST]; Fleet::VANS];
-    let mut sets = [[0u64; Node::MOST]; Fleet::VANS];
-    let mut levels = [[0usize; State::LEVELS]; Fleet::VANS];
-    let mut figures = [[0u64; Figures::COUNT]; Fleet::VANS];
     let read = day::checked(sheet);
+    if read.answer != 0 {
+        return judge(read.answer, false);
+    }
     let at = read.layout;
     let v = at.vans;
     let vans = fleet.vans;
-    let mut idle = true;
+    let head = vans[0];
+    let mut wards = Wards::none();
     let mut j = 0;
-    while j < Fleet::VANS {
+    while j < v {
         let s = vans[j];
-        idle = idle
-            & take_in(
-                s,
-                j < v,
-                &mut routes[j],
-                &mut sets[j],
-                &mut levels[j],
-                &mut figures[j],
-            );
+        wards = ask_van(wards, s, at.nodes, v, j, head.depth);
         j += 1;
     }
-    let answer = asked(read, idle, &routes, &sets, &levels, &figures);
-    if answer != 0 {
-        return Judged {
-            answer: answer,
-            alive: false,
-        };
+    let mut idle = true;
+    while j < Fleet::VANS {
+        idle = idle & is_idle(vans[j]);
+        j += 1;
     }
+    if !(idle & wards.apart) {
+        return judge(Refusal::FORM, false);
+    }
+    let mut jobs = [0usize; Jobs::ROOM];
+    by_node(sheet, at, &mut jobs);
+    let mut left = head.must;
+    j = 0;
+    while j < v {
+        let s = vans[j];
+        let f = figures_of(s);
+        let van = day::look::van(sheet, at, j);
+        if !van::alive(sheet, at, &jobs, van, &s.route, &s.sets, f) {
+            return judge(0, false);
+        }
+        left = missed(left, &s.route, &s.sets, f.stops);
+        j += 1;
+    }
+    judge(0, left == 0)
+}
+
+fn judge(answer: usize, alive: bool) -> Judged
+    ensures { λ r. ⌜ r ≡ record { answer = answer; alive = alive } ⌝ }
+{
     Judged {
-        answer: 0,
-        alive: fleet::sums::alive(sheet, at, &routes, &sets, &figures),
+        answer: answer,
+        alive: alive,
     }
 }

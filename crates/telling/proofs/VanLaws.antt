@@ -19,7 +19,7 @@ use Rattle.van.specs.Act.{planIn}
 use Rattle.fleet.specs.Rows.{figuresIn, rowState, rowBoard, fleetWith, RowsOf}
 use Rattle.fleet.proofs.FleetLaws.{state-of}
 use Rattle.laws.proofs.Turned.{Turned, ltb-more}
-use Rattle.telling.specs.Told.{toldIn, ToldAll}
+use Rattle.telling.specs.Told.{toldIn, ToldAll, anew}
 
 -- a row of three, each entry written
 pub told-written : (l : List ℕ) (a b c : ℕ) → length l ≡ 3 → set (set (set l 0 a) 1 b) 2 c ≡ a ∷ b ∷ c ∷ []
@@ -37,10 +37,6 @@ told-none = let none : List ℕ = replicate 3 0 in record { eight = refl; wide =
 abbrev pub toldRow : List ℕ → List (List ℕ) → List (List ℕ) → List (List ℕ) → ℕ → List ℕ
 toldRow sheet routes sets figures j =
     placesOf (getD sets j []) 64 ∷ figuresIn (getD figures j []) .records ∷ cond (alive (vanOf sheet j) (dayOf sheet) (planOf (rowBoard routes sets figures j))) 1 0 ∷ []
-
--- row j is told: every row is, or its records are other than they were
-abbrev pub anew : Bool → List (List ℕ) → List (List ℕ) → ℕ → Bool
-anew every figures before j = every || not (eqb (figuresIn (getD figures j []) .records) (getD (getD before j []) 1 0))
 
 -- what stands for row j once it is passed
 abbrev pub toldOr : List ℕ → List (List ℕ) → List (List ℕ) → List (List ℕ) → Bool → List (List ℕ) → ℕ → List ℕ

@@ -5,7 +5,7 @@ ghost use mathlib.Core.List.{List, [], _∷_};
 ghost use Prim.Native.Nat.{ℕ, _<_, _≤_};
 ghost use lib.ListN.{getD, length};
 ghost use lib.Dec.{eqb};
-ghost use Rattle.laws.specs.Basic.{allBelow, sumBelow};
+ghost use Rattle.laws.specs.Basic.{allBelow, anyBelow, sumBelow};
 ghost use Rattle.rules.specs.Numbers.{mostVans};
 ghost use Rattle.sheet.specs.Section.{vansOf};
 ghost use Rattle.day.specs.Tell.{dayOf, jobIn};
@@ -15,13 +15,15 @@ ghost use Rattle.rules.specs.Verdict.{alive};
 ghost use Rattle.along.specs.Ready.{Ready};
 ghost use Rattle.board.specs.Board.{stateWith};
 ghost use Rattle.van.specs.Act.{planIn};
-ghost use Rattle.fleet.specs.Rows.{figuresIn, fleetWith, RowsOf, ReadyAll};
-ghost use Rattle.telling.specs.Told.{toldIn, ToldAll};
+ghost use Rattle.fleet.specs.Rows.{figuresIn, fleetWith, RowsOf, Figured, ReadyAll};
+ghost use Rattle.fleet.specs.Wards.{Nodes};
+ghost use Rattle.telling.specs.Told.{toldIn, ToldAll, anew, sumsOf};
 use along::nodes::Jobs;
 use board::Figures;
 use board::places::count;
 use fleet::Fleet;
 use fleet::rows::figures_in;
+use fleet::wards::served;
 use rules::Node;
 use rules::Van;
 use sheet::Layout;
@@ -62,7 +64,7 @@ fn tell<'a>(
     row[2] = one_if(alive);
 }
 
-// Every van, or those alone whose records are other than they were.
+// Every van, or those alone whose records are other than they were; whether one was told.
 pub fn tell_vans<'a>(
     sheet: &[u8],
     at: Layout,
@@ -72,33 +74,37 @@ pub fn tell_vans<'a>(
     figures: &'a [[u64; Figures::COUNT]; Fleet::VANS],
     every: bool,
     told: &mut [[usize; Told::COUNT]; Fleet::VANS],
-)
+) -> bool
     requires { ⌜ ReadyAll (now sheet) at (now routes) (now sets) (now figures) × RowsOf 3 (now told) × ByNode (jobIn (now sheet)) (at .jobs) (now jobs) ⌝ }
-    ensures { λ _. ⌜ RowsOf 3 (now (told .exit)) ⌝ }
+    ensures { λ r. ⌜ RowsOf 3 (now (told .exit)) × (r ≡ anyBelow (vansOf (now (sheet .entry))) (anew every (now (figures .entry)) (now (told .entry)))) ⌝ }
     ensures { λ _. ⌜ ((levels : List (List ℕ)) → ((j : ℕ) → j < vansOf (now (sheet .entry)) → every ≡ false
         → figuresIn (getD (now (figures .entry)) j []) .records ≡ getD (getD (now (told .entry)) j []) 1 0 → getD (now (told .entry)) j []
         ≡ toldIn (now (sheet .entry)) (fleetWith (now (routes .entry)) (now (sets .entry)) levels (now (figures .entry))) j)
         → ToldAll (now (sheet .entry)) (fleetWith (now (routes .entry)) (now (sets .entry)) levels (now (figures .entry))) (now (told .exit))) ⌝ }
 {
+    let mut one = false;
     let mut j = 0;
     while j < at.vans {
         let f = figures_in(&figures[j]);
         if every | (f.records != told[j][1]) {
             let van = day::look::van(sheet, at, j);
             tell(sheet, at, jobs, van, &routes[j], &sets[j], f, &mut told[j]);
+            one = true;
         }
         j += 1;
     }
+    one
 }
 
-// What a line tells of all vans: open places and records in all, and whether each van is alive.
+// What a line tells of all vans: open places and records in all, and the verdict.
 pub struct Sums {
     pub places: usize,
     pub records: usize,
     pub alive: bool,
 }
 
-pub fn sum_up(told: &[[usize; Told::COUNT]; Fleet::VANS], v: usize) -> Sums
+// The open places and the records in all, and whether each van is alive.
+fn sum_up(told: &[[usize; Told::COUNT]; Fleet::VANS], v: usize) -> Sums
     requires { ⌜ (v ≤ mostVans) × ((j : ℕ) → j < v → (getD (getD (now told) j []) 0 0 ≤ 4096) × (getD (getD (now told) j []) 1 0 ≤ 4096)) ⌝ }
     ensures { λ r. ⌜ r ≡ record {
       places = sumBelow v (λ j. getD (getD (now (told .entry)) j []) 0 0);
@@ -120,5 +126,32 @@ pub fn sum_up(told: &[[usize; Told::COUNT]; Fleet::VANS], v: usize) -> Sums
         places: places,
         records: records,
         alive: alive,
+    }
+}
+
+// The sums of the vans as they are told, and the verdict: those of before where no van was told anew.
+pub fn sums_now<'a>(
+    one: bool,
+    before: Sums,
+    told: &[[usize; Told::COUNT]; Fleet::VANS],
+    routes: &'a [[usize; Node::MOST]; Fleet::VANS],
+    sets: &'a [[u64; Node::MOST]; Fleet::VANS],
+    figures: &'a [[u64; Figures::COUNT]; Fleet::VANS],
+    v: usize,
+) -> Sums
+    requires { ⌜ (v ≤ mostVans) × ((j : ℕ) → j < v → (getD (getD (now told) j []) 0 0 ≤ 4096) × (getD (getD (now told) j []) 1 0 ≤ 4096)) ⌝ }
+    requires { ⌜ Figured (now figures) × ((j : ℕ) → j < v → Nodes 64 (figuresIn (getD (now figures) j []) .stops) (getD (now routes) j [])) ⌝ }
+    ensures { λ r. ⌜ ((levels : List (List ℕ)) → r
+        ≡ cond one (sumsOf v (now (told .entry)) (fleetWith (now (routes .entry)) (now (sets .entry)) levels (now (figures .entry)))) before) ⌝ }
+{
+    if !one {
+        return before;
+    }
+    let sums = sum_up(told, v);
+    let all = served(routes, sets, figures, v);
+    Sums {
+        places: sums.places,
+        records: sums.records,
+        alive: sums.alive & all,
     }
 }

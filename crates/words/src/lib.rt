@@ -5,6 +5,7 @@ ghost use Rattle.laws.specs.Basic.{allBelow};
 ghost use Rattle.rules.specs.Class.{oneBit};
 ghost use Rattle.rules.specs.Day.{isInner};
 ghost use Rattle.words.specs.Word.{size, words, wordAt, Reads, threeAt, fourAt, limitsOk, nodeOk, secondOk, jobOk, limitsAtOk, nodeAtOk, jobAtOk, entryOk};
+ghost use Rattle.words.specs.Quarters.{orOfFour};
 
 // How many words an entry has.
 pub struct Entry;
@@ -222,7 +223,18 @@ fn each_ok(s: &[u8], from: usize, m: usize) -> bool
     ok
 }
 
-// The or of all entries first, the cheapest loop there is, since no entry is above it: only where it is too high is each one judged.
+// The or of four words, each `part` words behind the one before.
+fn or_of_four(s: &[u8], at: usize, part: usize) -> u32
+    requires { ⌜ at + part + part + part < words (now s) ⌝ }
+    ensures { λ r. ⌜ r ≡ orOfFour (wordAt (now (s .entry))) at part ⌝ }
+{
+    let second = at + part;
+    let third = second + part;
+    word(s, at) | word(s, second) | word(s, third) | word(s, third + part)
+}
+
+// The or of all entries first, since no entry is above it: only where it is too high is each one judged. The quarters go side by side, so that no
+// stretch waits for another.
 pub fn entries_ok(s: &[u8], from: usize, m: usize) -> bool
     requires { ⌜ from + m ≤ words (now s) ⌝ }
     ensures { λ r. ⌜ r ≡ allBelow m (entryOk (now (s .entry)) from) ⌝ }
@@ -230,8 +242,14 @@ pub fn entries_ok(s: &[u8], from: usize, m: usize) -> bool
     if s.len() / 4 < from + m {
         return false;
     }
+    let part = m / 4;
     let mut all: u32 = 0;
     let mut i = 0;
+    while i < part {
+        all = all | or_of_four(s, from + i, part);
+        i += 1;
+    }
+    i = 4 * part;
     while i < m {
         all = all | word(s, from + i);
         i += 1;

@@ -80,8 +80,8 @@ returns-2 c =
     let b = backed (d .args .step) _ _ (m .each .result) (d .pre .0) (d .pre .1) (omega (arith, rw (i .figures-in .ensures) at (o .if1 .left))) (m .each .ensures .0, m .each .ensures .1) in
     did-misfit _ _ _ _ (c .answered2 .ensures) (m .each .ensures .2) (b .same) (b .no (unfit (m .each .result) _ (not-true _ (c .before .if2 .taken))))
 
-gather-requires : tie.Need-gather-requires
-gather-requires c κs =
+share-none-requires : tie.Need-share-none-requires
+share-none-requires c κs =
     let m = c .before .before .before .before .before .before in
     let o = m .before .before .before .before .before .before in
     let i = o .before .before in
@@ -112,7 +112,7 @@ returns-3 c =
     let l = d .pre .0 .laid in
     let b = backed (d .args .step) _ _ (m .each .result) (d .pre .0) (d .pre .1) (omega (arith, rw (i .figures-in .ensures) at (o .if1 .left))) (m .each .ensures .0, m .each .ensures .1) in
     did-of _ _ _ _ _ (c .answered3 .ensures) (m .each .ensures .2)
-    (b .yes (not-false _ (w .if2 .left)) (ap₂ (λ (n v : ℕ). sharesNone n v (fleetWith (m .each .last .1 .1 .1 .0) (m .each .last .1 .1 .1 .1 .0) (m .each .last .1 .1 .1 .1 .1 .0) (m .each .last .1 .1 .1 .1 .1 .1 .0))) (sym (l .nodes)) (sym (l .vans)) ∙ sym (g .gather .ensures (m .each .last .1 .1 .1 .1 .1 .0) .apart) ∙ c .before .if3 .taken))
+    (b .yes (not-false _ (w .if2 .left)) (ap₂ (λ (n v : ℕ). sharesNone n v (fleetWith (m .each .last .1 .1 .1 .0) (m .each .last .1 .1 .1 .1 .0) (m .each .last .1 .1 .1 .1 .1 .0) (m .each .last .1 .1 .1 .1 .1 .1 .0))) (sym (l .nodes)) (sym (l .vans)) ∙ sym (g .share-none .ensures (m .each .last .1 .1 .1 .1 .1 .0)) ∙ c .before .if3 .taken))
 
 same-length-3 : tie.Need-same-length-3
 same-length-3 c = search needs
@@ -128,7 +128,7 @@ returns-4 c =
     let l = d .pre .0 .laid in
     let b = backed (d .args .step) _ _ (m .each .result) (d .pre .0) (d .pre .1) (omega (arith, rw (i .figures-in .ensures) at (o .if1 .left))) (m .each .ensures .0, m .each .ensures .1) in
     did-misfit _ _ _ _ (c .answered4 .ensures) (m .each .ensures .2) (b .same)
-    (b .no (shared (m .each .result) _ (not-false _ (w .if2 .left)) (ap₂ (λ (n v : ℕ). sharesNone n v (fleetWith (m .each .last .1 .1 .1 .0) (m .each .last .1 .1 .1 .1 .0) (m .each .last .1 .1 .1 .1 .1 .0) (m .each .last .1 .1 .1 .1 .1 .1 .0))) (sym (l .nodes)) (sym (l .vans)) ∙ sym (g .gather .ensures (m .each .last .1 .1 .1 .1 .1 .0) .apart) ∙ c .before .if3 .left)))
+    (b .no (shared (m .each .result) _ (not-false _ (w .if2 .left)) (ap₂ (λ (n v : ℕ). sharesNone n v (fleetWith (m .each .last .1 .1 .1 .0) (m .each .last .1 .1 .1 .1 .0) (m .each .last .1 .1 .1 .1 .1 .0) (m .each .last .1 .1 .1 .1 .1 .1 .0))) (sym (l .nodes)) (sym (l .vans)) ∙ sym (g .share-none .ensures (m .each .last .1 .1 .1 .1 .1 .0)) ∙ c .before .if3 .left)))
 
 pub back-spec : {M : Type 1} → statement M
 back-spec =
@@ -143,7 +143,7 @@ back-spec =
     answered-requires-2
     same-length
     returns-2
-    gather-requires
+    share-none-requires
     answered-requires-3
     answered-requires-4
     same-length-2

@@ -1,71 +1,96 @@
 use mathlib.Core.Path.{_≡_, ap, _∙_}
-use Prim.Native.Nat.{_+_}
+use Prim.Native.Nat.{ℕ, max, _+_}
 use lib.IntN.{pos}
 use lib.Signed.{leZ}
 use mir.Syntax.{w64}
 use mir.Val.{toZ, ofZ}
 use Rattle.rules.specs.Time.{inTime}
 use Rattle.day.specs.Tell.{dayOf}
+use Rattle.along.specs.Times.{reached}
 use Rattle.along.proofs.RouteLaws.{low}
 use Rattle.along.proofs.Signed.{in-time-told}
-use Rattle.gaps.proofs.GapLaws.{first-fails, second-tells}
+use Rattle.gaps.proofs.GapLaws.{first-fails, second-tells, later-on}
 use borrow.Author.Needs.{needs}
 use Rattle.gaps.proofs.window.Statement.{statement}
 use Rattle.gaps.proofs.window.Tie as tie
 
-reach-requires : tie.Need-reach-requires
-reach-requires c κs = search needs
-
-last-moment-requires : tie.Need-last-moment-requires
-last-moment-requires c κs = search needs
-
-in-time-requires : tie.Need-in-time-requires
-in-time-requires c κs = search needs
-
-returns : tie.Need-returns
-returns c =
-    let a = c .before .before .before .before .before .args in
-    let d = dayOf (a .s .now) in
-    let e = in-time-told d (low (a .s .now)) (a .x) _ (c .before .before .last-moment .ensures) (c .before .in-time .ensures) in
-    first-fails _ (e ∙ ap (inTime d (a .x)) (c .before .before .before .reach .ensures .0)) (c .if1 .taken)
-
-service-requires : tie.Need-service-requires
-service-requires c κs = search needs
-
-add-b : tie.Need-add-b
-add-b c = search needs
+earliest-requires : tie.Need-earliest-requires
+earliest-requires c κs = search needs
 
 seconds-requires : tie.Need-seconds-requires
 seconds-requires c κs = search needs
 
-add-b-2 : tie.Need-add-b-2
-add-b-2 c = search needs
+add-a : tie.Need-add-a
+add-a c = search needs
 
-in-time-requires-2 : tie.Need-in-time-requires-2
-in-time-requires-2 c κs = search needs
+last-moment-requires : tie.Need-last-moment-requires
+last-moment-requires c κs = search needs
+
+both-in-time-requires : tie.Need-both-in-time-requires
+both-in-time-requires c κs = search needs
+
+-- L of the next stop is handed on as it is
+last-kept : (c : tie.Start) → toZ w64 (ofZ w64 (c .args .gap .last)) ≡ c .args .gap .last
+last-kept c = search needs
+
+-- the start at x is the later of two
+started : (c : tie.After-both-in-time) → let a = c .before .before .before .before .before .before .args in let d = dayOf (a .s .now) in
+    c .both-in-time .result ≡ inTime d (a .x) (reached d (a .gap .leave) (a .gap .from) (a .x))
+started c =
+    let b = c .before .before .before in
+    let a = b .before .before .before .args in
+    let d = dayOf (a .s .now) in
+    in-time-told d (low (a .s .now)) (a .x) _ (c .before .last-moment .ensures) (c .both-in-time .ensures)
+    ∙ (λ i. inTime d (a .x) (max (b .before .earliest .ensures .is i) (a .gap .leave + b .seconds .ensures .is i)))
+
+returns : tie.Need-returns
+returns c = first-fails _ (started (c .before)) (c .if1 .taken)
+
+service-requires : tie.Need-service-requires
+service-requires c κs = search needs
+
+seconds-requires-2 : tie.Need-seconds-requires-2
+seconds-requires-2 c κs = search needs
+
+add-on : tie.Need-add-on
+add-on c = search needs
+
+add-both-in-time : tie.Need-add-both-in-time
+add-both-in-time c = search needs
+
+add-both-in-time-2 : tie.Need-add-both-in-time-2
+add-both-in-time-2 c = search needs
+
+both-in-time-requires-2 : tie.Need-both-in-time-requires-2
+both-in-time-requires-2 c κs = search needs
 
 returns-2 : tie.Need-returns-2
 returns-2 c =
-    let b = c .before .before .before .before in
-    let a = b .before .before .before .before .before .args in
-    let r = b .before .before .before .reach .ensures .0 in
-    let d = dayOf (a .s .now) in
-    let e = in-time-told d (low (a .s .now)) (a .x) _ (b .before .before .last-moment .ensures) (b .before .in-time .ensures) in
-    let z : toZ w64 (ofZ w64 (a .gap .last)) ≡ a .gap .last = search needs in
-    second-tells (e ∙ ap (inTime d (a .x)) r) (b .if1 .left)
-    (c .in-time2 .ensures ∙ (λ i. leZ (pos (r i + c .before .before .before .service .ensures .is i + c .before .before .seconds .ensures .is i)) (z i)))
+    let g = c .before .before .before .before in
+    let b = g .before .before .before .before in
+    let s = b .before .before .before in
+    let e = b .before .earliest .ensures .is in
+    let a = b .seconds .ensures .is in
+    let on = c .before .before .before .service .ensures .is in
+    let to = c .before .before .seconds2 .ensures .is in
+    second-tells (started (g .before)) (g .if1 .left)
+    (c .both-in-time2 .ensures ∙ (λ i. leZ (pos (max (e i + (on i + to i)) (s .args .gap .leave + a i + (on i + to i)))) (last-kept s i))
+    ∙ ap (λ (t : ℕ). leZ (pos t) (s .args .gap .last)) (later-on _ _ _ _))
 
 pub window-spec : {M : Type 1} → statement M
 window-spec =
     tie.close
     (tie.spec
-    reach-requires
+    earliest-requires
+    seconds-requires
+    add-a
     last-moment-requires
-    in-time-requires
+    both-in-time-requires
     returns
     service-requires
-    add-b
-    seconds-requires
-    add-b-2
-    in-time-requires-2
+    seconds-requires-2
+    add-on
+    add-both-in-time
+    add-both-in-time-2
+    both-in-time-requires-2
     returns-2)

@@ -18,14 +18,14 @@ returns-2 c = λ sheet fleet e taken.
     let o = c .before in
     let z = o .before .before .if1 .left in
     let l = call-laid sheet e z in
-    ask-taken e z l fleet _ (taken .held) (taken .vans) (sym (form-found e z l fleet _ (taken .held) (taken .vans) (taken .others) (o .vans-ok .ensures)) ∙ c .if2 .taken)
+    ask-taken sheet e z fleet (sym (form-found e z l fleet _ (taken .held) (taken .vans) (taken .others) (o .vans-ok .ensures)) ∙ c .if2 .taken)
 
 returns-3 : tie.Need-returns-3
 returns-3 c = λ sheet fleet e taken.
     let o = c .before in
     let z = o .before .before .if1 .left in
     let l = call-laid sheet e z in
-    ask-form e z l fleet _ (taken .held) (taken .vans) (sym (form-found e z l fleet _ (taken .held) (taken .vans) (taken .others) (o .vans-ok .ensures)) ∙ c .if2 .left)
+    ask-form sheet e z fleet (sym (form-found e z l fleet _ (taken .held) (taken .vans) (taken .others) (o .vans-ok .ensures)) ∙ c .if2 .left)
 
 pub asked-spec : {M : Type 1} → statement M
 asked-spec = tie.close (tie.spec returns vans-ok-requires returns-2 returns-3)

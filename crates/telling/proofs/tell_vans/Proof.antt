@@ -1,9 +1,9 @@
 use native.Mathlib.Omega.{arith}
-use mathlib.Core.Path.{_≡_, refl, ap, _∙_}
-use mathlib.Core.Bool.{cond}
+use mathlib.Core.Path.{_≡_, refl, sym, ap, _∙_}
+use mathlib.Core.Bool.{cond, or-true, or-false}
 use mathlib.Core.List.{[], _∷_}
 use mathlib.Core.Logic.{⊎-elim}
-use Prim.Native.Nat.{_+_, _≤_, _<_, _-_}
+use Prim.Native.Nat.{ℕ, _+_, _≤_, _<_, _-_}
 use lib.ListN.{getD}
 use Rattle.rules.specs.Numbers.{mostVans}
 use Rattle.rules.specs.declared.Van.{Van}
@@ -14,22 +14,26 @@ use Rattle.board.specs.Board.{placesOf, routeOf, setOf, openAt}
 use Rattle.stands.specs.Stands.{planOf}
 use Rattle.stands.proofs.Formed.{stands-formed}
 use Rattle.fleet.specs.Rows.{figuresIn, rowBoard}
+use Rattle.laws.specs.Basic.{anyBelow}
 use Rattle.laws.proofs.Turned.{Turned, turned-none, turned-more}
+use Rattle.fleet.proofs.WardLaws.{any-next}
+use Rattle.telling.specs.Told.{anew}
 use Rattle.telling.proofs.VanLaws.{toldOr, told-anew, told-left, told-rows, turned-kept, turned-ahead, all-told}
 use Rattle.telling.proofs.tell_vans.Statement.{statement}
 use Rattle.telling.proofs.tell_vans.Tie as tie
 
 abbrev Inv-loop : tie.InvT-loop
-Inv-loop sheet at jobs routes sets figures every told₀ j₀ told j =
-    (j ≤ at .vans) × (at .vans ≤ 8) × Turned mostVans (toldOr sheet routes sets figures every told₀) (λ k. getD told₀ k []) [] j told
+Inv-loop sheet at jobs routes sets figures every told₀ one₀ j₀ told one j =
+    (j ≤ at .vans) × (at .vans ≤ 8) × Turned mostVans (toldOr sheet routes sets figures every told₀) (λ k. getD told₀ k []) [] j told × (one ≡ anyBelow j (anew every figures told₀))
 
 abbrev μ-loop : tie.MeasureT-loop
-μ-loop sheet at jobs routes sets figures every told₀ j₀ told j = at .vans - j
+μ-loop sheet at jobs routes sets figures every told₀ one₀ j₀ told one j = at .vans - j
 
 loop-holds : tie.Need-loop-holds Inv-loop μ-loop
+unfolding anyBelow
 loop-holds c =
     let s = c .before in
-    (omega arith, omega (arith, s .pre .0 .laid .vans, s .pre .0 .laid .fine .vans-high), turned-none _ _ _ _ _ (s .pre .1 .eight) (λ k h. refl))
+    (omega arith, omega (arith, s .pre .0 .laid .vans, s .pre .0 .laid .fine .vans-high), turned-none _ _ _ _ _ (s .pre .1 .eight) (λ k h. refl), refl)
 
 mul-figures-in : tie.Need-mul-figures-in Inv-loop μ-loop
 mul-figures-in c = omega arith
@@ -122,8 +126,24 @@ joined c =
     (told-left (a .sheet .now) (a .routes .now) (a .sets .now) (a .figures .now) (a .every) (a .told .now) (d .loop .j) (rw (g .figures-in .ensures, e) at (w .0 .left)))))
     (c .if2 .came)
 
+-- and whether one was told so far
+counted : (c : tie.Joined2 Inv-loop μ-loop) → let d = c .before .before .before .before .before .before .before in let a = d .before .before .args in
+    c .if2 .one ≡ anyBelow (d .loop .j + 1) (anew (a .every) (a .figures .now) (a .told .now))
+counted c =
+    let g = c .before .before .before in
+    let d = g .before .before .before .before in
+    let a = d .before .before .args in
+    let v = d .loop .inv in
+    let e : getD (d .loop .told) (d .loop .j) [] ≡ getD (a .told .now) (d .loop .j) [] = turned-ahead (v .2) (omega arith) in
+    let so = anyBelow (d .loop .j) (anew (a .every) (a .figures .now) (a .told .now)) in
+    let next = any-next (d .loop .j) (anew (a .every) (a .figures .now) (a .told .now)) in
+    ⊎-elim
+    (λ w. w .7 ∙ sym (next ∙ rw (rw (g .figures-in .ensures, e) at (w .0 .taken)) (or-true so)))
+    (λ w. w .2 ∙ v .3 ∙ sym (next ∙ rw (rw (g .figures-in .ensures, e) at (w .0 .left)) (or-false so)))
+    (c .if2 .came)
+
 loop-again : tie.Need-loop-again Inv-loop μ-loop
-loop-again c = (omega arith, c .before .before .before .before .before .before .before .loop .inv .1, joined c)
+loop-again c = (omega arith, c .before .before .before .before .before .before .before .loop .inv .1, joined c, counted c)
 
 returns : tie.Need-returns Inv-loop μ-loop
 returns c =
@@ -132,7 +152,7 @@ returns c =
     let a = s .args in
     let v = d .loop .inv in
     let e = s .pre .0 .laid .vans in (
-      told-rows (a .sheet .now) (a .routes .now) (a .sets .now) (a .figures .now) (a .every) (a .told .now) (s .pre .1) (v .2),
+      (told-rows (a .sheet .now) (a .routes .now) (a .sets .now) (a .figures .now) (a .every) (a .told .now) (s .pre .1) (v .2), v .3 ∙ ap (λ (k : ℕ). anyBelow k (anew (a .every) (a .figures .now) (a .told .now))) (omega (arith, e, v .0, c .if1 .left))),
       λ levels same. all-told (a .sheet .now) (a .routes .now) (a .sets .now) (a .figures .now) (a .every) (a .told .now) levels
           (omega (arith, e, v .0, c .if1 .left)) (omega (arith, v .0, v .1)) (v .2) same,
     )

@@ -2,8 +2,8 @@ use borrow.Author.Needs.{needs}
 use Rattle.dock.proofs.lines.put_line.Statement.{statement}
 use Rattle.dock.proofs.lines.put_line.Tie as tie
 
-add-t10 : tie.Need-add-t10
-add-t10 c = search needs
+add-t9 : tie.Need-add-t9
+add-t9 c = search needs
 
 one-if-requires : tie.Need-one-if-requires
 one-if-requires c κs = search needs
@@ -21,7 +21,7 @@ pub put-line-spec : {M : Type 1} → statement M
 put-line-spec =
     tie.close
     (tie.spec
-    add-t10
+    add-t9
     one-if-requires
     put-step-requires
     same-length

@@ -10,22 +10,23 @@ use Rattle.fleet.proofs.ServedLaws.{serving}
 use Rattle.listing.specs.Put.{Put}
 use Rattle.listing.proofs.TextLaws.{step-takes}
 use Rattle.dock.specs.Listing.{comeTo, linesOf, Reached}
-use Rattle.telling.specs.Told.{ToldAll}
+use Rattle.telling.specs.Told.{ToldAll, sumsOf}
 use Rattle.telling.proofs.VanLaws.{told-none}
-use Rattle.dock.proofs.Reach.{begun, readied, goes-on, line-is, summing, told-on}
+use Rattle.dock.proofs.Reach.{begun, readied, goes-on, line-is, summing, told-on, sums-on}
 use Rattle.dock.proofs.LineLaws.{come-none, come-next, lines-none, lines-next}
 use borrow.Author.Needs.{needs}
 use Rattle.dock.proofs.lines.put_lines.Statement.{statement}
 use Rattle.dock.proofs.lines.put_lines.Tie as tie
 
 abbrev Inv-loop : tie.InvT-loop
-Inv-loop sheet at jobs routes₀ sets₀ levels₀ figures₀ trail₀ out₀ told₀ used₀ i₀ routes sets levels figures trail out told used i =
+Inv-loop sheet at jobs routes₀ sets₀ levels₀ figures₀ trail₀ out₀ told₀ sums₀ used₀ i₀ routes sets levels figures trail out told sums used i =
     (i ≤ at .steps) × (used ≤ 200 * i) × (length out ≡ length out₀) × (length trail ≡ length trail₀) × Put out₀ 0 (linesOf sheet trail₀ i) used out
     × (comeTo sheet trail₀ i ≡ (fleetWith routes sets levels figures, trail)) × Reached sheet (fleetWith routes sets levels figures) trail
     × ToldAll sheet (fleetWith routes sets levels figures) told × RowsOf 3 told × (Rows routes × Rows sets × Rows levels × Figured figures)
+    × (sums ≡ sumsOf (at .vans) told (fleetWith routes sets levels figures))
 
 abbrev μ-loop : tie.MeasureT-loop
-μ-loop sheet at jobs routes₀ sets₀ levels₀ figures₀ trail₀ out₀ told₀ used₀ i₀ routes sets levels figures trail out told used i =
+μ-loop sheet at jobs routes₀ sets₀ levels₀ figures₀ trail₀ out₀ told₀ sums₀ used₀ i₀ routes sets levels figures trail out told sums used i =
     at .steps - i
 
 tell-vans-requires : tie.Need-tell-vans-requires Inv-loop μ-loop
@@ -34,9 +35,24 @@ tell-vans-requires c κs =
     let a = d .args in
     (readied (d .pre .0 .0) (d .pre .0 .1) (a .routes .now) (a .sets .now) (a .levels .now) (a .figures .now) (d .pre .1 .0 .3) (begun (a .trail .now) (d .pre .1 .1)), told-none, d .pre .0 .3)
 
+-- the fresh fleet is told
+first : (c : tie.After-tell-vans Inv-loop μ-loop) → let a = c .before .before .before .before .before .before .before .before .args in
+    ToldAll (a .sheet .now) (fleetWith (a .routes .now) (a .sets .now) (a .levels .now) (a .figures .now)) (c .tell-vans .last .1 .1 .1 .1 .1 .1 .1 .0)
+first c = c .tell-vans .ensures .1 (c .before .before .before .before .before .before .before .before .args .levels .now) (λ j h n same. absurd (false-true (sym n)))
+
+sums-now-requires : tie.Need-sums-now-requires Inv-loop μ-loop
+sums-now-requires c κs =
+    let t = c .before .before .before .before in
+    let d = t .before .before .before .before .before .before .before .before in
+    let a = d .args in
+    let r = begun (a .trail .now) (d .pre .1 .1) in
+    let s = serving (readied (d .pre .0 .0) (d .pre .0 .1) (a .routes .now) (a .sets .now) (a .levels .now) (a .figures .now) (d .pre .1 .0 .3) r) in
+    (summing (d .pre .0 .0) (d .pre .0 .1) (a .routes .now) (a .sets .now) (a .levels .now) (a .figures .now) (d .pre .1 .0 .3) r (first t), (s .0 .1, s .1))
+
 loop-holds : tie.Need-loop-holds Inv-loop μ-loop
 loop-holds c =
-    let d = c .before .before .before .before .before .before .before .before in
+    let t = c .before .before .before .before .before in
+    let d = t .before .before .before .before .before .before .before .before in
     let a = d .args in
     let e = d .pre .1 .1 in (
       omega arith,
@@ -46,9 +62,10 @@ loop-holds c =
       lines-none _ _ _,
       come-none _ _ e,
       begun (a .trail .now) e,
-      c .tell-vans .ensures .1 (a .levels .now) (λ j h n same. absurd (false-true (sym n))),
-      c .tell-vans .ensures .0,
+      first t,
+      t .tell-vans .ensures .0 .0,
       d .pre .1 .0,
+      c .sums-now .ensures (a .levels .now),
     )
 
 -- ---- the rows as the step leaves them
@@ -70,7 +87,7 @@ fleet-at c = fleetWith (routes-at c) (sets-at c) (levels-at c) (figures-at c)
 
 -- where the function began
 abbrev start : tie.After-step-at Inv-loop μ-loop → tie.Start Inv-loop μ-loop
-start c = c .before .before .before .before .before .before .before .before .before .before .before .before .before .before .before .before .before
+start c = c .before .before .before .before .before .before .before .before .before .before .before .before .before .before .before .before .before .before .before .before .before .before
 
 -- the fleet after the step was reached too
 on : (c : tie.After-step-at Inv-loop μ-loop) → Reached (start c .args .sheet .now) (fleet-at c) (c .step-at .last .1 .1 .1 .1 .1 .1 .1 .0)
@@ -93,7 +110,7 @@ step-at-requires : tie.Need-step-at-requires Inv-loop μ-loop
 step-at-requires c κs =
     let t = c .before .before .before .before .before in
     let l = t .before .before in
-    let d = l .before .before .before .before .before .before .before .before .before in
+    let d = l .before .before .before .before .before .before .before .before .before .before .before .before .before .before in
     ((d .pre .0 .0, d .pre .0 .1, t .if1 .taken), (l .loop .inv .9, l .loop .inv .6))
 
 tell-vans-requires-2 : tie.Need-tell-vans-requires-2 Inv-loop μ-loop
@@ -103,22 +120,17 @@ tell-vans-requires-2 c κs =
     let l = p .before .before .before .before .before .before .before .before in
     (readied (d .pre .0 .0) (d .pre .0 .1) (routes-at p) (sets-at p) (levels-at p) (figures-at p) (p .step-at .ensures .1 .3) (on p), l .loop .inv .8, d .pre .0 .3)
 
-sum-up-requires : tie.Need-sum-up-requires Inv-loop μ-loop
-sum-up-requires c κs =
-    let tells = c .before in
+sums-now-requires-2 : tie.Need-sums-now-requires-2 Inv-loop μ-loop
+sums-now-requires-2 c κs =
+    let tells = c .before .before .before .before in
     let p = tells .before .before .before .before .before .before .before in
     let d = start p in
-    summing (d .pre .0 .0) (d .pre .0 .1) (routes-at p) (sets-at p) (levels-at p) (figures-at p) (p .step-at .ensures .1 .3) (on p) (told tells)
-
-served-requires : tie.Need-served-requires Inv-loop μ-loop
-served-requires c κs =
-    let p = c .before .before .before .before .before .before .before .before .before .before .before .before in
-    let d = start p in
-    serving (readied (d .pre .0 .0) (d .pre .0 .1) (routes-at p) (sets-at p) (levels-at p) (figures-at p) (p .step-at .ensures .1 .3) (on p))
+    let s = serving (readied (d .pre .0 .0) (d .pre .0 .1) (routes-at p) (sets-at p) (levels-at p) (figures-at p) (p .step-at .ensures .1 .3) (on p)) in
+    (summing (d .pre .0 .0) (d .pre .0 .1) (routes-at p) (sets-at p) (levels-at p) (figures-at p) (p .step-at .ensures .1 .3) (on p) (told tells), (s .0 .1, s .1))
 
 put-line-requires : tie.Need-put-line-requires Inv-loop μ-loop
 put-line-requires c κs =
-    let p = c .before .before .before .before .before .before .before .before .before .before .before .before .before .before in
+    let p = c .before .before .before .before .before .before .before .before .before .before .before .before .before in
     let d = start p in
     let t = p .before .before .before .before .before .before in
     let v = t .before .before .loop .inv in
@@ -126,21 +138,20 @@ put-line-requires c κs =
 
 add-i : tie.Need-add-i Inv-loop μ-loop
 add-i c =
-    let p = c .before .before .before .before .before .before .before .before .before .before .before .before .before .before .before .before .before in
+    let p = c .before .before .before .before .before .before .before .before .before .before .before .before .before .before .before .before in
     let t = p .before .before .before .before .before .before in
     omega (arith, t .if1 .taken, start p .pre .0 .1 .steps, start p .pre .0 .1 .fine .k-high)
 
 loop-less : tie.Need-loop-less Inv-loop μ-loop
 loop-less c =
-    let t = c .before .before .before .before .before .before .before .before .before .before .before .before .before .before .before .before .before .before .before .before .before .before .before in
+    let t = c .before .before .before .before .before .before .before .before .before .before .before .before .before .before .before .before .before .before .before .before .before .before in
     omega (arith, t .if1 .taken)
 
 loop-again : tie.Need-loop-again Inv-loop μ-loop
 loop-again c =
     let q = c .before .before in
-    let served = q .before .before in
-    let sums = served .before .before .before .before in
-    let tells = sums .before .before in
+    let now = q .before .before in
+    let tells = now .before .before .before .before .before in
     let r = tells .before .before .before .before .before .before in
     let p = r .before in
     let t = p .before .before .before .before .before .before in
@@ -149,7 +160,9 @@ loop-again c =
     let v = l .loop .inv in
     let e = p .step-at .ensures .0 in
     let k = step-takes _ _ _ _ _ _ (q .put-line .ensures) in
-    let line = line-is (d .pre .0 .0) (on p) (told tells) (l .loop .i) (p .step-at .result .answer) (p .step-at .result .rounds) (d .pre .0 .1 .vans) (sums .sum-up .ensures) (served .served .ensures (levels-at p)) in (
+    let sums = sums-on (d .pre .0 .0) (d .pre .0 .1) (l .loop .routes) (l .loop .sets) (l .loop .levels) (l .loop .figures) (v .9 .3) (v .6) _ _ _ (routes-at p) (sets-at p) (levels-at p) (figures-at p) e (v .7) (told tells)
+    (tells .tell-vans2 .ensures .0 .1) (now .sums-now2 .ensures (levels-at p)) (v .10) in
+    let line = line-is (d .pre .0 .0) (on p) (told tells) (l .loop .i) (p .step-at .result .answer) (p .step-at .result .rounds) (d .pre .0 .1 .vans) sums in (
       omega (arith, t .if1 .taken),
       omega (arith, k .0, v .1),
       k .1 ∙ v .2,
@@ -158,8 +171,9 @@ loop-again c =
       come-next _ _ _ (v .5) e,
       on p,
       told tells,
-      tells .tell-vans2 .ensures .0,
+      tells .tell-vans2 .ensures .0 .0,
       p .step-at .ensures .1,
+      sums,
     )
 
 same-length : tie.Need-same-length Inv-loop μ-loop
@@ -172,7 +186,7 @@ returns : tie.Need-returns Inv-loop μ-loop
 returns c =
     let l = c .before .before in
     let v = l .loop .inv in
-    let d = l .before .before .before .before .before .before .before .before .before in
+    let d = l .before .before .before .before .before .before .before .before .before .before .before .before .before .before in
     let e : l .loop .i ≡ d .args .at .steps = omega (arith, v .0, c .if1 .left) in
     (rw e at (v .4), rw e at (v .5), omega (arith, v .1, v .0), v .9 .0, v .9 .3)
 
@@ -183,11 +197,11 @@ put-lines-spec =
     Inv-loop
     μ-loop
     tell-vans-requires
+    sums-now-requires
     loop-holds
     step-at-requires
     tell-vans-requires-2
-    sum-up-requires
-    served-requires
+    sums-now-requires-2
     put-line-requires
     add-i
     loop-less

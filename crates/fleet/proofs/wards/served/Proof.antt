@@ -12,8 +12,8 @@ use Rattle.fleet.specs.Form.{hasWard}
 use Rattle.fleet.specs.Rows.{figuresIn, rowState, fleetWith}
 use Rattle.fleet.proofs.FleetLaws.{state-of}
 use Rattle.fleet.proofs.ServedLaws.{Unserved, unserved-none, unserved-more, served-all, served-not}
-use Rattle.fleet.proofs.sums.served.Statement.{statement}
-use Rattle.fleet.proofs.sums.served.Tie as tie
+use Rattle.fleet.proofs.wards.served.Statement.{statement}
+use Rattle.fleet.proofs.wards.served.Tie as tie
 
 abbrev Inv-loop : tie.InvT-loop
 Inv-loop routes sets figures v left₀ j₀ left j = (j ≤ v) × (left < 2 ^ 64) × ((levels : List (List ℕ)) → Unserved (fleetWith routes sets levels figures) j left)

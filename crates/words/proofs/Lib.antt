@@ -1,0 +1,2 @@
+-- QuarterLaws: none of a stretch is above what its quarters give together.
+pub mod QuarterLaws
