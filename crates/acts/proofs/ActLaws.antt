@@ -72,8 +72,8 @@ module _ (vans : ℕ → Van) (d : Day) (v : ℕ) (f : Fleet) (t : List ℕ) (st
 -- ---- done in place
 
 -- what the arrays hold is what the step gives
-pub did : {want : RanAll} (o : Outcomes) {routes sets levels figures : List (List ℕ)} {t : List ℕ} → EightRows routes sets levels figures → want ≡ ranAll o routes sets levels figures t
-    → Did want o routes sets levels figures t
+pub did : {k v : ℕ} {want : RanAll} (o : Outcomes) {routes sets levels figures : List (List ℕ)} {t : List ℕ} → EightRows routes sets levels figures → want ≡ ranAll o routes sets levels figures t
+    → Did k v want o routes sets levels figures t
 did o rows e = record {
   answer = sym (ap (λ (r : RanAll). r .0 .answer) e);
   whole = λ n. e;
@@ -82,8 +82,8 @@ did o rows e = record {
 }
 
 -- the same of a step by another name
-pub did-as : {want other : RanAll} {o : Outcomes} {routes sets levels figures : List (List ℕ)} {t : List ℕ} → other ≡ want → Did want o routes sets levels figures t
-    → Did other o routes sets levels figures t
+pub did-as : {k v : ℕ} {want other : RanAll} {o : Outcomes} {routes sets levels figures : List (List ℕ)} {t : List ℕ} → other ≡ want → Did k v want o routes sets levels figures t
+    → Did k v other o routes sets levels figures t
 did-as e d = record {
   answer = d .answer ∙ sym (ap (λ (r : RanAll). r .0 .answer) e);
   whole = λ n. e ∙ d .whole n;
@@ -108,6 +108,11 @@ pub back-fits : (n : ℕ) (s : State) (t : List ℕ) → 0 < s .depth → eqb (b
 unfolding backStep unlessRefused orElse
 back-fits n s t h =
     rw (lt-ltb 0 (s .depth) h) (decided (undoLevel n s t .0) (λ e. rw e refl) (λ e. rw e refl))
+
+-- refused for its records, it leaves the state
+pub back-stays : (n : ℕ) (s : State) (t : List ℕ) → 0 < s .depth → undoLevel n s t .0 ≡ false → backStep n s t .0 .state ≡ s
+unfolding backStep unlessRefused orElse
+back-stays n s t h e = rw (lt-ltb 0 (s .depth) h, e) refl
 
 -- it leaves the trail, refused or not
 pub back-trail : (n : ℕ) (s : State) (t : List ℕ) → backStep n s t .1 ≡ t

@@ -1,14 +1,17 @@
 -- What the code has done in place is the step: a refusal, the turns of all vans, stepping back, a step of one van.
 use mathlib.Core.Path.{_≡_, refl, sym, ap, ap₂, subst, _∙_}
-use mathlib.Core.Bool.{Bool, true, false, _&&_}
+use mathlib.Core.Bool.{Bool, true, false, _&&_, and-true}
 use mathlib.Core.List.{List, []}
 use mathlib.Core.Logic.{_≢_}
 use Prim.Native.Nat.{ℕ, _/_, _-_, _≤_, _<_}
 use native.Mathlib.Omega.{arith}
 use lib.ListN.{length, getD, take, drop}
-use lib.Dec.{eqb}
+use lib.Dec.{eqb, ltb}
+use borrow.Author.Tests.{eqb-true, eqb-false, ltb-true, ltb-false}
 use Rattle.laws.specs.Basic.{allBelow, unless}
-use Rattle.laws.proofs.Below.{below-same}
+use Rattle.laws.proofs.Logic.{decided}
+use Rattle.laws.proofs.Below.{below-same, below-make}
+use Rattle.bits.proofs.Members.{false-true}
 use Rattle.rules.specs.Numbers.{refusal, kinds, mostVans}
 use Rattle.rules.specs.Day.{Day}
 use Rattle.rules.specs.declared.Van.{Van}
@@ -28,25 +31,26 @@ use Rattle.fleet.specs.Form.{sharesNone, formWithAll}
 use Rattle.fleet.specs.Rows.{figuresIn, rowState, rowBoard, fleetWith}
 use Rattle.fleet.specs.Wards.{Nodes}
 use Rattle.fleet.specs.declared.Fleet.{Fleet}
-use Rattle.fleet.proofs.FleetLaws.{state-of, room-part}
+use Rattle.fleet.proofs.FleetLaws.{state-of, fleet-eight, fleet-same, room-part}
+use Rattle.fleet.proofs.FormLaws.{apart-shares}
 use Rattle.fleet.proofs.WardLaws.{sound-nodes}
 use Rattle.turns.specs.Together.{RanAll, actedAll, unlessBarred}
 use Rattle.turns.specs.Turn.{turnsOf, EightRows}
 use Rattle.acts.specs.Act.{backBar, actAll}
 use Rattle.acts.specs.Known.{KnownRows, Did}
 use Rattle.turns.specs.declared.Outcomes.{Outcomes}
-use Rattle.turns.proofs.TogetherLaws.{barred, unbarred, trails-same}
+use Rattle.turns.proofs.TogetherLaws.{Reads, barred, unbarred, trails-same}
 use Rattle.turns.proofs.PutLaws.{Spot, part-lent}
 use Rattle.turns.proofs.EachLaws.{turnIn}
 use Rattle.acts.proofs.KnownLaws.{form-depth, known-held, known-form}
-use Rattle.acts.proofs.ActLaws.{act-back, back-asks, back-fits, back-trail, back-sound}
+use Rattle.acts.proofs.ActLaws.{act-back, back-asks, back-fits, back-stays, back-trail, back-sound}
 use Rattle.acts.proofs.Moves.{turns-read, turn-back}
 
 -- ---- an outcome without a round
 
-pub did-of : {want : RanAll} {o : Outcomes} {a : ℕ} (routes sets levels figures : List (List ℕ)) (t : List ℕ)
+pub did-of : {k v : ℕ} {want : RanAll} {o : Outcomes} {a : ℕ} (routes sets levels figures : List (List ℕ)) (t : List ℕ)
     → o ≡ record { answer = a; rounds = 0 } → EightRows routes sets levels figures → want ≡ actedAll a 0 (fleetWith routes sets levels figures) t
-    → Did want o routes sets levels figures t
+    → Did k v want o routes sets levels figures t
 did-of routes sets levels figures t r rows e = record {
   answer = ap (λ (o : Outcomes). o .answer) r ∙ sym (ap (λ (w : RanAll). w .0 .answer) e);
   whole = λ n. e ∙ ap (λ (o : Outcomes). actedAll (o .answer) (o .rounds) (fleetWith routes sets levels figures) t) (sym r);
@@ -54,13 +58,16 @@ did-of routes sets levels figures t r rows e = record {
   eight = rows;
 }
 
--- 20: the answer and the trail are the step's; the arrays may be half undone
-pub did-misfit : {want : RanAll} {o : Outcomes} (routes sets levels figures : List (List ℕ)) {t t′ : List ℕ} {f : Fleet}
+-- 20: the answer and the trail are the step's; in several vans the arrays may be half undone
+pub did-misfit : {k v : ℕ} {want : RanAll} {o : Outcomes} (routes sets levels figures : List (List ℕ)) {t t′ : List ℕ} {f : Fleet} → k ≡ kinds.BACK → 1 ≤ v
     → o ≡ record { answer = refusal.MISFIT; rounds = 0 } → EightRows routes sets levels figures → t ≡ t′ → want ≡ actedAll refusal.MISFIT 0 f t
-    → Did want o routes sets levels figures t′
-did-misfit routes sets levels figures r rows same e = record {
+    → (v ≡ 1 → fleetWith routes sets levels figures ≡ f) → Did k v want o routes sets levels figures t′
+did-misfit {v = v} {want} {o} routes sets levels figures {t} {t′} {f} kind some r rows same e one = record {
   answer = ap (λ (o : Outcomes). o .answer) r ∙ sym (ap (λ (w : RanAll). w .0 .answer) e);
-  whole = λ n. absurd (n (ap (λ (o : Outcomes). o .answer) r));
+  whole = λ n. decided (eqb v 1)
+      (λ z. e ∙ ap₂ (λ (g : Fleet) (u : List ℕ). actedAll refusal.MISFIT 0 g u) (sym (one (eqb-true v 1 z))) same
+      ∙ ap (λ (o : Outcomes). actedAll (o .answer) (o .rounds) (fleetWith routes sets levels figures) t′) (sym r))
+      (λ z. absurd (n kind (omega (arith, some, eqb-false v 1 z)) (ap (λ (o : Outcomes). o .answer) r)));
   trail = λ z. sym same ∙ sym (ap (λ (w : RanAll). w .1) e);
   eight = rows;
 }
@@ -114,6 +121,26 @@ module _ (vans : ℕ → Van) (d : Day) (v : ℕ) (f : Fleet) (t : List ℕ) (st
       (sym (turns-read (d .n) v f t step most (e .0) .1 .states j h ∙ ap (λ (x : Ran). x .0 .state) (turn-back (d .n) step j (stateIn f j) (trailIn v t j) kind)))
       (back-sound (d .n) (stateIn f j) (trailIn v t j) s)
 
+  -- one van alone shares nothing, so it is refused for its records, and stays
+  pub back-one : v ≡ 1 → length (f .vans) ≡ mostVans → fits && sharesNone (d .n) v f′ ≡ false → f′ ≡ f
+  back-one one eight p = fleet-same f′ f (reads .eight) eight (λ j h. decided (ltb j v) (λ q. stays j (ltb-true j v q)) (λ q. reads .spare j (ltb-false j v q) h))
+    where
+      reads : Reads v f t (turnIn (d .n) v step f t) f′ t′
+      reads = turns-read (d .n) v f t step most (e .0) .1
+
+      alone : sharesNone (d .n) v f′ ≡ true
+      alone = apart-shares (d .n) v f′ (λ i j y l h n. absurd (n (omega (arith, one, l, h))))
+
+      unfit : allBelow v (λ j. undoLevel (d .n) (stateIn f j) (trailIn v t j) .0) ≡ false
+      unfit = sym back-flag ∙ sym (and-true fits) ∙ ap (λ (b : Bool). fits && b) (sym alone) ∙ p
+
+      stays : (j : ℕ) → j < v → stateIn f′ j ≡ stateIn f j
+      stays j h =
+          reads .states j h ∙ ap (λ (x : Ran). x .0 .state) (turn-back (d .n) step j (stateIn f j) (trailIn v t j) kind)
+          ∙ back-stays (d .n) (stateIn f j) (trailIn v t j) (omega (arith, deep, form-depth (d .n) v f t form most j h))
+          (decided (undoLevel (d .n) (stateIn f j) (trailIn v t j) .0)
+          (λ q. absurd (false-true (sym unfit ∙ below-make v _ (λ i l. subst (λ (k : ℕ). undoLevel (d .n) (stateIn f k) (trailIn v t k) .0 ≡ true) (omega (arith, one, h, l)) q)))) (λ q. q))
+
   -- accepted
   pub back-yes : fits ≡ true → sharesNone (d .n) v f′ ≡ true → actAll vans d v f t step ≡ actedAll 0 0 f′ t′
   back-yes p q = act-back vans d v f t step kind ∙ unbarred _ f t (turnsOf (d .n) v f t step) (back-bar ∙ rw (p, q) refl) ∙ e .0
@@ -162,6 +189,7 @@ pub record Backed (sheet : List ℕ) (f : Fleet) (t : List ℕ) (step : Step) (f
   pub boards : (j : ℕ) → j < vansOf sheet → Sound (nOf sheet) (boardIn f′ j)
   pub yes : fits ≡ true → sharesNone (nOf sheet) (vansOf sheet) f′ ≡ true → actAll (vanOf sheet) (dayOf sheet) (vansOf sheet) f t step ≡ actedAll 0 0 f′ t′
   pub no : fits && sharesNone (nOf sheet) (vansOf sheet) f′ ≡ false → actAll (vanOf sheet) (dayOf sheet) (vansOf sheet) f t step ≡ actedAll refusal.MISFIT 0 f t
+  pub one : vansOf sheet ≡ 1 → fits && sharesNone (nOf sheet) (vansOf sheet) f′ ≡ false → f′ ≡ f
 
 pub backed : {sheet : List ℕ} {at : Layout} {routes sets levels figures : List (List ℕ)} {t : List ℕ} (step : Step) (f′ : Fleet) (t′ : List ℕ) (fits : Bool)
     → KnownRows sheet at routes sets levels figures t → step .kind ≡ kinds.BACK → 1 ≤ figuresIn (getD figures 0 []) .depth
@@ -175,5 +203,6 @@ backed {sheet} {at} {routes} {sets} {levels} {figures} {t} step f′ t′ fits k
       same = back-same (vanOf sheet) (dayOf sheet) (vansOf sheet) f t step kind most (k .form) low f′ t′ fits q;
       boards = λ j h. back-board (vanOf sheet) (dayOf sheet) (vansOf sheet) f t step kind most (k .form) low f′ t′ fits q j h (known-sound k j h);
       yes = back-yes (vanOf sheet) (dayOf sheet) (vansOf sheet) f t step kind most (k .form) low f′ t′ fits q;
+      one = λ o p. back-one (vanOf sheet) (dayOf sheet) (vansOf sheet) f t step kind most (k .form) low f′ t′ fits q o (fleet-eight (rowState routes sets levels figures)) p;
       no = back-no (vanOf sheet) (dayOf sheet) (vansOf sheet) f t step kind most (k .form) low f′ t′ fits q;
     }

@@ -2,12 +2,12 @@
 use mathlib.Core.Path.{_≡_}
 use mathlib.Core.Bool.{true}
 use mathlib.Core.List.{List}
-use Prim.Native.Nat.{ℕ}
+use Prim.Native.Nat.{ℕ, _≤_}
 use Rattle.sheet.specs.Section.{nOf, vansOf}
 use Rattle.sheet.specs.Place.{Laid}
 use Rattle.sheet.specs.declared.Layout.{Layout}
 use Rattle.day.specs.Refuse.{callRefusal}
-use Rattle.rules.specs.Numbers.{refusal}
+use Rattle.rules.specs.Numbers.{refusal, kinds}
 use Rattle.fleet.specs.Fleet.{HeldAll}
 use Rattle.fleet.specs.Form.{formWithAll}
 use Rattle.fleet.specs.Rows.{fleetWith, Rows, Figured}
@@ -24,10 +24,10 @@ pub record KnownRows (sheet : List ℕ) (at : Layout) (routes sets levels figure
   pub rows : Rows routes × Rows sets × Rows levels
   pub figured : Figured figures
 
--- the step `want` was done in place: its outcome, and arrays and trail as it leaves them. Where undoing was refused by 20 the arrays may be half undone:
--- the caller has the fleet from before, or knows that it cannot be
-pub record Did (want : RanAll) (o : Outcomes) (routes sets levels figures : List (List ℕ)) (t : List ℕ) : Type 0 where
+-- the step `want`, of kind k in a fleet of v vans, was done in place: its outcome, and arrays and trail as it leaves them. Where stepping back of several
+-- vans was refused by 20 the arrays may be half undone: the caller has the fleet from before, or knows that it cannot be
+pub record Did (k v : ℕ) (want : RanAll) (o : Outcomes) (routes sets levels figures : List (List ℕ)) (t : List ℕ) : Type 0 where
   pub answer : o .answer ≡ want .0 .answer
-  pub whole : (o .answer ≡ refusal.MISFIT → ⊥) → want ≡ ranAll o routes sets levels figures t
+  pub whole : (k ≡ kinds.BACK → 2 ≤ v → o .answer ≡ refusal.MISFIT → ⊥) → want ≡ ranAll o routes sets levels figures t
   pub trail : o .answer ≡ refusal.MISFIT → t ≡ want .1
   pub eight : EightRows routes sets levels figures

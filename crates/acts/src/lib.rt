@@ -1,5 +1,6 @@
 // The steps of a fleet in rows, on a sheet that no call refuses and a fleet in form, neither asked again. Every refusal is found before anything
-// changes, but for a record that does not fit, which only undoing finds: refused, the rows and the trail are as before, unless undoing met one.
+// changes, but for a record that does not fit, which only undoing finds: refused, the rows and the trail are as before, unless undoing several vans met
+// one.
 ghost use mathlib.Core.Path.{_≡_};
 ghost use Prim.Native.Nat.{_<_};
 ghost use Rattle.sheet.specs.Section.{vansOf};
@@ -45,7 +46,7 @@ fn place(
 ) -> Outcomes
     requires { ⌜ KnownRows (now sheet) at (now routes) (now sets) (now levels) (now figures) (now trail)
         × (step .kind ≡ kinds.PLACE) × (step .van < vansOf (now sheet)) ⌝ }
-    ensures { λ r. ⌜ Did (vanAct (vanOf (now (sheet .entry))) (dayOf (now (sheet .entry))) (vansOf (now (sheet .entry)))
+    ensures { λ r. ⌜ Did (step .kind) (at .vans) (vanAct (vanOf (now (sheet .entry))) (dayOf (now (sheet .entry))) (vansOf (now (sheet .entry)))
         (fleetWith (now (routes .entry)) (now (sets .entry)) (now (levels .entry)) (now (figures .entry))) (now (trail .entry)) step)
         r (now (routes .exit)) (now (sets .exit)) (now (levels .exit)) (now (figures .exit)) (now (trail .exit)) ⌝ }
 {
@@ -83,7 +84,7 @@ fn alone(
 ) -> Outcomes
     requires { ⌜ KnownRows (now sheet) at (now routes) (now sets) (now levels) (now figures) (now trail)
         × (step .kind ≡ kinds.PLACE → ⊥) × (step .van < vansOf (now sheet)) ⌝ }
-    ensures { λ r. ⌜ Did (vanAct (vanOf (now (sheet .entry))) (dayOf (now (sheet .entry))) (vansOf (now (sheet .entry)))
+    ensures { λ r. ⌜ Did (step .kind) (at .vans) (vanAct (vanOf (now (sheet .entry))) (dayOf (now (sheet .entry))) (vansOf (now (sheet .entry)))
         (fleetWith (now (routes .entry)) (now (sets .entry)) (now (levels .entry)) (now (figures .entry))) (now (trail .entry)) step)
         r (now (routes .exit)) (now (sets .exit)) (now (levels .exit)) (now (figures .exit)) (now (trail .exit)) ⌝ }
 {
@@ -124,7 +125,7 @@ fn in_van(
     step: Step,
 ) -> Outcomes
     requires { ⌜ KnownRows (now sheet) at (now routes) (now sets) (now levels) (now figures) (now trail) ⌝ }
-    ensures { λ r. ⌜ Did (vanAct (vanOf (now (sheet .entry))) (dayOf (now (sheet .entry))) (vansOf (now (sheet .entry)))
+    ensures { λ r. ⌜ Did (step .kind) (at .vans) (vanAct (vanOf (now (sheet .entry))) (dayOf (now (sheet .entry))) (vansOf (now (sheet .entry)))
         (fleetWith (now (routes .entry)) (now (sets .entry)) (now (levels .entry)) (now (figures .entry))) (now (trail .entry)) step)
         r (now (routes .exit)) (now (sets .exit)) (now (levels .exit)) (now (figures .exit)) (now (trail .exit)) ⌝ }
 {
@@ -149,7 +150,7 @@ fn level(
     step: Step,
 ) -> Outcomes
     requires { ⌜ KnownRows (now sheet) at (now routes) (now sets) (now levels) (now figures) (now trail) × (step .kind ≡ kinds.LEVEL) ⌝ }
-    ensures { λ r. ⌜ Did (actAll (vanOf (now (sheet .entry))) (dayOf (now (sheet .entry))) (vansOf (now (sheet .entry)))
+    ensures { λ r. ⌜ Did (step .kind) (at .vans) (actAll (vanOf (now (sheet .entry))) (dayOf (now (sheet .entry))) (vansOf (now (sheet .entry)))
         (fleetWith (now (routes .entry)) (now (sets .entry)) (now (levels .entry)) (now (figures .entry))) (now (trail .entry)) step)
         r (now (routes .exit)) (now (sets .exit)) (now (levels .exit)) (now (figures .exit)) (now (trail .exit)) ⌝ }
 {
@@ -185,7 +186,7 @@ fn back(
     step: Step,
 ) -> Outcomes
     requires { ⌜ KnownRows (now sheet) at (now routes) (now sets) (now levels) (now figures) (now trail) × (step .kind ≡ kinds.BACK) ⌝ }
-    ensures { λ r. ⌜ Did (actAll (vanOf (now (sheet .entry))) (dayOf (now (sheet .entry))) (vansOf (now (sheet .entry)))
+    ensures { λ r. ⌜ Did (step .kind) (at .vans) (actAll (vanOf (now (sheet .entry))) (dayOf (now (sheet .entry))) (vansOf (now (sheet .entry)))
         (fleetWith (now (routes .entry)) (now (sets .entry)) (now (levels .entry)) (now (figures .entry))) (now (trail .entry)) step)
         r (now (routes .exit)) (now (sets .exit)) (now (levels .exit)) (now (figures .exit)) (now (trail .exit)) ⌝ }
 {
@@ -218,7 +219,7 @@ fn oblige(
     step: Step,
 ) -> Outcomes
     requires { ⌜ KnownRows (now sheet) at (now routes) (now sets) (now levels) (now figures) (now trail) × (step .kind ≡ kinds.OBLIGE) ⌝ }
-    ensures { λ r. ⌜ Did (actAll (vanOf (now (sheet .entry))) (dayOf (now (sheet .entry))) (vansOf (now (sheet .entry)))
+    ensures { λ r. ⌜ Did (step .kind) (at .vans) (actAll (vanOf (now (sheet .entry))) (dayOf (now (sheet .entry))) (vansOf (now (sheet .entry)))
         (fleetWith (now (routes .entry)) (now (sets .entry)) (now (levels .entry)) (now (figures .entry))) (now (trail .entry)) step)
         r (now (routes .exit)) (now (sets .exit)) (now (levels .exit)) (now (figures .exit)) (now (trail .exit)) ⌝ }
 {
@@ -245,7 +246,7 @@ pub fn act(
     step: Step,
 ) -> Outcomes
     requires { ⌜ KnownRows (now sheet) at (now routes) (now sets) (now levels) (now figures) (now trail) ⌝ }
-    ensures { λ r. ⌜ Did (actAll (vanOf (now (sheet .entry))) (dayOf (now (sheet .entry))) (vansOf (now (sheet .entry)))
+    ensures { λ r. ⌜ Did (step .kind) (at .vans) (actAll (vanOf (now (sheet .entry))) (dayOf (now (sheet .entry))) (vansOf (now (sheet .entry)))
         (fleetWith (now (routes .entry)) (now (sets .entry)) (now (levels .entry)) (now (figures .entry))) (now (trail .entry)) step)
         r (now (routes .exit)) (now (sets .exit)) (now (levels .exit)) (now (figures .exit)) (now (trail .exit)) ⌝ }
 {

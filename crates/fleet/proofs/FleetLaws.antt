@@ -1,6 +1,6 @@
 -- A fleet by its states, the parts of a lent trail, and a state that is idle.
 use mathlib.Core.Path.{_≡_, refl, sym, ap, _∙_}
-use mathlib.Core.Bool.{true, _&&_}
+use mathlib.Core.Bool.{Bool, true, _&&_}
 use mathlib.Core.List.{List}
 use Prim.Native.Nat.{ℕ, _+_, _*_, _/_, _≤_, _<_}
 use native.Mathlib.Nat.{mul-comm, div-mul-le-self}
@@ -9,18 +9,18 @@ use lib.ListN.{length, getD, replicate, length-replicate, getD-replicate}
 use lib.Seq.{ext-getD}
 use lib.Dec.{eqb}
 use borrow.Author.Tests.{eqb-true}
-use Rattle.laws.specs.Basic.{allBelow}
+use Rattle.laws.specs.Basic.{allBelow, tab}
 use Rattle.laws.proofs.Logic.{and-true}
 use Rattle.laws.proofs.Below.{below-at, below-make}
 use Rattle.laws.proofs.Table.{length-tab, getD-tab}
 use Rattle.laws.proofs.Parts.{part-before, part-length}
 use Rattle.rules.specs.Numbers.{mostVans}
 use Rattle.board.specs.Board.{stateOf}
-use Rattle.board.specs.Fresh.{noState}
+use Rattle.board.specs.Fresh.{noState, freshState}
 use Rattle.board.specs.Held.{Held}
 use Rattle.board.specs.declared.State.{State}
 use Rattle.records.specs.Trail.{roomOf}
-use Rattle.fleet.specs.Fleet.{fleetOf, stateIn, shareOf, trailIn}
+use Rattle.fleet.specs.Fleet.{fleetOf, stateIn, oneVan, freshFleet, shareOf, trailIn}
 use Rattle.fleet.specs.Form.{idle}
 use Rattle.fleet.specs.declared.Fleet.{Fleet}
 use Rattle.laws.proofs.Turned.{getD-any}
@@ -42,6 +42,11 @@ fleetMade l = record { vans = l }
 pub fleet-same : (f g : Fleet) → length (f .vans) ≡ mostVans → length (g .vans) ≡ mostVans → ((j : ℕ) → j < mostVans → stateIn f j ≡ stateIn g j) → f ≡ g
 unfolding stateIn
 fleet-same f g lf lg e = ap fleetMade (ext-getD noState (f .vans) (g .vans) (lf ∙ sym lg) (λ j l. e j (rw lf at l)))
+
+-- one fresh van
+pub fresh-one : (n : ℕ) (may : ℕ → ℕ → Bool) → oneVan (freshState n (may 0)) ≡ freshFleet n 1 may
+unfolding freshFleet tab
+fresh-one n may = refl
 
 -- a state of eight, whatever stands for one that is not there
 pub state-any : (f : Fleet) (j : ℕ) (d : State) → length (f .vans) ≡ mostVans → j < mostVans → getD (f .vans) j d ≡ stateIn f j

@@ -1,15 +1,15 @@
 -- The form of a fleet, fact by fact, and what makes it (02, No. 1).
-use mathlib.Core.Path.{_≡_, refl, ap, sym, _∙_}
+use mathlib.Core.Path.{_≡_, refl, ap, sym, subst, _∙_}
 use mathlib.Core.Bool.{Bool, true, false, cond, not, _&&_, _||_, and-assoc}
 use mathlib.Core.List.{List}
 use mathlib.Core.Logic.{_≢_}
-use Prim.Native.Nat.{ℕ, _≤_, _<_}
+use Prim.Native.Nat.{ℕ, _+_, _≤_, _<_}
 use native.Mathlib.Omega.{arith}
 use lib.Dec.{eqb, leb, ltb}
 use borrow.Author.Tests.{eqb-true, eqb-false, eq-eqb, ne-eqb, leb-true, le-leb, ltb-true, ltb-false, lt-ltb, le-ltb, not-true}
 use Rattle.laws.specs.Basic.{allBelow}
 use Rattle.laws.proofs.Logic.{decided, and-true, or-false}
-use Rattle.laws.proofs.Below.{below-at, below-make}
+use Rattle.laws.proofs.Below.{below-at, below-make, flag-goes}
 use Rattle.bits.proofs.Members.{false-true}
 use Rattle.rules.specs.Numbers.{mostVans}
 use Rattle.rules.specs.Day.{isInner}
@@ -19,7 +19,7 @@ use Rattle.board.specs.Form.{inForm, formWith}
 use Rattle.board.specs.declared.State.{State}
 use Rattle.records.specs.Trail.{roomOf}
 use Rattle.fleet.specs.Fleet.{fleetOf, stateIn, boardIn, trailIn}
-use Rattle.fleet.specs.Form.{hasWard, clearOf, sharesNone, vanFits, vanOk, idle, inFormAll, formWithAll}
+use Rattle.fleet.specs.Form.{hasWard, clearOf, sharesNone, vanFits, vanOk, idle, othersIdle, inFormAll, formWithAll}
 use Rattle.fleet.specs.declared.Fleet.{Fleet}
 use Rattle.fleet.proofs.FleetLaws.{state-of}
 use Rattle.fleet.proofs.TestLaws.{together}
@@ -158,3 +158,18 @@ form-with-van n v f t small l e j h =
 -- its vans
 pub van-alone : (v : ℕ) (g h : ℕ → State) (j : ℕ) → v ≤ mostVans → j < v → stateIn (fleetOf (λ j. cond (ltb j v) (g j) (h j))) j ≡ g j
 van-alone v g h j l b = state-of (λ j. cond (ltb j v) (g j) (h j)) j (omega arith) ∙ rw (lt-ltb j v b) refl
+
+-- ---- the form as the code finds it
+
+-- of the first j states of a fleet with v vans, what is no van is idle
+abbrev pub Resting : Fleet → ℕ → ℕ → Bool → Type 0
+Resting f v j b = allBelow j (λ k. ltb k v || idle (stateIn f k)) ≡ b
+
+pub resting-none : (f : Fleet) (v : ℕ) → Resting f v v true
+resting-none f v = below-make v _ (λ k l. rw (lt-ltb k v l) refl)
+
+pub resting-more : (f : Fleet) (v j : ℕ) {b r : Bool} → v ≤ j → r ≡ idle (stateIn f j) → Resting f v j b → Resting f v (j + 1) (b && r)
+resting-more f v j l e p = flag-goes j (λ k. ltb k v || idle (stateIn f k)) p (e ∙ sym (rw (le-ltb j v l) refl))
+
+pub resting-done : (f : Fleet) (v j : ℕ) {b : Bool} → j ≡ mostVans → Resting f v j b → b ≡ othersIdle v f
+resting-done f v j {b} e p = sym (subst (λ (i : ℕ). Resting f v i b) e p)

@@ -29,6 +29,10 @@ boardIn f j = boardOf (stateIn f j)
 unfoldable pub noFleet : Fleet
 noFleet = fleetOf (λ j. noState)
 
+-- one van, the state s; what is no van has every number 0
+abbrev pub oneVan : State → Fleet
+oneVan s = fleetOf (λ j. cond (ltb j 1) s noState)
+
 -- v fresh vans on a sheet of n nodes, of which van j may serve those of `may j`; what is no van has every number 0
 unfoldable pub freshFleet : ℕ → ℕ → (ℕ → ℕ → Bool) → Fleet
 freshFleet n v may = fleetOf (λ j. cond (ltb j v) (freshState n (may j)) noState)

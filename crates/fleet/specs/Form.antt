@@ -40,6 +40,10 @@ idle s =
     allBelow 64 (λ i. eqb (getD (s .route) i 0) 0 && (eqb (getD (s .sets) i 0) 0 && eqb (getD (s .levels) i 0) 0))
     && (eqb (s .stops) 0 && (eqb (s .marks) 0 && (eqb (s .must) 0 && (eqb (s .depth) 0 && eqb (s .records) 0))))
 
+-- of the eight states, those behind the v vans are idle
+abbrev pub othersIdle : ℕ → Fleet → Bool
+othersIdle v f = allBelow mostVans (λ j. ltb j v || idle (stateIn f j))
+
 -- in form, where no trail is lent: the vans and what is between them; what is no van is idle
 unfoldable pub inFormAll : ℕ → ℕ → Fleet → Bool
 inFormAll n v f = allBelow mostVans (λ j. cond (ltb j v) (vanOk n f j) (idle (stateIn f j))) && sharesNone n v f

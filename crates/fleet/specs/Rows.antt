@@ -12,12 +12,17 @@ use Rattle.board.specs.Board.{Board, board, stateWith}
 use Rattle.board.specs.Held.{Sound, Words}
 use Rattle.board.specs.declared.State.{State}
 use Rattle.board.specs.declared.Figures.{Figures}
-use Rattle.fleet.specs.Fleet.{fleetOf}
+use Rattle.laws.specs.Basic.{tab}
+use Rattle.fleet.specs.Fleet.{fleetOf, stateIn}
 use Rattle.fleet.specs.declared.Fleet.{Fleet}
 
 -- the other numbers of a van, from their row of five
 abbrev pub figuresIn : List ℕ → Figures
 figuresIn l = record { stops = getD l 0 0; marks = getD l 1 0; must = getD l 2 0; depth = getD l 3 0; records = getD l 4 0 }
+
+-- those of a state
+abbrev pub figuresOf : State → Figures
+figuresOf s = record { stops = s .stops; marks = s .marks; must = s .must; depth = s .depth; records = s .records }
 
 -- and the row that has them
 abbrev pub rowOf : Figures → List ℕ
@@ -30,6 +35,19 @@ rowState routes sets levels figures j = stateWith (getD routes j []) (getD sets 
 -- the fleet of all rows
 abbrev pub fleetWith : List (List ℕ) → List (List ℕ) → List (List ℕ) → List (List ℕ) → Fleet
 fleetWith routes sets levels figures = fleetOf (rowState routes sets levels figures)
+
+-- a fleet in rows: the routes of its states, their sets, their levels, and their other numbers
+abbrev pub routesIn : Fleet → List (List ℕ)
+routesIn f = tab mostVans (λ j. stateIn f j .route)
+
+abbrev pub setsIn : Fleet → List (List ℕ)
+setsIn f = tab mostVans (λ j. stateIn f j .sets)
+
+abbrev pub levelsIn : Fleet → List (List ℕ)
+levelsIn f = tab mostVans (λ j. stateIn f j .levels)
+
+abbrev pub figuresAll : Fleet → List (List ℕ)
+figuresAll f = tab mostVans (λ j. rowOf (figuresOf (stateIn f j)))
 
 -- the board in row j
 abbrev pub rowBoard : List (List ℕ) → List (List ℕ) → List (List ℕ) → ℕ → Board

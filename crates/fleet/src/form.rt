@@ -1,6 +1,6 @@
 // When a fleet is in form.
 ghost use mathlib.Core.Path.{_≡_};
-ghost use mathlib.Core.Bool.{cond, _&&_, _||_};
+ghost use mathlib.Core.Bool.{_&&_};
 ghost use mathlib.Core.List.{List};
 ghost use Prim.Native.Nat.{ℕ, _<_, _≤_};
 ghost use lib.ListN.{length};
@@ -9,12 +9,11 @@ ghost use Rattle.laws.specs.Basic.{allBelow};
 ghost use Rattle.rules.specs.Numbers.{mostVans};
 ghost use Rattle.board.specs.Board.{stateWith};
 ghost use Rattle.fleet.specs.Fleet.{stateIn};
-ghost use Rattle.fleet.specs.Form.{vanOk, vanFits, idle, sharesNone};
-ghost use Rattle.fleet.specs.Rows.{figuresIn, fleetWith, Rows, Figured};
+ghost use Rattle.fleet.specs.Form.{vanOk, vanFits, idle, othersIdle, sharesNone, inFormAll};
+ghost use Rattle.fleet.specs.Rows.{fleetWith, Rows, Figured};
 ghost use Rattle.fleet.specs.Wards.{JoinsVan};
 use crate::Fleet;
 use crate::rows::figures_in;
-use crate::rows::unpack;
 use crate::wards::Wards;
 use crate::wards::with_van;
 use board::Figures;
@@ -22,38 +21,43 @@ use board::State;
 use board::form::in_form;
 use rules::Node;
 
-// Every number 0: gathered in one word, with no exit inside.
-pub fn is_idle(s: State) -> bool
-    ensures { λ r. ⌜ r ≡ idle s ⌝ }
+// Every number of a state 0: gathered in one word, with no exit inside.
+fn is_idle<'a>(
+    route: &'a [usize; Node::MOST],
+    sets: &'a [u64; Node::MOST],
+    levels: &'a [usize; State::LEVELS],
+    f: Figures,
+) -> bool
+    ensures { λ r. ⌜ r ≡ idle (stateWith (now (route .entry)) (now (sets .entry)) (now (levels .entry)) f) ⌝ }
 {
-    let mut all = (s.stops | s.depth | s.records) as u64 | s.marks | s.must;
+    let mut all = (f.stops | f.depth | f.records) as u64 | f.marks | f.must;
     let mut i = 0;
     while i < Node::MOST {
-        all = all | (s.route[i] | s.levels[i]) as u64 | s.sets[i];
+        all = all | (route[i] | levels[i]) as u64 | sets[i];
         i += 1;
     }
     all == 0
 }
 
-// A state of a fleet taken in: one among the vans into its rows; what is no van has to be idle.
-pub fn take_in(
-    s: State,
-    among: bool,
-    route: &mut [usize; Node::MOST],
-    sets: &mut [u64; Node::MOST],
-    levels: &mut [usize; State::LEVELS],
-    row: &mut [u64; Figures::COUNT],
+// What is no van, the states behind the v vans, is idle.
+fn others_idle<'a>(
+    routes: &'a [[usize; Node::MOST]; Fleet::VANS],
+    sets: &'a [[u64; Node::MOST]; Fleet::VANS],
+    levels: &'a [[usize; State::LEVELS]; Fleet::VANS],
+    figures: &'a [[u64; Figures::COUNT]; Fleet::VANS],
+    v: usize,
 ) -> bool
-    requires { ⌜ length (now row) ≡ 5 ⌝ }
-    ensures { λ r. ⌜ (r ≡ (among || idle s)) × (length (now (row .exit)) ≡ 5)
-        × (stateWith (now (route .exit)) (now (sets .exit)) (now (levels .exit)) (figuresIn (now (row .exit)))
-        ≡ cond among s (stateWith (now (route .entry)) (now (sets .entry)) (now (levels .entry)) (figuresIn (now (row .entry))))) ⌝ }
+    requires { ⌜ (v ≤ mostVans) × Figured (now figures) ⌝ }
+    ensures { λ r. ⌜ r ≡ othersIdle v (fleetWith (now (routes .entry)) (now (sets .entry)) (now (levels .entry)) (now (figures .entry))) ⌝ }
 {
-    if among {
-        unpack(s, route, sets, levels, row);
-        return true;
+    let mut idle = true;
+    let mut j = v;
+    while j < Fleet::VANS {
+        let f = figures_in(&figures[j]);
+        idle = idle & is_idle(&routes[j], &sets[j], &levels[j], f);
+        j += 1;
     }
-    is_idle(s)
+    idle
 }
 
 // One van, where the first has so many levels and `first` says whether this is it.
@@ -79,7 +83,7 @@ fn van_ok<'a>(
 }
 
 // One van more of a fleet, to those whose wards are given: in form, and apart from them; `only` says that it has no other to be apart from.
-pub fn join_van<'a>(
+fn join_van<'a>(
     wards: Wards,
     route: &'a [usize; Node::MOST],
     sets: &'a [u64; Node::MOST],
@@ -107,7 +111,7 @@ pub fn join_van<'a>(
 }
 
 // The vans, in rows, and the rule between them.
-pub fn vans_ok<'a>(
+fn vans_ok<'a>(
     routes: &'a [[usize; Node::MOST]; Fleet::VANS],
     sets: &'a [[u64; Node::MOST]; Fleet::VANS],
     levels: &'a [[usize; State::LEVELS]; Fleet::VANS],
@@ -139,6 +143,21 @@ pub fn vans_ok<'a>(
         j += 1;
     }
     wards.apart
+}
+
+// Whether a fleet in rows is in form, where no trail is lent.
+pub fn form_ok<'a>(
+    routes: &'a [[usize; Node::MOST]; Fleet::VANS],
+    sets: &'a [[u64; Node::MOST]; Fleet::VANS],
+    levels: &'a [[usize; State::LEVELS]; Fleet::VANS],
+    figures: &'a [[u64; Figures::COUNT]; Fleet::VANS],
+    n: usize,
+    v: usize,
+) -> bool
+    requires { ⌜ (v ≤ mostVans) × (1 ≤ v) × (2 ≤ n) × (n ≤ 64) × Rows (now routes) × Rows (now sets) × Figured (now figures) ⌝ }
+    ensures { λ r. ⌜ r ≡ inFormAll n v (fleetWith (now (routes .entry)) (now (sets .entry)) (now (levels .entry)) (now (figures .entry))) ⌝ }
+{
+    others_idle(routes, sets, levels, figures, v) & vans_ok(routes, sets, levels, figures, n, v)
 }
 
 // No van has more records than its part of the trail has room for.

@@ -10,7 +10,7 @@ ghost use Rattle.laws.specs.Basic.{Filled};
 ghost use Rattle.sheet.specs.Place.{Laid};
 ghost use Rattle.day.specs.Tell.{classOf, admitted};
 ghost use Rattle.board.specs.Fresh.{freshState};
-ghost use Rattle.fleet.specs.Fleet.{noFleet, freshFleet};
+ghost use Rattle.fleet.specs.Fleet.{noFleet, oneVan, freshFleet};
 use board::State;
 use day::classes::bit;
 use day::classes::read_classes;
@@ -33,6 +33,16 @@ impl Fleet {
     {
         Fleet {
             vans: [State::none(); Fleet::VANS],
+        }
+    }
+
+    // A fleet of one van, written out: where it is to stand the compiler clears what is no van, and copies none of it.
+    pub fn of_one(s: State) -> Fleet
+        ensures { λ r. ⌜ r ≡ oneVan s ⌝ }
+    {
+        let idle = State::none();
+        Fleet {
+            vans: [s, idle, idle, idle, idle, idle, idle, idle],
         }
     }
 
@@ -61,4 +71,14 @@ pub fn fresh_van(sheet: &[u8], at: Layout, classes: &[u32; Node::MOST], j: usize
 {
     let one = bit(sheet, at, j);
     State::fresh(at.nodes, classes, one)
+}
+
+// The only van of a sheet that has one, fresh.
+pub fn first_van(sheet: &[u8], at: Layout) -> State
+    requires { ⌜ Laid (now sheet) at ⌝ }
+    ensures { λ r. ⌜ r ≡ freshState (at .nodes) (admitted (now (sheet .entry)) 0) ⌝ }
+{
+    let mut classes = [0u32; Node::MOST];
+    read_classes(sheet, at, &mut classes);
+    fresh_van(sheet, at, &classes, 0)
 }

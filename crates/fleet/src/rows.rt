@@ -1,9 +1,10 @@
-// A fleet in arrays, a row of each for every van: route, sets, levels, and its other numbers. A State goes in and out by value, van by van; what
-// is no van is not copied.
+// A fleet in arrays, a row of each for every state: route, sets, levels, and its other numbers. A fleet goes in and out by value, each state of it once.
 ghost use mathlib.Core.Path.{_≡_};
 ghost use lib.ListN.{length};
+ghost use Rattle.rules.specs.Numbers.{mostVans};
 ghost use Rattle.board.specs.Board.{stateWith};
-ghost use Rattle.fleet.specs.Rows.{figuresIn, rowOf};
+ghost use Rattle.fleet.specs.Rows.{figuresIn, figuresOf, rowOf, fleetWith, routesIn, setsIn, levelsIn, figuresAll, Figured};
+use crate::Fleet;
 use board::Figures;
 use board::State;
 use rules::Node;
@@ -30,7 +31,7 @@ pub fn figures_in(row: &[u64; Figures::COUNT]) -> Figures
 
 // The numbers of a state.
 pub fn figures_of(s: State) -> Figures
-    ensures { λ r. ⌜ r ≡ record { stops = s .stops; marks = s .marks; must = s .must; depth = s .depth; records = s .records } ⌝ }
+    ensures { λ r. ⌜ r ≡ figuresOf s ⌝ }
 {
     Figures {
         stops: s.stops,
@@ -98,4 +99,83 @@ pub fn pack<'a>(
         depth: f.depth,
         records: f.records,
     }
+}
+
+// The routes of a fleet into their rows. Each array has a loop of its own: one as short as that the compiler writes out, and then it copies what was
+// handed in straight into the rows.
+pub fn take_routes(fleet: Fleet, rows: &mut [[usize; Node::MOST]; Fleet::VANS])
+    requires { ⌜ length (now rows) ≡ mostVans ⌝ }
+    ensures { λ _. ⌜ now (rows .exit) ≡ routesIn fleet ⌝ }
+{
+    let vans = fleet.vans;
+    let mut j = 0;
+    while j < Fleet::VANS {
+        let s = vans[j];
+        let one = s.route;
+        rows[j] = one;
+        j += 1;
+    }
+}
+
+// The sets likewise.
+pub fn take_sets(fleet: Fleet, rows: &mut [[u64; Node::MOST]; Fleet::VANS])
+    requires { ⌜ length (now rows) ≡ mostVans ⌝ }
+    ensures { λ _. ⌜ now (rows .exit) ≡ setsIn fleet ⌝ }
+{
+    let vans = fleet.vans;
+    let mut j = 0;
+    while j < Fleet::VANS {
+        let s = vans[j];
+        let one = s.sets;
+        rows[j] = one;
+        j += 1;
+    }
+}
+
+// The levels likewise.
+pub fn take_levels(fleet: Fleet, rows: &mut [[usize; State::LEVELS]; Fleet::VANS])
+    requires { ⌜ length (now rows) ≡ mostVans ⌝ }
+    ensures { λ _. ⌜ now (rows .exit) ≡ levelsIn fleet ⌝ }
+{
+    let vans = fleet.vans;
+    let mut j = 0;
+    while j < Fleet::VANS {
+        let s = vans[j];
+        let one = s.levels;
+        rows[j] = one;
+        j += 1;
+    }
+}
+
+// The other numbers likewise.
+pub fn take_figures(fleet: Fleet, rows: &mut [[u64; Figures::COUNT]; Fleet::VANS])
+    requires { ⌜ Figured (now rows) ⌝ }
+    ensures { λ _. ⌜ now (rows .exit) ≡ figuresAll fleet ⌝ }
+{
+    let vans = fleet.vans;
+    let mut j = 0;
+    while j < Fleet::VANS {
+        let s = vans[j];
+        put_figures(&mut rows[j], figures_of(s));
+        j += 1;
+    }
+}
+
+// The fleet that the rows have.
+pub fn fleet_of<'a>(
+    routes: &'a [[usize; Node::MOST]; Fleet::VANS],
+    sets: &'a [[u64; Node::MOST]; Fleet::VANS],
+    levels: &'a [[usize; State::LEVELS]; Fleet::VANS],
+    figures: &'a [[u64; Figures::COUNT]; Fleet::VANS],
+) -> Fleet
+    requires { ⌜ Figured (now figures) ⌝ }
+    ensures { λ r. ⌜ r ≡ fleetWith (now (routes .entry)) (now (sets .entry)) (now (levels .entry)) (now (figures .entry)) ⌝ }
+{
+    let mut vans = [State::none(); Fleet::VANS];
+    let mut j = 0;
+    while j < Fleet::VANS {
+        vans[j] = pack(&routes[j], &sets[j], &levels[j], &figures[j]);
+        j += 1;
+    }
+    Fleet { vans: vans }
 }

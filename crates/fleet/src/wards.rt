@@ -1,5 +1,5 @@
-// What the vans have of the wards, each a word: those on a route, those on a route or open, and those that are neither; and whether those that must go
-// somewhere can.
+// What the vans have of the wards, each a word: those on a route, those on a route or open, and those that are neither; whether those that must go
+// somewhere can; and the open places in all.
 ghost use mathlib.Core.Path.{_≡_};
 ghost use mathlib.Core.Bool.{true, not, _&&_};
 ghost use mathlib.Core.List.{List, []};
@@ -8,7 +8,8 @@ ghost use lib.ListN.{getD};
 ghost use lib.Dec.{eqb, ltb};
 ghost use Rattle.rules.specs.Numbers.{mostVans};
 ghost use Rattle.bits.specs.Places.{has, minus, within};
-ghost use Rattle.board.specs.Board.{board};
+ghost use Rattle.laws.specs.Basic.{sumBelow};
+ghost use Rattle.board.specs.Board.{board, placesOf};
 ghost use Rattle.fleet.specs.Form.{hasWard, sharesNone};
 ghost use Rattle.fleet.specs.Rows.{figuresIn, fleetWith, Figured};
 ghost use Rattle.fleet.specs.Sums.{allServed};
@@ -16,6 +17,7 @@ ghost use Rattle.fleet.specs.Wards.{Nodes, HasWards, AddsVan};
 use crate::Fleet;
 use crate::rows::figures_in;
 use board::Figures;
+use board::places::count;
 use board::route::word;
 use rules::Node;
 
@@ -70,7 +72,7 @@ pub fn with_van<'a>(
 }
 
 // The members of a set that a van has neither on its route nor open: its other wards are not looked at.
-pub fn missed<'a>(
+fn missed<'a>(
     members: u64,
     route: &'a [usize; Node::MOST],
     sets: &'a [u64; Node::MOST],
@@ -170,4 +172,18 @@ pub fn served<'a>(
         j += 1;
     }
     true
+}
+
+// The open places of v vans in all.
+pub fn places(sets: &[[u64; Node::MOST]; Fleet::VANS], n: usize, v: usize) -> usize
+    requires { ⌜ (v ≤ mostVans) × (n ≤ 64) ⌝ }
+    ensures { λ r. ⌜ r ≡ sumBelow v (λ j. placesOf (getD (now (sets .entry)) j []) n) ⌝ }
+{
+    let mut all = 0;
+    let mut j = 0;
+    while j < v {
+        all += count(&sets[j], n);
+        j += 1;
+    }
+    all
 }

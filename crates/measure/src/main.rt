@@ -84,22 +84,6 @@ fn one_opening(sheet: &[u8]) -> u64 {
     sum
 }
 
-// Operations 1 to 6, 8 and 9, once.
-fn ask(operation: usize, sheet: &[u8], fleet: Fleet, trail: &mut [u64], task: Task) -> u64 {
-    match operation {
-        1 => one_opening(sheet),
-        6 => {
-            let j = planner::verdict(sheet, fleet);
-            wrapping_add_u64(j.answer as u64, one_if(j.alive))
-        },
-        8 => {
-            let p = planner::open_places(sheet, fleet);
-            wrapping_add_u64(p.answer as u64, p.places as u64)
-        },
-        _ => one_step(sheet, fleet, trail, task),
-    }
-}
-
 // The stop before the end of a van's route: its last ward, or the start.
 fn last_stop(one: State) -> usize {
     let stops = one.stops;
@@ -181,21 +165,55 @@ fn diagonal(sheet: &[u8]) -> usize
     4 * at.seconds
 }
 
-// The sum over all times, of one of the operations 1 to 6, 8 and 9.
-fn repeat(
-    operation: usize,
-    count: usize,
-    sheet: &mut [u8],
-    fleet: Fleet,
-    trail: &mut [u64],
-    task: Task,
-) -> u64 {
+// The sum over all times, of operation 1.
+fn repeat_opening(count: usize, sheet: &mut [u8]) -> u64 {
     let spot = diagonal(sheet);
     let mut sum: u64 = 0;
     let mut i = 0;
     while i < count {
         mark(sheet, spot, i % 1000);
-        sum = wrapping_add_u64(sum, ask(operation, sheet, fleet, trail, task));
+        sum = wrapping_add_u64(sum, one_opening(sheet));
+        i += 1;
+    }
+    sum
+}
+
+// The same of operation 6.
+fn repeat_verdict(count: usize, sheet: &mut [u8], fleet: Fleet) -> u64 {
+    let spot = diagonal(sheet);
+    let mut sum: u64 = 0;
+    let mut i = 0;
+    while i < count {
+        mark(sheet, spot, i % 1000);
+        let j = planner::verdict(sheet, fleet);
+        sum = wrapping_add_u64(sum, wrapping_add_u64(j.answer as u64, one_if(j.alive)));
+        i += 1;
+    }
+    sum
+}
+
+// The same of operation 8.
+fn repeat_places(count: usize, sheet: &mut [u8], fleet: Fleet) -> u64 {
+    let spot = diagonal(sheet);
+    let mut sum: u64 = 0;
+    let mut i = 0;
+    while i < count {
+        mark(sheet, spot, i % 1000);
+        let p = planner::open_places(sheet, fleet);
+        sum = wrapping_add_u64(sum, wrapping_add_u64(p.answer as u64, p.places as u64));
+        i += 1;
+    }
+    sum
+}
+
+// The same of the others, which are steps.
+fn repeat_step(count: usize, sheet: &mut [u8], fleet: Fleet, trail: &mut [u64], task: Task) -> u64 {
+    let spot = diagonal(sheet);
+    let mut sum: u64 = 0;
+    let mut i = 0;
+    while i < count {
+        mark(sheet, spot, i % 1000);
+        sum = wrapping_add_u64(sum, one_step(sheet, fleet, trail, task));
         i += 1;
     }
     sum
@@ -351,7 +369,13 @@ fn repeat_on(
     let lent: &mut [u64] = &mut trail[..words];
     let fleet = start(operation, sheet, fresh, v, lent, n);
     let task = task_of(operation, fleet, v, n);
-    tell(repeat(operation, count, sheet, fleet, lent, task));
+    let sum = match operation {
+        1 => repeat_opening(count, sheet),
+        6 => repeat_verdict(count, sheet, fleet),
+        8 => repeat_places(count, sheet, fleet),
+        _ => repeat_step(count, sheet, fleet, lent, task),
+    };
+    tell(sum);
 }
 
 fn main() {

@@ -1,19 +1,21 @@
--- For contracts: a fleet that a call has taken into rows, and what it gives back of them.
+-- For contracts: what a call that is not refused knows, and a step done in rows.
 use mathlib.Core.Path.{_≡_}
-use mathlib.Core.Bool.{Bool, cond, _||_}
+use mathlib.Core.Bool.{Bool}
 use mathlib.Core.List.{List}
 use Prim.Native.Nat.{ℕ, _≤_}
-use lib.Dec.{eqb, ltb}
-use Rattle.laws.specs.Basic.{allBelow}
 use Rattle.rules.specs.Numbers.{mostVans}
+use Rattle.rules.specs.Verdict.{alive}
+use Rattle.rules.specs.declared.Step.{Step}
+use Rattle.sheet.specs.Section.{vansOf}
 use Rattle.sheet.specs.declared.Layout.{Layout}
-use Rattle.board.specs.Fresh.{noState}
-use Rattle.fleet.specs.Fleet.{fleetOf, stateIn, HeldAll}
-use Rattle.fleet.specs.Form.{idle}
-use Rattle.fleet.specs.Rows.{rowState, fleetWith, Rows, Figured}
+use Rattle.day.specs.Tell.{dayOf, vanOf}
+use Rattle.van.specs.Act.{planIn}
+use Rattle.fleet.specs.Fleet.{stateIn}
+use Rattle.fleet.specs.Rows.{Figured}
 use Rattle.fleet.specs.declared.Fleet.{Fleet}
-use Rattle.turns.specs.Together.{RanAll, actedAll}
+use Rattle.turns.specs.Together.{ranAll}
 use Rattle.turns.specs.declared.Outcomes.{Outcomes}
+use Rattle.acts.specs.Act.{actAll}
 
 -- one van to eight, two nodes to 64
 pub record Sized (at : Layout) : Type 0 where
@@ -22,14 +24,11 @@ pub record Sized (at : Layout) : Type 0 where
   pub two : 2 ≤ at .nodes
   pub small : at .nodes ≤ 64
 
--- the rows have the first v states of a fleet and nothing else; `rest` says whether the other states are idle
-pub record TakenIn (f : Fleet) (v : ℕ) (routes sets levels figures : List (List ℕ)) (rest : Bool) : Type 0 where
-  pub held : HeldAll f
-  pub rows : Rows routes × Rows sets × Rows levels × Figured figures
-  pub vans : fleetWith routes sets levels figures ≡ fleetOf (λ j. cond (ltb j v) (stateIn f j) noState)
-  pub others : rest ≡ allBelow mostVans (λ j. ltb j v || idle (stateIn f j))
+-- van j is alive
+abbrev pub lives : List ℕ → Fleet → ℕ → Bool
+lives sheet f j = alive (vanOf sheet j) (dayOf sheet) (planIn (stateIn f j))
 
--- refused, the fleet that was handed in; taken, its first v states as the rows have them
-abbrev pub putBack : Fleet → ℕ → Outcomes → List (List ℕ) → List (List ℕ) → List (List ℕ) → List (List ℕ) → List ℕ → RanAll
-putBack f v o routes sets levels figures t =
-    cond (eqb (o .answer) 0) (actedAll 0 (o .rounds) (fleetOf (λ j. cond (ltb j v) (rowState routes sets levels figures j) (stateIn f j))) t) (actedAll (o .answer) 0 f t)
+-- a step of the fleet f was done in rows, or refused and the rows left: its outcome, the rows and the trail are all that it gives
+abbrev pub DidWhole : List ℕ → Fleet → List ℕ → Step → Outcomes → List (List ℕ) → List (List ℕ) → List (List ℕ) → List (List ℕ) → List ℕ → Type 0
+DidWhole sheet f t step o routes sets levels figures u =
+    (actAll (vanOf sheet) (dayOf sheet) (vansOf sheet) f t step ≡ ranAll o routes sets levels figures u) × Figured figures

@@ -78,7 +78,9 @@ returns-2 c =
     let i = o .before .before in
     let d = i .before .before .before .before in
     let b = backed (d .args .step) _ _ (m .each .result) (d .pre .0) (d .pre .1) (omega (arith, rw (i .figures-in .ensures) at (o .if1 .left))) (m .each .ensures .0, m .each .ensures .1) in
-    did-misfit _ _ _ _ (c .answered2 .ensures) (m .each .ensures .2) (b .same) (b .no (unfit (m .each .result) _ (not-true _ (c .before .if2 .taken))))
+    let l = d .pre .0 .laid in
+    let n = unfit (m .each .result) (sharesNone (nOf (d .args .sheet .now)) (vansOf (d .args .sheet .now)) _) (not-true _ (c .before .if2 .taken)) in
+    did-misfit _ _ _ _ (d .pre .1) (omega (arith, l .vans, l .fine .vans-low)) (c .answered2 .ensures) (m .each .ensures .2) (b .same) (b .no n) (λ o. b .one (sym (l .vans) ∙ o) n)
 
 share-none-requires : tie.Need-share-none-requires
 share-none-requires c κs =
@@ -127,8 +129,8 @@ returns-4 c =
     let d = i .before .before .before .before in
     let l = d .pre .0 .laid in
     let b = backed (d .args .step) _ _ (m .each .result) (d .pre .0) (d .pre .1) (omega (arith, rw (i .figures-in .ensures) at (o .if1 .left))) (m .each .ensures .0, m .each .ensures .1) in
-    did-misfit _ _ _ _ (c .answered4 .ensures) (m .each .ensures .2) (b .same)
-    (b .no (shared (m .each .result) _ (not-false _ (w .if2 .left)) (ap₂ (λ (n v : ℕ). sharesNone n v (fleetWith (m .each .last .1 .1 .1 .0) (m .each .last .1 .1 .1 .1 .0) (m .each .last .1 .1 .1 .1 .1 .0) (m .each .last .1 .1 .1 .1 .1 .1 .0))) (sym (l .nodes)) (sym (l .vans)) ∙ sym (g .share-none .ensures (m .each .last .1 .1 .1 .1 .1 .0)) ∙ c .before .if3 .left)))
+    let n = shared (m .each .result) _ (not-false _ (w .if2 .left)) (ap₂ (λ (n v : ℕ). sharesNone n v (fleetWith (m .each .last .1 .1 .1 .0) (m .each .last .1 .1 .1 .1 .0) (m .each .last .1 .1 .1 .1 .1 .0) (m .each .last .1 .1 .1 .1 .1 .1 .0))) (sym (l .nodes)) (sym (l .vans)) ∙ sym (g .share-none .ensures (m .each .last .1 .1 .1 .1 .1 .0)) ∙ c .before .if3 .left) in
+    did-misfit _ _ _ _ (d .pre .1) (omega (arith, l .vans, l .fine .vans-low)) (c .answered4 .ensures) (m .each .ensures .2) (b .same) (b .no n) (λ o. b .one (sym (l .vans) ∙ o) n)
 
 pub back-spec : {M : Type 1} → statement M
 back-spec =

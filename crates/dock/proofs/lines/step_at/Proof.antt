@@ -38,11 +38,11 @@ returns c =
     let v = stepWord sheet (a .i) 1 in
     let w = stepWord sheet (a .i) 2 in
     let f = fleetWith (a .routes .now) (a .sets .now) (a .levels .now) (a .figures .now) in
-    let did : Did (actAll (vanOf sheet) (dayOf sheet) (vansOf sheet) f (a .trail .now) (s .step .result)) (m .act .result) (m .act .last .1 .1 .0) (m .act .last .1 .1 .1 .0) (m .act .last .1 .1 .1 .1 .0) (m .act .last .1 .1 .1 .1 .1 .0) (m .act .last .1 .1 .1 .1 .1 .1 .0) = m .act .ensures in
+    let did : Did (s .step .result .kind) (a .at .vans) (actAll (vanOf sheet) (dayOf sheet) (vansOf sheet) f (a .trail .now) (s .step .result)) (m .act .result) (m .act .last .1 .1 .0) (m .act .last .1 .1 .1 .0) (m .act .last .1 .1 .1 .1 .0) (m .act .last .1 .1 .1 .1 .1 .0) (m .act .last .1 .1 .1 .1 .1 .1 .0) = m .act .ensures in
     let same : stepOf sheet f (a .trail .now) u v w ≡ actAll (vanOf sheet) (dayOf sheet) (vansOf sheet) f (a .trail .now) (s .step .result) =
     begins z p u v w ∙ ap (λ (x : Step). actAll (vanOf sheet) (dayOf sheet) (vansOf sheet) f (a .trail .now) x) (sym (s .step .ensures)) in
     let e : stepOf sheet f (a .trail .now) u v w ≡ ranAll (m .act .result) (m .act .last .1 .1 .0) (m .act .last .1 .1 .1 .0) (m .act .last .1 .1 .1 .1 .0) (m .act .last .1 .1 .1 .1 .1 .0) (m .act .last .1 .1 .1 .1 .1 .1 .0) =
-    same ∙ did .whole (λ y. fits z p u v w (ap (λ (o : RanAll). o .0 .answer) same ∙ sym (did .answer) ∙ y)) in
+    same ∙ did .whole (λ q l y. fits z p u v w (ap (λ (o : RanAll). o .0 .answer) same ∙ sym (did .answer) ∙ y)) in
     (e, rows-held _ _ _ _ (held z (goes-on z p u v w e)) (did .eight))
 
 pub step-at-spec : {M : Type 1} → statement M
