@@ -1,8 +1,9 @@
 -- What a caller that is ready gives the functions of settling.
 use mathlib.Core.Path.{_≡_, refl, sym, ap, _∙_, subst}
-use Prim.Native.Nat.{ℕ, _-_, _<_}
+use Prim.Native.Nat.{ℕ, _-_, _<_, _≤_}
 use mathlib.Core.Bool.{Bool, true, not, _&&_}
 use mathlib.Core.List.{List}
+use mathlib.Core.Logic.{⊎-elim}
 use native.Mathlib.Omega.{arith}
 use lib.Dec.{T, eqb}
 use lib.IntN.{ℤ}
@@ -28,10 +29,10 @@ use Rattle.day.specs.Seen.{Placed}
 use Rattle.day.proofs.Fit.{placed-read, fine-job}
 use Rattle.day.specs.Tell.{dayOf, jobIn, loadOk, jobFine}
 use Rattle.along.proofs.RouteLaws.{job-low}
-use Rattle.along.specs.Spots.{Spots}
-use Rattle.along.proofs.SpotLaws.{spot-in, spot-found}
+use Rattle.along.specs.Spots.{spot, Spots}
+use Rattle.along.proofs.SpotLaws.{spot-in, spot-cases, spot-found}
 use Rattle.along.proofs.LoadLaws.{load-at-low}
-use Rattle.walks.specs.Walks.{Legs}
+use Rattle.walks.specs.Walks.{Legs, Before, Marked}
 use Rattle.along.specs.Sets.{placesIn, setsOf}
 use Rattle.along.proofs.SetLaws.{length-sets, places-sets}
 use Rattle.along.specs.Ready.{Ready}
@@ -49,9 +50,20 @@ module _ {s : List ℕ} {at : Layout} {l : List ℕ} {n : ℕ} {ws : List ℕ} {
 
   -- the spots have the leg of each stop, and of each place
   module _ {at′ : List ℕ} (p : Spots l n at′) where
+    stop-at : (i x : ℕ) → i < n → getD l i 0 ≡ x → getD at′ x 64 ≡ i
+    stop-at i x h e = p .at x ∙ spot-found l n (r .most) (omega (arith, r .long, r .most)) (r .form .nodes) x i h (getD-take n l i 0 h ∙ e)
+
     leg-at : (i : ℕ) → i < n → getD at′ (getD l i 0) 0 ≡ i
-    leg-at i h = spot-in at′ (getD l i 0) (omega (arith, near-nodes r i h, p .long)) ∙ p .at (getD l i 0)
-        ∙ spot-found l n (r .most) (omega (arith, r .long, r .most)) (r .form .nodes) (getD l i 0) i h (getD-take n l i 0 h)
+    leg-at i h = spot-in at′ (getD l i 0) (omega (arith, near-nodes r i h, p .long)) ∙ stop-at i (getD l i 0) h refl
+
+    -- what a walk asks that takes all legs at once
+    pub marked : {b : List ℕ} → Before l (n - 1) b → Marked l (n - 1) at′ b
+    marked b = record { before = b; long = p .long; stop = λ i x h. (stop-at i x (omega (arith, two-stops r)), from i x h) }
+      where
+        from : (i x : ℕ) → i ≤ n - 1 → getD at′ x 64 ≡ i → getD l i 0 ≡ x
+        from i x h e =
+            let z : spot l n x ≡ i = sym (p .at x) ∙ e in
+            ⊎-elim (λ q. absurd (omega (arith, q .0, r .most, two-stops r))) (λ q. ap (λ (k : ℕ). getD l k 0) (sym z) ∙ q .1) (spot-cases l n x)
 
     pub spotted : Spotted l at′ (n - 1)
     spotted = record { is = λ i h. leg-at i (omega arith) }
@@ -67,8 +79,8 @@ module _ {s : List ℕ} {at : Layout} {l : List ℕ} {n : ℕ} {ws : List ℕ} {
     }
 
 -- what a walk asks, of a route that is read
-pub legs : {s : List ℕ} {at : Layout} {l : List ℕ} {p : Pass} {ws : List ℕ} {marks : ℕ} {z : List ℤ} {h spots : List ℕ} → Ready s at l (p .stops) ws marks
-    → Read s at l p z h spots → Legs l h (rideOf p 0)
+pub legs : {s : List ℕ} {at : Layout} {l : List ℕ} {p : Pass} {ws : List ℕ} {marks : ℕ} {z : List ℤ} {h spots before : List ℕ} → Ready s at l (p .stops) ws marks
+    → Read s at l p z h spots before → Legs l h (rideOf p 0)
 legs {s} {l = l} {p} r e = record {
   long = r .long;
   wide = e .loads .long;

@@ -14,14 +14,16 @@ use Rattle.day.specs.Tell.{dayOf, jobIn}
 use Rattle.along.specs.Loads.{Peaked}
 use Rattle.along.specs.Spots.{Spots}
 use Rattle.along.specs.Sets.{placesIn, setsOf}
+use Rattle.walks.specs.Walks.{Before}
 use Rattle.settle.specs.declared.strike.Pass.{Pass}
 
--- what is read of a route for all rounds: L, H and their peaks, and the spots
-pub record Read (s : List ℕ) (at : Layout) (l : List ℕ) (p : Pass) (z : List ℤ) (h a : List ℕ) : Type 0 where
+-- what is read of a route for all rounds: L, H and their peaks, the spots, and the nodes before each stop
+pub record Read (s : List ℕ) (at : Layout) (l : List ℕ) (p : Pass) (z : List ℤ) (h a b : List ℕ) : Type 0 where
   pub lasts : Filled 64 (lastAt (dayOf s) (take (p .stops) l)) (pos 0) (p .stops) z
   pub loads : Filled 64 (loadAt (dayOf s) (take (p .stops) l)) 0 (p .stops - 1) h
   pub peaks : Peaked (dayOf s) (take (p .stops) l) (p .stops - 1) (jobIn s) (at .jobs) (p .peaks)
   pub spots : Spots l (p .stops) a
+  pub before : Before l (p .stops - 1) b
   pub limit : p .van .limit < 1099511627776
 
 -- settling of the words ws on the route rt: r rounds struck, and the words after have the places that 01's rounds leave

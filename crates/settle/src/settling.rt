@@ -17,6 +17,7 @@ use along::times::lasts;
 use rules::Node;
 use rules::Van;
 use sheet::Layout;
+use walks::befores;
 
 // Whether two arrays of sets are the same, where they are so from the n-th on.
 fn same(a: &[u64; Node::MOST], b: &[u64; Node::MOST], n: usize) -> bool
@@ -46,8 +47,8 @@ fn none_open(sets: &[u64; Node::MOST], n: usize) -> bool
     all == 0
 }
 
-// The rounds, with L, H and the spots at hand: the first, and the further one where it struck something, which asks the transfers only: window,
-// metres, clean and soiled jobs and the profile read the route, so what they leave they leave again. Counts those that struck.
+// The rounds, with L, H, the spots and the nodes before each stop at hand: the first, and the further one where it struck something, which asks the
+// transfers only: window, metres, clean and soiled jobs and the profile read the route, so what they leave they leave again. Counts those that struck.
 fn rounds(
     s: &[u8],
     at: Layout,
@@ -56,19 +57,20 @@ fn rounds(
     new: &mut [u64; Node::MOST],
     route: &[usize; Node::MOST],
     spots: &[usize; Node::MOST],
+    before: &[u64; Node::MOST],
     l: &[i64; Node::MOST],
     h: &[usize; Node::MOST],
 ) -> usize
-    requires { ⌜ Ready (now s) at (now route) (pass .stops) (now old) 0 × Read (now s) at (now route) pass (now l) (now h) (now spots) ⌝ }
+    requires { ⌜ Ready (now s) at (now route) (pass .stops) (now old) 0 × Read (now s) at (now route) pass (now l) (now h) (now spots) (now before) ⌝ }
     requires { ⌜ now new ≡ now old ⌝ }
     ensures { λ r. ⌜ Settles (pass .van) (dayOf (now (s .entry))) (take (pass .stops) (now (route .entry))) (now (old .entry)) r (now (new .exit)) ⌝ }
 {
-    round(s, at, pass, new, route, spots, l, h);
+    round(s, at, pass, new, route, spots, before, l, h);
     let n = at.nodes;
     if same(old, new, n) {
         return 0;
     }
-    if strike_pairs(s, at, pass, new, route, h) {
+    if strike_pairs(s, at, pass, new, route, spots, before, h) {
         2
     } else {
         1
@@ -95,14 +97,16 @@ pub fn settle(
     }
     let mut l = [0i64; Node::MOST];
     let mut spot = [Node::MOST; Node::MOST];
+    let mut before = [0u64; Node::MOST];
     let mut h = [0usize; Node::MOST];
     lasts(s, at, route, stops, &mut l);
     spots(route, stops, &mut spot);
+    befores(route, stops - 1, &mut before);
     let peaks = loads(s, at, route, stops, &spot, &mut h);
     let pass = Pass {
         van: van,
         stops: stops,
         peaks: peaks,
     };
-    rounds(s, at, pass, old, new, route, &spot, &l, &h)
+    rounds(s, at, pass, old, new, route, &spot, &before, &l, &h)
 }

@@ -8,7 +8,7 @@ ghost use Rattle.sheet.specs.Place.{Laid};
 ghost use Rattle.day.specs.Tell.{jobIn, dayOf};
 ghost use Rattle.day.specs.Seen.{Placed};
 ghost use Rattle.along.specs.Spots.{Spots};
-ghost use Rattle.walks.specs.Walks.{Kept, Legs};
+ghost use Rattle.walks.specs.Walks.{Kept, Legs, Marked};
 ghost use Rattle.along.specs.Sets.{placesIn, setsOf};
 ghost use Rattle.along.specs.Ready.{Ready};
 ghost use Rattle.rules.specs.Time.{driven};
@@ -127,10 +127,13 @@ fn strike_pair(
     pass: Pass,
     new: &mut [u64; Node::MOST],
     route: &[usize; Node::MOST],
+    spots: &[usize; Node::MOST],
+    before: &[u64; Node::MOST],
     h: &[usize; Node::MOST],
 ) -> bool
     requires { ⌜ Placed job × (twoEnds job ≡ true) × (0 < pass .stops) ⌝ }
-    requires { ⌜ (length (now new) ≡ 64) × Legs (now route) (now h) (rideOf pass (loadOf job)) ⌝ }
+    requires { ⌜ (length (now new) ≡ 64) × Legs (now route) (now h) (rideOf pass (loadOf job))
+        × Marked (now route) (pass .stops - 1) (now spots) (now before) ⌝ }
     ensures { λ r. ⌜ Kepts (now (route .entry)) (pass .stops - 1) (pairLeaves (now (new .entry)) (now (route .entry)) (now (h .entry)) pass job)
         (now (new .entry)) (now (new .exit)) × (r ≡ (struck || not (sameSets (now (new .entry)) (now (new .exit))))) ⌝ }
 {
@@ -145,14 +148,14 @@ fn strike_pair(
                 node: to,
                 places: b,
             };
-            let c = backward(a, route, h, ride, there);
+            let c = backward(a, route, h, spots, before, ride, there);
             new[from] = c;
             let first = struck | (a != c);
             let here = Partner {
                 node: from,
                 places: a,
             };
-            let d = forward(b, route, h, ride, here);
+            let d = forward(b, route, h, spots, before, ride, here);
             new[to] = d;
             first | (b != d)
         },
@@ -167,9 +170,12 @@ pub fn strike_pairs(
     pass: Pass,
     new: &mut [u64; Node::MOST],
     route: &[usize; Node::MOST],
+    spots: &[usize; Node::MOST],
+    before: &[u64; Node::MOST],
     h: &[usize; Node::MOST],
 ) -> bool
-    requires { ⌜ Ready (now s) at (now route) (pass .stops) (now new) 0 × Legs (now route) (now h) (rideOf pass 0) ⌝ }
+    requires { ⌜ Ready (now s) at (now route) (pass .stops) (now new) 0 × Legs (now route) (now h) (rideOf pass 0)
+        × Marked (now route) (pass .stops - 1) (now spots) (now before) ⌝ }
     ensures { λ r. ⌜ Kepts (now (route .entry)) (pass .stops - 1)
         (jobsLeave (pairLeaves (now (new .entry)) (now (route .entry)) (now (h .entry)) pass) (jobIn (now (s .entry))) (at .jobs))
         (now (new .entry)) (now (new .exit)) × (r ≡ not (sameSets (now (new .entry)) (now (new .exit)))) ⌝ }
@@ -179,7 +185,7 @@ pub fn strike_pairs(
     let mut j = 0;
     while j < m {
         let job = day::jobs::job(s, at, j);
-        struck = strike_pair(job, struck, pass, new, route, h);
+        struck = strike_pair(job, struck, pass, new, route, spots, before, h);
         j += 1;
     }
     struck
@@ -254,14 +260,15 @@ pub fn round(
     new: &mut [u64; Node::MOST],
     route: &[usize; Node::MOST],
     spots: &[usize; Node::MOST],
+    before: &[u64; Node::MOST],
     l: &[i64; Node::MOST],
     h: &[usize; Node::MOST],
 )
-    requires { ⌜ Ready (now s) at (now route) (pass .stops) (now new) 0 × Read (now s) at (now route) pass (now l) (now h) (now spots) ⌝ }
+    requires { ⌜ Ready (now s) at (now route) (pass .stops) (now new) 0 × Read (now s) at (now route) pass (now l) (now h) (now spots) (now before) ⌝ }
     ensures { λ _. ⌜ now (new .exit)
         ≡ setsOf (round (pass .van) (dayOf (now (s .entry))) (take (pass .stops) (now (route .entry))) (placesIn (now (new .entry)))) ⌝ }
 {
-    strike_pairs(s, at, pass, new, route, h);
+    strike_pairs(s, at, pass, new, route, spots, before, h);
     strike_mixed(s, at, pass.stops, new, route);
     stand_all(s, at, pass, new, route, spots, l);
     strike_loads(s, at, pass, new, route, h);

@@ -11,7 +11,7 @@ use borrow.Author.Tests.{le-leb}
 use lib.ListN.{getD}
 use Rattle.walks.specs.declared.Ride.{Ride}
 use Rattle.walks.specs.Walks.{Kept, struck, walkUp, walkDown, fitsAt, nobody, fromStart, toEnd, Legs}
-use Rattle.walks.proofs.WalkLaws.{kept-none, kept-pass, kept-join, kept-leg}
+use Rattle.walks.proofs.WalkLaws.{kept-none, kept-join, kept-leg}
 
 -- where the fullest leg has room, each has
 pub roomy : {l h : List ℕ} {r : Ride} → Legs l h r → r .highest + r .load ≤ r .capacity → (i : ℕ) → i < r .legs → fitsAt h r i ≡ true
@@ -52,12 +52,6 @@ module _ (l : List ℕ) (f m : ℕ → Bool) (b : Bool) {word : ℕ} where
         kept = rw (s, z) (kept-join (p .kept) (kept-leg l _ i) (omega arith) (omega arith) (omega arith) (omega arith));
       }
 
-  pub forth-rest : {n i w : ℕ} {on : Bool} → Forth l f m b word i w on → ((k : ℕ) → k < n → f k ≡ true) → on ≡ true → i ≤ n
-      → Kept l 0 n (λ k. walkUp f m b (k + 1)) word w
-  forth-rest {n} {i} p fit e a =
-      kept-join {c = i} {d = n} (p .kept) (kept-pass (λ k c d. up-on f m b n i fit (sym (p .flag) ∙ e) (k + 1) (omega arith) (omega arith)))
-      (omega arith) (omega arith) (omega arith) (omega arith)
-
 -- ---- backward: b says that one is on behind the last of n legs
 
 -- the legs from the i-th on are done: `on` is the flag before them, and w is what they leave of the word
@@ -89,14 +83,6 @@ module _ (l : List ℕ) (f m : ℕ → Bool) (b : Bool) (n : ℕ) {word : ℕ} w
         flag = z;
         kept = rw (s, z) (kept-join (p .kept) (kept-leg l _ i) (omega arith) (omega arith) (omega arith) (omega arith));
       }
-
-  pub back-rest : {i w : ℕ} {on : Bool} → Back l f m b n word i w on → ((k : ℕ) → k < n → f k ≡ true) → on ≡ true → i ≤ n
-      → Kept l 0 n (λ k. walkDown f m b k (n - k)) word w
-  back-rest {i} p fit e a =
-      kept-join {c = 0} {d = i} (p .kept)
-      (kept-pass (λ k c d. let z : i ≡ i - k + k = omega arith in
-      down-on f m b n fit (i - k) k (omega arith) (subst (λ (t : ℕ). walkDown f m b t (n - t) ≡ true) z (sym (p .flag) ∙ e))))
-      (omega arith) (omega arith) (omega arith) (omega arith)
 
 -- ---- where the fullest leg has room, a ride from the start is on every leg, and one to the end
 

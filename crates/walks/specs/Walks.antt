@@ -6,6 +6,7 @@ use mathlib.Core.List.{List}
 use mathlib.Core.Logic.{_↔_}
 use lib.Dec.{T, leb, eqb}
 use lib.ListN.{getD, length}
+use Rattle.laws.specs.Basic.{anyBelow}
 use Rattle.bits.specs.Places.{has, without}
 use Rattle.walks.specs.declared.Ride.{Ride}
 use Rattle.walks.specs.declared.Partner.{Partner}
@@ -73,3 +74,14 @@ pub record Legs (l h : List ℕ) (r : Ride) : Type 0 where
   pub high : r .highest < 1099511627776
   pub loads : (i : ℕ) → i < r .legs → getD h i 0 ≤ r .highest
   pub nodes : (i : ℕ) → i < r .legs → getD l i 0 < 64
+
+-- b has the nodes before each stop of n legs, as a set
+pub record Before (l : List ℕ) (n : ℕ) (b : List ℕ) : Type 0 where
+  pub long : length b ≡ 64
+  pub at : (i : ℕ) → i ≤ n → (x : ℕ) → has (getD b i 0) x ≡ anyBelow i (λ k. eqb (getD l k 0) x)
+
+-- what a walk that takes all legs at once asks: these sets, and in a the one stop of each node
+pub record Marked (l : List ℕ) (n : ℕ) (a b : List ℕ) : Type 0 where
+  pub before : Before l n b
+  pub long : length a ≡ 64
+  pub stop : (i x : ℕ) → i ≤ n → (getD l i 0 ≡ x) ↔ (getD a x 64 ≡ i)

@@ -2,7 +2,7 @@ use mathlib.Core.Path.{sym, _∙_}
 use borrow.Author.Tests.{not-true, not-false}
 use Rattle.along.proofs.ReadyLaws.{nodes-most}
 use Rattle.along.proofs.Facts.{past-same}
-use Rattle.settle.proofs.Facts.{legs}
+use Rattle.settle.proofs.Facts.{legs, marked}
 use Rattle.settle.proofs.Again.{ready-first, none-left, one-left, two-left}
 use Rattle.settle.proofs.settling.rounds.Statement.{statement}
 use Rattle.settle.proofs.settling.rounds.Tie as tie
@@ -26,7 +26,7 @@ strike-pairs-requires : tie.Need-strike-pairs-requires
 strike-pairs-requires c κs =
     let d = c .before .before .before .before .before .before .before in
     let p = d .pre .0 in
-    (ready-first (d .args .pass .van) (p .0) (rw (d .pre .1) at (c .before .before .before .before .round .ensures)), legs (p .0) (p .1))
+    (ready-first (d .args .pass .van) (p .0) (rw (d .pre .1) at (c .before .before .before .before .round .ensures)), legs (p .0) (p .1), marked (p .0) (p .1 .spots) (p .1 .before))
 
 returns-2 : tie.Need-returns-2
 returns-2 c =

@@ -6,13 +6,13 @@ use Rattle.day.specs.Tell.{dayOf, jobIn}
 use Rattle.along.proofs.ReadyLaws.{jobs-are}
 use Rattle.along.proofs.Facts.{two-stops, few-nodes}
 use Rattle.settle.proofs.RoundLaws.{kepts-both}
-use Rattle.settle.proofs.Facts.{legs, ready-kepts}
+use Rattle.settle.proofs.Facts.{legs, marked, ready-kepts}
 use Rattle.settle.proofs.Rounds.{round-sets}
 use Rattle.settle.proofs.strike.round.Statement.{statement}
 use Rattle.settle.proofs.strike.round.Tie as tie
 
 strike-pairs-requires : tie.Need-strike-pairs-requires
-strike-pairs-requires c κs = let p = c .before .before .pre in (p .0, legs (p .0) (p .1))
+strike-pairs-requires c κs = let p = c .before .before .pre in (p .0, legs (p .0) (p .1), marked (p .0) (p .1 .spots) (p .1 .before))
 
 strike-mixed-requires : tie.Need-strike-mixed-requires
 strike-mixed-requires c κs = ready-kepts (c .before .before .before .before .pre .0) (c .before .strike-pairs .ensures .0)

@@ -48,7 +48,8 @@ backward-requires : tie.Need-backward-requires
 backward-requires c κs =
     let r = c .before .before in
     let d = r .before .before in
-    rw (r .ride-of .ensures) (rw (d .job .given .1) at (d .before .before .pre .1 .1))
+    let p = d .before .before .pre in
+    let h = rw (d .job .given .1) at (p .0 .0) in rw (r .ride-of .ensures) (rw (d .job .given .1) at (p .1 .1), p .1 .2, h .1)
 
 mul-new : tie.Need-mul-new
 mul-new c =
@@ -66,7 +67,8 @@ forward-requires : tie.Need-forward-requires
 forward-requires c κs =
     let r = c .before .before .before in
     let d = r .before .before in
-    rw (r .ride-of .ensures) (rw (d .job .given .1) at (d .before .before .pre .1 .1))
+    let p = d .before .before .pre in
+    let h = rw (d .job .given .1) at (p .0 .0) in rw (r .ride-of .ensures) (rw (d .job .given .1) at (p .1 .1), p .1 .2, h .0)
 
 mul-new-2 : tie.Need-mul-new-2
 mul-new-2 c =

@@ -15,11 +15,11 @@ use Rattle.settle.proofs.strike.strike_pairs.Statement.{statement}
 use Rattle.settle.proofs.strike.strike_pairs.Tie as tie
 
 abbrev Inv-loop : tie.InvT-loop
-Inv-loop s at pass new₀ route h m struck₀ j₀ new struck j =
+Inv-loop s at pass new₀ route spots before h m struck₀ j₀ new struck j =
     (j ≤ m) × Kepts route (pass .stops - 1) (jobsLeave (pairLeaves new₀ route h pass) (jobIn s) j) new₀ new × (struck ≡ not (sameSets new₀ new))
 
 abbrev μ-loop : tie.MeasureT-loop
-μ-loop s at pass new₀ route h m struck₀ j₀ new struck j = m - j
+μ-loop s at pass new₀ route spots before h m struck₀ j₀ new struck j = m - j
 
 loop-holds : tie.Need-loop-holds Inv-loop μ-loop
 loop-holds c = (omega arith, jobs-none _ _ (c .before .pre .0 .sized), let w = c .before .args .new .now in ap not (sym (sets-same w w refl)))
@@ -32,7 +32,7 @@ strike-pair-requires c κs =
     let l = c .before .before .before in
     let d = l .before .before in
     let j = job-asked (d .pre .0 .laid) (d .args .pass) (d .pre .1) _ (c .before .before .loop-test .taken) (c .before .job .ensures) in
-    ((j .0, j .1, omega (arith, two-stops (d .pre .0))), (l .loop .inv .1 .long, j .2))
+    ((j .0, j .1, omega (arith, two-stops (d .pre .0))), (l .loop .inv .1 .long, j .2, d .pre .2))
 
 add-j : tie.Need-add-j Inv-loop μ-loop
 add-j c = omega arith
