@@ -1,27 +1,27 @@
 -- The tests of the form, as a loop makes them, are the form's.
 use mathlib.Core.Path.{_≡_, refl, ap, sym, _∙_}
-use mathlib.Core.Bool.{Bool, true, false, cond, not, _&&_, and-false, or-true, or-false}
+use mathlib.Core.Bool.{Bool, true, false, cond, not, _&&_, _||_, and-false, and-comm, and-assoc, or-true, or-false}
 use mathlib.Core.List.{List}
 use Prim.Native.Nat.{ℕ, zero, suc, _+_, _-_, _/_, _%_, _^_, _≤_, _<_}
 use native.Mathlib.Omega.{arith}
 use native.Mathlib.Numerals.{add-one}
-use lib.ListN.{length, getD, take}
+use lib.ListN.{length, getD}
 use lib.Bits.{bitOr}
 use lib.Dec.{eqb, leb, ltb}
 use borrow.Author.Tests.{eqb-true, eqb-false, eq-eqb, leb-true, le-leb, lt-leb, ltb-true, ltb-false, lt-ltb, le-ltb, not-true}
 use Rattle.laws.proofs.Logic.{decided, and-true, T-ext, true→T, T→true}
-use Rattle.laws.proofs.Below.{below-at, below-make, below-same, below-both, flag-goes}
-use Rattle.laws.specs.Basic.{allBelow, mem}
-use Rattle.bits.specs.Places.{has, with, without, within}
+use Rattle.laws.proofs.Below.{below-at, below-make, below-both, flag-goes}
+use Rattle.laws.specs.Basic.{allBelow}
+use Rattle.bits.specs.Places.{has, with, without, join, within}
 use Rattle.bits.proofs.Digits.{digit-zero}
-use Rattle.bits.proofs.Members.{digit-not, not-digit, has-none, false-true, without-with, shr-none, none-shr}
-use Rattle.bits.proofs.Masks.{or-none}
+use Rattle.bits.proofs.Members.{digit-not, not-digit, has-none, false-true, without-with, within-none, shr-none, none-shr}
+use Rattle.bits.proofs.Masks.{or-none, has-join}
 use Rattle.rules.specs.Day.{isInner}
 use Rattle.board.specs.Route.{wordOf}
-use Rattle.board.proofs.RouteLaws.{word-mem, word-has, word-more}
+use Rattle.board.proofs.RouteLaws.{word-mem, word-has, word-find, word-more}
 use Rattle.board.specs.Board.{Board, routeOf, onRoute, legsOf, setOf}
 use Rattle.board.specs.Form.{stopOk, setOk, onlyInner, markOk, mustOk, boardOk, levelOk, levelsOk}
-use Rattle.board.specs.Tests.{zeroFrom, seenOf, setTest}
+use Rattle.board.specs.Tests.{zeroFrom, seenOf, setTest, stopShut}
 
 -- the entry before i, 0 before the first
 unfoldable pub entryBefore : List ℕ → ℕ → ℕ
@@ -36,9 +36,32 @@ rises l i = leb (entryBefore l i) (getD l i 0)
 together : (a b : Bool) → (a ≡ true → b ≡ true) → (b ≡ true → a ≡ true) → a ≡ b
 together a b f g = T-ext a b (λ t. true→T b (f (T→true a t))) (λ t. true→T a (g (T→true b t)))
 
--- a loop that or-s up words, which is 0 as long as every number passes
-pub over-goes : (i : ℕ) (f : ℕ → Bool) (a b : ℕ) → allBelow i f ≡ eqb a 0 → eqb b 0 ≡ f i → allBelow (i + 1) f ≡ eqb (bitOr a b) 0
-over-goes i f a b p q = flag-goes i f p q ∙ sym (or-none a b)
+-- words or-ed are within another exactly if each is
+or-within : (c a b : ℕ) → within (bitOr a b) c ≡ (within a c && within b c)
+unfolding within join
+or-within c a b =
+    below-both 64 (λ p. not (has a p) || has c p) (λ p. not (has b p) || has c p) (λ p. not (has (bitOr a b) p) || has c p)
+    (λ p. rw (has-join a b p) (go (has a p) (has b p) (has c p)))
+  where
+    go : (x y z : Bool) → (not (x || y) || z) ≡ ((not x || z) && (not y || z))
+    go true true true = refl
+    go true true false = refl
+    go true false true = refl
+    go true false false = refl
+    go false y z = refl
+
+-- a loop that or-s up words, where g passes the or of two words exactly if it passes both; z was asked before
+gather-goes : (i : ℕ) (f g : ℕ → Bool) (z : Bool) (a b : ℕ) → ((v w : ℕ) → g (bitOr v w) ≡ (g v && g w)) → allBelow i f ≡ (z && g a) → g b ≡ f i
+    → allBelow (i + 1) f ≡ (z && g (bitOr a b))
+gather-goes i f g z a b e p q = flag-goes i f p q ∙ and-assoc z (g a) (g b) ∙ ap (λ (t : Bool). z && t) (sym (e a b))
+
+-- the same, where the word is 0 as long as every number passes
+pub over-goes : (i : ℕ) (f : ℕ → Bool) (z : Bool) (a b : ℕ) → allBelow i f ≡ (z && eqb a 0) → eqb b 0 ≡ f i → allBelow (i + 1) f ≡ (z && eqb (bitOr a b) 0)
+over-goes i f z a b = gather-goes i f (λ (w : ℕ). eqb w 0) z a b or-none
+
+-- the same, where the word is within the legs as long as every number passes
+pub within-goes : (i : ℕ) (f : ℕ → Bool) (z : Bool) (legs a b : ℕ) → allBelow i f ≡ (z && within a legs) → within b legs ≡ f i → allBelow (i + 1) f ≡ (z && within (bitOr a b) legs)
+within-goes i f z legs a b = gather-goes i f (λ (w : ℕ). within w legs) z a b (or-within legs)
 
 -- ---- entries, of which those from k on are unused
 
@@ -132,37 +155,67 @@ legs-test n b s h l e o =
     ∙ ap (λ (w : ℕ). without w (n - 1)) (word-more k (b .route) ∙ ap (with (wordOf k (b .route))) e)
     ∙ without-with (wordOf k (b .route)) (n - 1) (ap (has (wordOf k (b .route))) (sym e) ∙ not-true _ (sym t ∙ o))
 
-set-test : (n : ℕ) (b : Board) (y : ℕ) → y < 64 → b .stops ≤ length (b .route) → without (wordOf (b .stops) (b .route)) (n - 1) ≡ legsOf b
-    → setTest n (b .sets) (wordOf (b .stops) (b .route)) y ≡ setOk n b y
-unfolding setTest setOk setOf onRoute routeOf
-set-test n b y s l e =
-    let w = getD (b .sets) y 0 in
-    rw (e, word-mem (b .stops) (b .route) y s l) (go (isInner n y) (mem y (take (b .stops) (b .route))) (within w (legsOf b)) (eqb w 0))
+-- what the loop over the sets asks of an inner node, and of another
+pub set-inner : (n : ℕ) (sets : List ℕ) (legs y : ℕ) → 1 ≤ y → y + 1 < n → within (getD sets y 0) legs ≡ setTest n sets legs y
+unfolding setTest isInner
+set-inner n sets legs y h l = rw (le-leb 1 y h, lt-ltb (y + 1) n l) refl
+
+pub set-outer : (n : ℕ) (sets : List ℕ) (legs y : ℕ) → isInner n y ≡ false → eqb (getD sets y 0) 0 ≡ setTest n sets legs y
+unfolding setTest
+set-outer n sets legs y i = rw i refl
+
+-- an empty set passes everywhere
+set-none : (n : ℕ) (sets : List ℕ) (legs y : ℕ) → getD sets y 0 ≡ 0 → setTest n sets legs y ≡ true
+unfolding setTest
+set-none n sets legs y z = rw (z, within-none legs) (go (isInner n y))
   where
-    go : (i m w z : Bool) → cond i (cond m z w) z ≡ cond (i && not m) w z
-    go true true w z = refl
-    go true false w z = refl
-    go false m w z = refl
+    go : (i : Bool) → cond i true true ≡ true
+    go true = refl
+    go false = refl
+
+-- a set is asked by whether its node is on the route
+module _ (n : ℕ) (b : Board) (l : b .stops ≤ length (b .route)) (y : ℕ) (s : y < 64) where
+  set-on : has (wordOf (b .stops) (b .route)) y ≡ true → setOk n b y ≡ eqb (getD (b .sets) y 0) 0
+  unfolding setOk setOf onRoute routeOf
+  set-on m = rw (sym (word-mem (b .stops) (b .route) y s l) ∙ m, and-false (isInner n y)) refl
+
+  set-off : has (wordOf (b .stops) (b .route)) y ≡ false → setOk n b y ≡ setTest n (b .sets) (legsOf b) y
+  unfolding setTest setOk setOf onRoute routeOf
+  set-off m = rw (sym (word-mem (b .stops) (b .route) y s l) ∙ m, and-comm (isInner n y) true) refl
+
+-- nothing open at the stops, and at every node no more than a node off the route may have: each set is as it must be
+sets-test : (n : ℕ) (b : Board) → n ≤ 64 → b .stops ≤ length (b .route) → allBelow (b .stops) (stopOk n (b .stops) (b .route)) ≡ true
+    → (allBelow (b .stops) (stopShut (b .route) (b .sets)) && allBelow 64 (setTest n (b .sets) (legsOf b))) ≡ allBelow 64 (setOk n b)
+unfolding stopShut
+sets-test n b s l a =
+    let shut = stopShut (b .route) (b .sets) in
+    let test = setTest n (b .sets) (legsOf b) in
+    let w = wordOf (b .stops) (b .route) in
+    together (allBelow (b .stops) shut && allBelow 64 test) (allBelow 64 (setOk n b))
+    (λ e. let p = and-true (allBelow (b .stops) shut) (allBelow 64 test) e in
+    below-make 64 (setOk n b) (λ y h. decided (has w y)
+    (λ m. let r = word-find (b .stops) (b .route) y m in
+    set-on n b l y h m ∙ ap (λ (x : ℕ). eqb (getD (b .sets) x 0) 0) (sym (r .2)) ∙ below-at (b .stops) (r .0) shut (p .0) (r .1))
+    (λ m. set-off n b l y h m ∙ below-at 64 y test (p .1) h)))
+    (λ e. let at : (y : ℕ) → y < 64 → setOk n b y ≡ true = λ y h. below-at 64 y (setOk n b) e h in
+    rw (below-make (b .stops) shut (λ i h.
+    let x = getD (b .route) i 0 in
+    let f : x < 64 = omega (arith, stop-below n (b .stops) (b .route) i h (below-at (b .stops) i (stopOk n (b .stops) (b .route)) a h)) in
+    sym (set-on n b l x f (word-has (b .stops) (b .route) i x h refl f)) ∙ at x f))
+    (below-make 64 test (λ y h. decided (has w y)
+    (λ m. set-none n (b .sets) (legsOf b) y (eqb-true (getD (b .sets) y 0) 0 (sym (set-on n b l y h m) ∙ at y h)))
+    (λ m. sym (set-off n b l y h m) ∙ at y h))))
 
 pub nodes-test : (n : ℕ) (b : Board) → n ≤ 64 → 0 < b .stops → b .stops ≤ length (b .route) → getD (b .route) (b .stops - 1) 0 ≡ n - 1
     → allBelow (b .stops) (stopOk n (b .stops) (b .route)) ≡ true
-    → (allBelow 64 (setTest n (b .sets) (wordOf (b .stops) (b .route))) && (allBelow 64 (onlyInner n (b .marks)) && allBelow 64 (onlyInner n (b .must)))) ≡ allBelow 64 (λ y. setOk n b y && (markOk n b y && mustOk n b y))
+    → ((allBelow (b .stops) (stopShut (b .route) (b .sets)) && allBelow 64 (setTest n (b .sets) (without (wordOf (b .stops) (b .route)) (n - 1))))
+    && (allBelow 64 (onlyInner n (b .marks)) && allBelow 64 (onlyInner n (b .must)))) ≡ allBelow 64 (λ y. setOk n b y && (markOk n b y && mustOk n b y))
 unfolding markOk mustOk
 nodes-test n b s h l e a =
     let o = below-at (b .stops) (b .stops - 1) (stopOk n (b .stops) (b .route)) a (omega arith) in
-    rw (below-same 64 (setTest n (b .sets) (wordOf (b .stops) (b .route))) (setOk n b) (λ y f. set-test n b y f l (legs-test n b s h l e o)))
+    rw (legs-test n b s h l e o, sets-test n b s l a)
     (sym (below-both 64 (setOk n b) (λ y. markOk n b y && mustOk n b y) (λ y. setOk n b y && (markOk n b y && mustOk n b y)) (λ y. refl)
     ∙ ap (λ (t : Bool). allBelow 64 (setOk n b) && t) (below-both 64 (markOk n b) (mustOk n b) (λ y. markOk n b y && mustOk n b y) (λ y. refl))))
-
--- what the loop over the sets asks of an inner node, and of another
-pub set-inner : (n : ℕ) (sets : List ℕ) (on y : ℕ) → 1 ≤ y → y + 1 < n
-    → cond (has on y) (eqb (getD sets y 0) 0) (within (getD sets y 0) (without on (n - 1))) ≡ setTest n sets on y
-unfolding setTest isInner
-set-inner n sets on y h l = rw (le-leb 1 y h, lt-ltb (y + 1) n l) refl
-
-pub set-outer : (n : ℕ) (sets : List ℕ) (on y : ℕ) → isInner n y ≡ false → eqb (getD sets y 0) 0 ≡ setTest n sets on y
-unfolding setTest
-set-outer n sets on y i = rw i refl
 
 -- what a test of marks, of either sort, says of a node that is not inner
 no-mark : (n marks y : ℕ) → onlyInner n marks y ≡ true → isInner n y ≡ false → has marks y ≡ false

@@ -1,15 +1,13 @@
 // When a state is in form.
 ghost use mathlib.Core.Path.{_≡_};
-ghost use mathlib.Core.Bool.{cond};
-ghost use Prim.Native.Nat.{_≤_, _<_};
-ghost use lib.ListN.{length};
-ghost use lib.Dec.{eqb};
+ghost use Prim.Native.Nat.{ℕ, _-_, _≤_, _<_};
+ghost use lib.ListN.{length, getD};
 ghost use Rattle.laws.specs.Basic.{allBelow};
-ghost use Rattle.bits.specs.Places.{has, within};
+ghost use Rattle.bits.specs.Places.{without};
 ghost use Rattle.rules.specs.Day.{isInner};
 ghost use Rattle.board.specs.Board.{legNode, board, stateWith};
 ghost use Rattle.board.specs.Form.{onlyInner, boardOk, levelsOk, inForm};
-ghost use Rattle.board.specs.Tests.{zeroFrom, seenOf, setTest};
+ghost use Rattle.board.specs.Tests.{zeroFrom, seenOf, setTest, stopShut};
 use crate::Figures;
 use crate::State;
 use rules::Node;
@@ -72,33 +70,41 @@ fn seen_of(route: &[usize; Node::MOST], stops: usize, n: usize) -> u64
     seen
 }
 
-// What node y has open and may not: all of it on the route, off the route what is no leg.
-fn stray(w: u64, y: usize, on: u64, legs: u64) -> u64
-    requires { ⌜ y < 64 ⌝ }
-    ensures { λ r. ⌜ eqb r 0 ≡ cond (has on y) (eqb w 0) (within w legs) ⌝ }
-{
-    let may = if bits::holds(on, y) { 0 } else { legs };
-    bits::minus(w, may)
-}
-
-// The sets, gathered in one word that is 0 if none has a member too many; `on` are the nodes of the route.
+// The sets, of nodes on and off the route alike: those between the ends are gathered with no choice among them, for speed, and held against the legs once.
+// `on` are the nodes of the route.
 fn sets_ok(sets: &[u64; Node::MOST], n: usize, on: u64) -> bool
     requires { ⌜ (2 ≤ n) × (n ≤ 64) ⌝ }
-    ensures { λ r. ⌜ r ≡ allBelow 64 (setTest n (now (sets .entry)) on) ⌝ }
+    ensures { λ r. ⌜ r ≡ allBelow 64 (setTest n (now (sets .entry)) (without on (n - 1))) ⌝ }
 {
     let end = n - 1;
-    let legs = bits::take(on, end);
-    let mut over = sets[0];
+    let mut places: u64 = 0;
     let mut y = 1;
     while y < end {
-        over = over | stray(sets[y], y, on, legs);
+        places = places | sets[y];
         y += 1;
     }
+    let mut over = sets[0];
     while y < Node::MOST {
         over = over | sets[y];
         y += 1;
     }
-    over == 0
+    let legs = bits::take(on, end);
+    bits::within(places, legs) & (over == 0)
+}
+
+// No node of the route has a place open.
+fn stops_shut<'a>(route: &'a [usize; Node::MOST], stops: usize, sets: &'a [u64; Node::MOST]) -> bool
+    requires { ⌜ (stops ≤ 64) × ((i : ℕ) → i < stops → getD (now route) i 0 < 64) ⌝ }
+    ensures { λ r. ⌜ r ≡ allBelow stops (stopShut (now (route .entry)) (now (sets .entry))) ⌝ }
+{
+    let mut places: u64 = 0;
+    let mut i = 0;
+    while i < stops {
+        let x = route[i];
+        places = places | sets[x];
+        i += 1;
+    }
+    places == 0
 }
 
 // No mark at node 0 or from the last node on; asked of the marks of either sort.
@@ -161,7 +167,8 @@ fn board_ok<'a>(
     if !none_from(route, stops) {
         return false;
     }
-    sets_ok(sets, n, on) & (marks_ok(marks, n) & marks_ok(must, n))
+    (stops_shut(route, stops, sets) & sets_ok(sets, n, on))
+        & (marks_ok(marks, n) & marks_ok(must, n))
 }
 
 // Whether the state of these arrays and numbers is in form, the record count's room apart.

@@ -2,12 +2,13 @@ use mathlib.Core.Path.{_≡_, sym, _∙_}
 use mathlib.Core.Bool.{true, _&&_}
 use native.Mathlib.Omega.{arith}
 use borrow.Author.Tests.{not-true, not-false, le-leb, lt-leb, eq-eqb, ne-eqb}
+use Rattle.laws.proofs.Below.{below-at}
 use Rattle.laws.specs.Basic.{allBelow}
 use Rattle.board.specs.Route.{wordOf}
 use Rattle.board.specs.Board.{Board, board}
 use Rattle.board.specs.Form.{stopOk, boardOk, setOk, markOk, mustOk}
 use Rattle.board.specs.Tests.{zeroFrom}
-use Rattle.board.proofs.TestLaws.{board-test, seen-none, seen-some, nodes-test}
+use Rattle.board.proofs.TestLaws.{board-test, seen-none, seen-some, stop-below, nodes-test}
 use borrow.Author.Needs.{needs}
 use Rattle.board.proofs.form.board_ok.Statement.{statement}
 use Rattle.board.proofs.form.board_ok.Tie as tie
@@ -86,6 +87,12 @@ none-from-requires c κs = search needs
 returns-6 : tie.Need-returns-6
 returns-6 c = rw (asked (c .before .before .before .before), seen (c .before .before) .0, sym (c .before .none-from .ensures) ∙ not-true _ (c .if6 .taken))
 
+stops-shut-requires : tie.Need-stops-shut-requires
+stops-shut-requires c κs =
+    let d = c .before .before in
+    let a = start (d .before .before) .args in
+    (omega arith, λ i h. omega (arith, stop-below (a .n) (a .stops) (a .route .now) i h (below-at (a .stops) i (stopOk (a .n) (a .stops) (a .route .now)) (seen d .0) h)))
+
 sets-ok-requires : tie.Need-sets-ok-requires
 sets-ok-requires c κs = search needs
 
@@ -97,13 +104,14 @@ marks-ok-requires-2 c κs = search needs
 
 returns-7 : tie.Need-returns-7
 returns-7 c =
-    let e = c .before .before .before in
+    let e = c .before .before .before .before in
     let d = e .before .before in
     let s = start (d .before .before) in
     rw (
       asked (d .before .before),
       seen d .0,
       sym (e .before .none-from .ensures) ∙ not-false _ (e .if6 .left),
+      c .before .before .before .stops-shut .ensures,
       c .before .before .sets-ok .ensures,
       c .before .marks-ok .ensures,
       c .marks-ok2 .ensures,
@@ -127,6 +135,7 @@ board-ok-spec =
     returns-5
     none-from-requires
     returns-6
+    stops-shut-requires
     sets-ok-requires
     marks-ok-requires
     marks-ok-requires-2

@@ -1,4 +1,5 @@
 use native.Mathlib.Omega.{arith}
+use mathlib.Core.Bool.{true}
 use mathlib.Core.Path.{_≡_}
 use Prim.Native.Nat.{_≤_, _-_}
 use lib.ListN.{getD}
@@ -41,7 +42,7 @@ loop-again c =
     let a = d .before .args .a .now in
     let i = d .loop .i in
     let v = d .loop .inv in
-    (omega arith, omega arith, over-goes i (zeroFrom from a) (d .loop .rest) (getD a i 0) (v .2) (zero-past from i a (v .0)))
+    (omega arith, omega arith, over-goes i (zeroFrom from a) true (d .loop .rest) (getD a i 0) (v .2) (zero-past from i a (v .0)))
 
 returns : tie.Need-returns Inv-loop μ-loop
 returns c = let v = c .before .loop .inv in flag-done _ _ _ (v .1) (c .loop-test .left) (v .2)
