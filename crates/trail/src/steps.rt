@@ -316,8 +316,8 @@ fn drop_level(levels: &mut [usize; State::LEVELS], f: Figures, u: Undone) -> Out
     }
 }
 
-// Step back: undo to the last level and drop it. The undoing is tried on copies, since a record that does not fit refuses all. Where the level has no
-// record, as in most vans of a fleet, nothing is copied.
+// Step back: undo to the last level and drop it. Copies of route and sets are kept to put back, since a record that does not fit refuses all. Where the
+// level has no record, as in most vans of a fleet, nothing is copied.
 pub fn back(
     route: &mut [usize; Node::MOST],
     sets: &mut [u64; Node::MOST],
@@ -339,13 +339,13 @@ pub fn back(
     if base == f.records {
         return drop_level(levels, f, untouched(f));
     }
-    let mut stops = *route;
-    let mut places = *sets;
-    let u = undo_many(&mut stops, &mut places, f, n, base, trail);
+    let stops = *route;
+    let places = *sets;
+    let u = undo_many(route, sets, f, n, base, trail);
     if !u.fits {
+        *route = stops;
+        *sets = places;
         return same(Refusal::MISFIT, f);
     }
-    *route = stops;
-    *sets = places;
     drop_level(levels, f, u)
 }
