@@ -6,14 +6,14 @@ use native.Mathlib.Nat.{pow-succ', mod-eq-of-lt, zero-add}
 use native.Mathlib.Numerals.{one-add}
 use native.Mathlib.Omega.{arith}
 use lib.Pow.{pow-lt}
-use lib.Bits.{bitAnd, bitOr, and-step, and-shr, and-high, and-lt, and-self, and-mask, and-le-r, or-zero-l, or-add-and, or-step, or-shr}
+use lib.Bits.{bitAnd, bitOr, and-step, and-shr, and-high, and-lt, and-self, and-le-r, or-zero-l, or-add-and, or-step, or-shr}
 use lib.Count.{trailingZeros}
 use lib.Dec.{eqb}
 use borrow.Author.Tests.{eqb-true, eqb-false, eq-eqb, ne-eqb}
 use Rattle.laws.proofs.Logic.{decided}
 use Rattle.bits.specs.Places.{digit, has, with, without, minus, join, within, lowest}
 use Rattle.bits.proofs.Digits.{digit-zero, digit-suc, digit-lt, digit-none, add-same, add-other}
-use Rattle.bits.proofs.Members.{digit-has, digit-not, has-digit, not-digit, has-same, has-none, has-ext, false-true, with-yes, with-no, without-yes, without-same, without-other, without-fits, within-has, within-make, within-misses}
+use Rattle.bits.proofs.Members.{digit-has, digit-not, has-digit, not-digit, has-same, has-ext, false-true, with-yes, with-no, without-yes, without-same, without-other, without-fits, within-has, within-make}
 
 -- 1 << p is 2 ^ p
 pub shl-one : (p : ℕ) → p < 64 → (1 * 2 ^ p) % 2 ^ 64 ≡ 2 ^ p
@@ -127,25 +127,6 @@ has-minus a b p f l =
 pub minus-fits : (a b : ℕ) → a < 2 ^ 64 → minus a b < 2 ^ 64
 unfolding minus
 minus-fits a b f = and-lt 64 a (2 ^ 64 - 1 - b) f (omega arith)
-
--- nothing taken away
-pub minus-zero : (a : ℕ) → a < 2 ^ 64 → minus a 0 ≡ a
-unfolding minus
-minus-zero a f = and-mask a 64 ∙ mod-eq-of-lt f
-
--- nothing is left exactly if all of a is within b
-pub minus-none : (a b : ℕ) → a < 2 ^ 64 → b < 2 ^ 64 → eqb (minus a b) 0 ≡ within a b
-minus-none a b f g =
-    decided (within a b)
-    (λ w. eq-eqb (minus a b) 0 (has-ext (minus a b) 0 (minus-fits a b f) (omega arith) (λ p l.
-    has-minus a b p g l ∙ gone (has a p) (has b p) (within-has a b w p l) ∙ sym (has-none p))) ∙ sym w)
-    (λ w. let r = within-misses a b w in
-    let h : has (minus a b) (r .0) ≡ true = has-minus a b (r .0) g (r .1) ∙ rw (r .2, r .3) refl in
-    ne-eqb (minus a b) 0 (λ e. false-true (sym (has-none (r .0)) ∙ rw e at h)) ∙ sym w)
-  where
-    gone : (x y : Bool) → (x ≡ true → y ≡ true) → x && not y ≡ false
-    gone true y h = rw (h refl) refl
-    gone false y h = refl
 
 one-same : (p : ℕ) → has (2 ^ p) p ≡ true
 one-same p = has-digit (2 ^ p) p (ap (λ (x : ℕ). digit x p) (sym (zero-add (2 ^ p))) ∙ add-same p 0 (digit-none p))

@@ -30,7 +30,7 @@ pub fn figures_in(row: &[u64; Figures::COUNT]) -> Figures
 }
 
 // The numbers of a state.
-pub fn figures_of(s: State) -> Figures
+fn figures_of(s: State) -> Figures
     ensures { λ r. ⌜ r ≡ figuresOf s ⌝ }
 {
     Figures {

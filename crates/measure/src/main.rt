@@ -369,13 +369,19 @@ fn repeat_on(
     let lent: &mut [u64] = &mut trail[..words];
     let fleet = start(operation, sheet, fresh, v, lent, n);
     let task = task_of(operation, fleet, v, n);
-    let sum = match operation {
-        1 => repeat_opening(count, sheet),
-        6 => repeat_verdict(count, sheet, fleet),
-        8 => repeat_places(count, sheet, fleet),
-        _ => repeat_step(count, sheet, fleet, lent, task),
-    };
-    tell(sum);
+    if operation == 1 {
+        tell(repeat_opening(count, sheet));
+        return;
+    }
+    if operation == 6 {
+        tell(repeat_verdict(count, sheet, fleet));
+        return;
+    }
+    if operation == 8 {
+        tell(repeat_places(count, sheet, fleet));
+        return;
+    }
+    tell(repeat_step(count, sheet, fleet, lent, task));
 }
 
 fn main() {

@@ -3,14 +3,14 @@ use lib.ListN.{length}
 use borrow.Author.Needs.{needs}
 use native.Mathlib.Omega.{arith}
 use Prim.Native.Nat.{_≤_, _-_}
-use Rattle.measure.proofs.repeat.Statement.{statement}
-use Rattle.measure.proofs.repeat.Tie as tie
+use Rattle.measure.proofs.repeat_step.Statement.{statement}
+use Rattle.measure.proofs.repeat_step.Tie as tie
 
 abbrev Inv-loop : tie.InvT-loop
-Inv-loop operation count sheet₀ fleet trail₀ task spot sum₀ i₀ sheet trail sum i = (i ≤ count) × (length sheet ≡ length sheet₀) × (length trail ≡ length trail₀)
+Inv-loop count sheet₀ fleet trail₀ task spot sum₀ i₀ sheet trail sum i = (i ≤ count) × (length sheet ≡ length sheet₀) × (length trail ≡ length trail₀)
 
 abbrev μ-loop : tie.MeasureT-loop
-μ-loop operation count sheet₀ fleet trail₀ task spot sum₀ i₀ sheet trail sum i = count - i
+μ-loop count sheet₀ fleet trail₀ task spot sum₀ i₀ sheet trail sum i = count - i
 
 diagonal-requires : tie.Need-diagonal-requires Inv-loop μ-loop
 diagonal-requires c κs = search needs
@@ -21,8 +21,8 @@ loop-holds c = (search needs, search needs, search needs)
 mark-requires : tie.Need-mark-requires Inv-loop μ-loop
 mark-requires c κs = search needs
 
-ask-requires : tie.Need-ask-requires Inv-loop μ-loop
-ask-requires c κs = search needs
+one-step-requires : tie.Need-one-step-requires Inv-loop μ-loop
+one-step-requires c κs = search needs
 
 wrapping-add-u64-requires : tie.Need-wrapping-add-u64-requires Inv-loop μ-loop
 wrapping-add-u64-requires c κs = search needs
@@ -45,8 +45,8 @@ same-length-2 c = search needs
 returns : tie.Need-returns Inv-loop μ-loop
 returns c = search needs
 
-pub repeat-spec : {M : Type 1} → statement M
-repeat-spec =
+pub repeat-step-spec : {M : Type 1} → statement M
+repeat-step-spec =
     tie.close
     (tie.spec
     Inv-loop
@@ -54,7 +54,7 @@ repeat-spec =
     diagonal-requires
     loop-holds
     mark-requires
-    ask-requires
+    one-step-requires
     wrapping-add-u64-requires
     add-i
     loop-less

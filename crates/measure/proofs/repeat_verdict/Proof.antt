@@ -1,0 +1,68 @@
+use mathlib.Core.Path.{_≡_}
+use lib.ListN.{length}
+use borrow.Author.Needs.{needs}
+use native.Mathlib.Omega.{arith}
+use Prim.Native.Nat.{_≤_, _-_}
+use Rattle.measure.proofs.repeat_verdict.Statement.{statement}
+use Rattle.measure.proofs.repeat_verdict.Tie as tie
+
+abbrev Inv-loop : tie.InvT-loop
+Inv-loop count sheet₀ fleet spot sum₀ i₀ sheet sum i = (i ≤ count) × (length sheet ≡ length sheet₀)
+
+abbrev μ-loop : tie.MeasureT-loop
+μ-loop count sheet₀ fleet spot sum₀ i₀ sheet sum i = count - i
+
+diagonal-requires : tie.Need-diagonal-requires Inv-loop μ-loop
+diagonal-requires c κs = search needs
+
+loop-holds : tie.Need-loop-holds Inv-loop μ-loop
+loop-holds c = (search needs, search needs)
+
+mark-requires : tie.Need-mark-requires Inv-loop μ-loop
+mark-requires c κs = search needs
+
+verdict-requires : tie.Need-verdict-requires Inv-loop μ-loop
+verdict-requires c κs = search needs
+
+one-if-requires : tie.Need-one-if-requires Inv-loop μ-loop
+one-if-requires c κs = search needs
+
+wrapping-add-u64-requires : tie.Need-wrapping-add-u64-requires Inv-loop μ-loop
+wrapping-add-u64-requires c κs = search needs
+
+wrapping-add-u64-requires-2 : tie.Need-wrapping-add-u64-requires-2 Inv-loop μ-loop
+wrapping-add-u64-requires-2 c κs = search needs
+
+add-i : tie.Need-add-i Inv-loop μ-loop
+add-i c = omega arith
+
+loop-less : tie.Need-loop-less Inv-loop μ-loop
+loop-less c = omega arith
+
+loop-again : tie.Need-loop-again Inv-loop μ-loop
+loop-again c = (omega arith, search needs)
+
+same-length : tie.Need-same-length Inv-loop μ-loop
+same-length c = search needs
+
+returns : tie.Need-returns Inv-loop μ-loop
+returns c = search needs
+
+pub repeat-verdict-spec : {M : Type 1} → statement M
+repeat-verdict-spec =
+    tie.close
+    (tie.spec
+    Inv-loop
+    μ-loop
+    diagonal-requires
+    loop-holds
+    mark-requires
+    verdict-requires
+    one-if-requires
+    wrapping-add-u64-requires
+    wrapping-add-u64-requires-2
+    add-i
+    loop-less
+    loop-again
+    same-length
+    returns)
