@@ -21,10 +21,14 @@ impl Square {
     // So many entries of a row stay in vector registers while the rows before it go by.
     const STRIP: usize = 32;
 
-    // A table of few rows has a room of its own, which is cleared sooner: most rows, and the room.
+    // A table of few rows, and one of some more, has a room of its own, which is cleared sooner: most rows, and the room.
     const FEW: usize = 16;
 
     const SMALL: usize = 256;
+
+    const SOME: usize = 32;
+
+    const MIDDLE: usize = 1024;
 
     // The room for any table.
     const LARGE: usize = 4096;
@@ -140,6 +144,10 @@ pub fn triangle_ok(s: &[u8], from: usize, n: usize) -> bool
 {
     if n <= Square::FEW {
         let mut room = [0u32; Square::SMALL];
+        return table_ok(s, from, n, &mut room);
+    }
+    if n <= Square::SOME {
+        let mut room = [0u32; Square::MIDDLE];
         return table_ok(s, from, n, &mut room);
     }
     let mut room = [0u32; Square::LARGE];
