@@ -23,7 +23,7 @@ use Rattle.board.proofs.EndLaws.{sets-end, places-end}
 use Rattle.van.specs.Act.{planIn}
 use Rattle.fleet.specs.Fleet.{stateIn, boardIn, HeldAll}
 use Rattle.fleet.specs.Form.{inFormAll}
-use Rattle.fleet.specs.Rows.{rowState, rowBoard, fleetWith, routesIn, setsIn, levelsIn, figuresAll, ReadyAll, RowsOf, Rows, Figured}
+use Rattle.fleet.specs.Rows.{rowState, fleetWith, routesIn, setsIn, levelsIn, figuresAll, ReadyAll, RowsOf, Rows, Figured}
 use Rattle.fleet.specs.Sums.{placesAll, allServed, plansIn}
 use Rattle.fleet.specs.declared.Fleet.{Fleet}
 use Rattle.fleet.proofs.FleetLaws.{state-of}

@@ -11,14 +11,13 @@ use Rattle.laws.specs.Basic.{allBelow, orElse, unless}
 use Rattle.laws.proofs.Logic.{decided}
 use Rattle.laws.proofs.Below.{below-same}
 use Rattle.rules.specs.Day.{Day}
-use Rattle.rules.specs.Numbers.{refusal, mostVans, stepSaid}
+use Rattle.rules.specs.Numbers.{refusal, mostVans}
 use Rattle.rules.specs.declared.Van.{Van}
 use Rattle.rules.specs.declared.Step.{Step}
 use Rattle.sheet.specs.Section.{nOf, vansOf}
 use Rattle.sheet.specs.Place.{Laid}
 use Rattle.sheet.specs.declared.Layout.{Layout}
 use Rattle.day.specs.Refuse.{callRefusal}
-use Rattle.day.specs.Tell.{dayOf, vanOf}
 use Rattle.board.specs.Fresh.{noState}
 use Rattle.records.specs.Trail.{roomOf}
 use Rattle.fleet.specs.Fleet.{stateIn, oneVan, shareOf, trailIn, HeldAll}

@@ -11,7 +11,7 @@ use Rattle.laws.proofs.Below.{below-none}
 use Rattle.board.specs.Board.{stateOf, stateWith}
 use Rattle.board.specs.declared.State.{State}
 use Rattle.fleet.specs.Form.{idle}
-use Rattle.fleet.proofs.TestLaws.{entryNone, figuresNone, idle-starts, idle-goes, idle-done}
+use Rattle.fleet.proofs.TestLaws.{entryNone, idle-starts, idle-goes, idle-done}
 use Rattle.fleet.proofs.form.is_idle.Statement.{statement}
 use Rattle.fleet.proofs.form.is_idle.Tie as tie
 

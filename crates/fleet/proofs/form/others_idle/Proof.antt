@@ -1,7 +1,6 @@
 use native.Mathlib.Omega.{arith}
-use mathlib.Core.Path.{_≡_, refl, ap, sym, _∙_}
+use mathlib.Core.Path.{ap, sym, _∙_}
 use Prim.Native.Nat.{_≤_, _-_}
-use Rattle.board.specs.declared.State.{State}
 use Rattle.fleet.specs.Form.{idle}
 use Rattle.fleet.specs.Rows.{rowState, fleetWith}
 use Rattle.fleet.proofs.FleetLaws.{state-of}

@@ -1,28 +1,24 @@
-use mathlib.Core.Path.{_≡_, refl, ap, _∙_}
-use mathlib.Core.List.{[]}
-use Prim.Native.Nat.{_≤_, _<_, _-_}
 use native.Mathlib.Omega.{arith}
-use lib.ListN.{getD}
-use Rattle.laws.proofs.Turned.{Turned, turned-none, turned-more}
+use mathlib.Core.Path.{ap}
+use Prim.Native.Nat.{_-_}
 use Rattle.board.specs.declared.State.{State}
-use Rattle.fleet.specs.Fleet.{stateIn}
 use Rattle.fleet.specs.Rows.{figuresOf, rowOf, Figured}
 use Rattle.fleet.proofs.FigureLaws.{figured-set}
-use Rattle.fleet.proofs.FleetLaws.{fleetMade, state-any}
-use Rattle.fleet.proofs.RowLaws.{turned-end}
+use Rattle.fleet.proofs.FleetLaws.{state-any}
+use Rattle.fleet.proofs.RowLaws.{Taking, taking-none, taking-more, turned-end}
 use Rattle.fleet.proofs.Told.{is-held-all}
 use borrow.Author.Needs.{needs}
 use Rattle.fleet.proofs.rows.take_figures.Statement.{statement}
 use Rattle.fleet.proofs.rows.take_figures.Tie as tie
 
 abbrev Inv-loop : tie.InvT-loop
-Inv-loop rows₀ vans j₀ rows j = (j ≤ 8) × Figured rows × Turned 8 (λ k. rowOf (figuresOf (stateIn (fleetMade vans) k))) (λ k. getD rows₀ k []) [] j rows
+Inv-loop rows₀ vans j₀ rows j = Figured rows × Taking (λ (s : State). rowOf (figuresOf s)) vans rows₀ j rows
 
 abbrev μ-loop : tie.MeasureT-loop
 μ-loop rows₀ vans j₀ rows j = 8 - j
 
 loop-holds : tie.Need-loop-holds Inv-loop μ-loop
-loop-holds c = (omega arith, c .before .pre, turned-none 8 _ _ [] _ (c .before .pre .eight) (λ k h. refl))
+loop-holds c = (c .before .pre, taking-none (λ (s : State). rowOf (figuresOf s)) (c .before .args .fleet .vans) _ (c .before .pre .eight))
 
 mul-s : tie.Need-mul-s Inv-loop μ-loop
 mul-s c = omega arith
@@ -40,7 +36,7 @@ figures-of-requires : tie.Need-figures-of-requires Inv-loop μ-loop
 figures-of-requires c κs = search needs
 
 put-figures-requires : tie.Need-put-figures-requires Inv-loop μ-loop
-put-figures-requires c κs = let d = c .before .before .before .before in d .loop .inv .1 .wide (d .loop .j) (omega arith)
+put-figures-requires c κs = let d = c .before .before .before .before in d .loop .inv .0 .wide (d .loop .j) (omega arith)
 
 add-j : tie.Need-add-j Inv-loop μ-loop
 add-j c = omega arith
@@ -52,12 +48,12 @@ loop-again : tie.Need-loop-again Inv-loop μ-loop
 loop-again c =
     let d = c .before .before .before .before .before in
     let a = d .before .before in
-    let h : d .loop .j < 8 = omega arith in
-    let own = ap (λ (s : State). rowOf (figuresOf s)) (state-any (a .args .fleet) (d .loop .j) _ (is-held-all (a .args .fleet) _ (a .good .0) .eight) h) in
-    rw (c .put-figures .ensures, c .before .figures-of .ensures) (omega arith, figured-set _ (d .loop .j) _ (d .loop .inv .1), turned-more _ (d .loop .inv .2) h own)
+    let own = ap (λ (s : State). rowOf (figuresOf s)) (state-any (a .args .fleet) (d .loop .j) _ (is-held-all (a .args .fleet) _ (a .good .0) .eight) (omega arith)) in
+    rw (c .put-figures .ensures, c .before .figures-of .ensures)
+    (figured-set _ (d .loop .j) _ (d .loop .inv .0), taking-more (λ (s : State). rowOf (figuresOf s)) (a .args .fleet .vans) (a .args .rows .now) (d .loop .j) (d .loop .inv .1) (omega arith) own)
 
 returns : tie.Need-returns Inv-loop μ-loop
-returns c = turned-end (c .before .loop .inv .2) (omega arith)
+returns c = turned-end (c .before .loop .inv .1 .1) (omega arith)
 
 pub take-figures-spec : {M : Type 1} → statement M
 take-figures-spec =

@@ -1,25 +1,21 @@
-use mathlib.Core.Path.{_≡_, refl, ap}
-use mathlib.Core.List.{[]}
-use Prim.Native.Nat.{_≤_, _<_, _-_}
 use native.Mathlib.Omega.{arith}
-use lib.ListN.{getD}
-use Rattle.laws.proofs.Turned.{Turned, turned-none, turned-more}
+use mathlib.Core.Path.{ap}
+use Prim.Native.Nat.{_-_}
 use Rattle.board.specs.declared.State.{State}
-use Rattle.fleet.specs.Fleet.{stateIn}
-use Rattle.fleet.proofs.FleetLaws.{fleetMade, state-any}
-use Rattle.fleet.proofs.RowLaws.{turned-end}
+use Rattle.fleet.proofs.FleetLaws.{state-any}
+use Rattle.fleet.proofs.RowLaws.{Taking, taking-none, taking-more, turned-end}
 use Rattle.fleet.proofs.Told.{is-held-all}
 use Rattle.fleet.proofs.rows.take_routes.Statement.{statement}
 use Rattle.fleet.proofs.rows.take_routes.Tie as tie
 
 abbrev Inv-loop : tie.InvT-loop
-Inv-loop rows₀ vans j₀ rows j = (j ≤ 8) × Turned 8 (λ k. stateIn (fleetMade vans) k .route) (λ k. getD rows₀ k []) [] j rows
+Inv-loop rows₀ vans j₀ rows j = Taking (λ (s : State). s .route) vans rows₀ j rows
 
 abbrev μ-loop : tie.MeasureT-loop
 μ-loop rows₀ vans j₀ rows j = 8 - j
 
 loop-holds : tie.Need-loop-holds Inv-loop μ-loop
-loop-holds c = (omega arith, turned-none 8 _ _ [] _ (c .before .pre) (λ k h. refl))
+loop-holds c = taking-none (λ (s : State). s .route) (c .before .args .fleet .vans) _ (c .before .pre)
 
 mul-s : tie.Need-mul-s Inv-loop μ-loop
 mul-s c = omega arith
@@ -43,8 +39,8 @@ loop-again : tie.Need-loop-again Inv-loop μ-loop
 loop-again c =
     let d = c .before .before .before in
     let a = d .before .before in
-    let h : d .loop .j < 8 = omega arith in
-    (omega arith, turned-more _ (d .loop .inv .1) h (ap (λ (s : State). s .route) (state-any (a .args .fleet) (d .loop .j) _ (is-held-all (a .args .fleet) _ (a .good .0) .eight) h)))
+    let own = ap (λ (s : State). s .route) (state-any (a .args .fleet) (d .loop .j) _ (is-held-all (a .args .fleet) _ (a .good .0) .eight) (omega arith)) in
+    taking-more (λ (s : State). s .route) (a .args .fleet .vans) (a .args .rows .now) (d .loop .j) (d .loop .inv) (omega arith) own
 
 returns : tie.Need-returns Inv-loop μ-loop
 returns c = turned-end (c .before .loop .inv .1) (omega arith)
