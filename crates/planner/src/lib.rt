@@ -121,7 +121,8 @@ fn back_or_stay(
     step: Step,
 ) -> Outcomes
     requires { ⌜ KnownRows (now sheet) at (now routes) (now sets) (now levels) (now figures) (now trail) ⌝ }
-    ensures { λ r. ⌜ DidWhole (now (sheet .entry)) (fleetWith (now (routes .entry)) (now (sets .entry)) (now (levels .entry)) (now (figures .entry))) (now (trail .entry)) step
+    ensures { λ r. ⌜ DidWhole (now (sheet .entry))
+        (fleetWith (now (routes .entry)) (now (sets .entry)) (now (levels .entry)) (now (figures .entry))) (now (trail .entry)) step
         r (now (routes .exit)) (now (sets .exit)) (now (levels .exit)) (now (figures .exit)) (now (trail .exit)) ⌝ }
 {
     let old_routes = *routes;
@@ -151,7 +152,8 @@ fn act_whole(
     step: Step,
 ) -> Outcomes
     requires { ⌜ KnownRows (now sheet) at (now routes) (now sets) (now levels) (now figures) (now trail) ⌝ }
-    ensures { λ r. ⌜ DidWhole (now (sheet .entry)) (fleetWith (now (routes .entry)) (now (sets .entry)) (now (levels .entry)) (now (figures .entry))) (now (trail .entry)) step
+    ensures { λ r. ⌜ DidWhole (now (sheet .entry))
+        (fleetWith (now (routes .entry)) (now (sets .entry)) (now (levels .entry)) (now (figures .entry))) (now (trail .entry)) step
         r (now (routes .exit)) (now (sets .exit)) (now (levels .exit)) (now (figures .exit)) (now (trail .exit)) ⌝ }
 {
     if (step.kind == Step::BACK) & (1 < at.vans) {
@@ -175,7 +177,8 @@ fn turn(
 ) -> Outcomes
     requires { ⌜ (read ≡ found callRefusal (now sheet)) × HeldAll (fleetWith (now routes) (now sets) (now levels) (now figures))
         × Rows (now routes) × Rows (now sets) × Rows (now levels) × Figured (now figures) ⌝ }
-    ensures { λ r. ⌜ (stepOf (now (sheet .entry)) (fleetWith (now (routes .entry)) (now (sets .entry)) (now (levels .entry)) (now (figures .entry))) (now (trail .entry)) word first second
+    ensures { λ r. ⌜ (stepOf (now (sheet .entry))
+        (fleetWith (now (routes .entry)) (now (sets .entry)) (now (levels .entry)) (now (figures .entry))) (now (trail .entry)) word first second
         ≡ ranAll r (now (routes .exit)) (now (sets .exit)) (now (levels .exit)) (now (figures .exit)) (now (trail .exit))) × Figured (now (figures .exit)) ⌝ }
 {
     let code = asked(read, routes, sets, levels, figures);
