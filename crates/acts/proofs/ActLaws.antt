@@ -69,6 +69,9 @@ module _ (vans : ℕ → Van) (d : Day) (v : ℕ) (f : Fleet) (t : List ℕ) (st
     unfolding actAll
     act-unknown e = rw (ne-eqb (step .kind) kinds.LEVEL l, ne-eqb (step .kind) kinds.BACK b, ne-eqb (step .kind) kinds.OBLIGE o, e) refl
 
+  pub act-settle : step .kind ≡ kinds.SETTLE → actAll vans d v f t step ≡ vanAct vans d v f t step
+  act-settle k = act-van (λ z. omega (arith, k, z)) (λ z. omega (arith, k, z)) (λ z. omega (arith, k, z)) (ap ofOneVan k)
+
 -- ---- done in place
 
 -- what the arrays hold is what the step gives

@@ -26,6 +26,7 @@ use Rattle.board.specs.declared.State.{State}
 use Rattle.records.specs.Trail.{roomOf}
 use Rattle.trail.specs.Steps.{Ran, undoLevel}
 use Rattle.van.specs.Known.{Known}
+use Rattle.van.proofs.Ready.{settle-rests}
 use Rattle.fleet.specs.Fleet.{stateIn, boardIn, shareOf, trailIn}
 use Rattle.fleet.specs.Form.{sharesNone, formWithAll}
 use Rattle.fleet.specs.Rows.{figuresIn, rowState, rowBoard, fleetWith}
@@ -36,14 +37,14 @@ use Rattle.fleet.proofs.FormLaws.{apart-shares}
 use Rattle.fleet.proofs.WardLaws.{sound-nodes}
 use Rattle.turns.specs.Together.{RanAll, actedAll, unlessBarred}
 use Rattle.turns.specs.Turn.{turnsOf, EightRows}
-use Rattle.acts.specs.Act.{backBar, actAll}
+use Rattle.acts.specs.Act.{backBar, vanAct, actAll}
 use Rattle.acts.specs.Known.{KnownRows, Did}
 use Rattle.turns.specs.declared.Outcomes.{Outcomes}
-use Rattle.turns.proofs.TogetherLaws.{Reads, barred, unbarred, trails-same}
+use Rattle.turns.proofs.TogetherLaws.{Reads, barred, unbarred, trails-same, alone-is}
 use Rattle.turns.proofs.PutLaws.{Spot, part-lent}
 use Rattle.turns.proofs.EachLaws.{turnIn}
 use Rattle.acts.proofs.KnownLaws.{form-depth, known-held, known-form}
-use Rattle.acts.proofs.ActLaws.{act-back, back-asks, back-fits, back-stays, back-trail, back-sound}
+use Rattle.acts.proofs.ActLaws.{van-alone, act-back, back-asks, back-fits, back-stays, back-trail, back-sound}
 use Rattle.acts.proofs.Moves.{turns-read, turn-back}
 
 -- ---- an outcome without a round
@@ -206,3 +207,32 @@ backed {sheet} {at} {routes} {sets} {levels} {figures} {t} step f′ t′ fits k
       one = λ o p. back-one (vanOf sheet) (dayOf sheet) (vansOf sheet) f t step kind most (k .form) low f′ t′ fits q o (fleet-eight (rowState routes sets levels figures)) p;
       no = back-no (vanOf sheet) (dayOf sheet) (vansOf sheet) f t step kind most (k .form) low f′ t′ fits q;
     }
+
+-- ---- a van with nothing to settle
+
+-- settling of a van with no open place leaves fleet and trail
+pub van-rests : {sheet : List ℕ} {at : Layout} {routes sets levels figures : List (List ℕ)} {t : List ℕ} → KnownRows sheet at routes sets levels figures t
+    → (step : Step) → step .kind ≡ kinds.SETTLE → step .van < vansOf sheet → allBelow (at .nodes) (λ y. eqb (getD (getD sets (step .van) []) y 0) 0) ≡ true
+    → vanAct (vanOf sheet) (dayOf sheet) (vansOf sheet) (fleetWith routes sets levels figures) t step ≡ actedAll 0 0 (fleetWith routes sets levels figures) t
+van-rests {sheet} {at} {routes} {sets} {levels} {figures} {t} p step k low none =
+    van-alone (vanOf sheet) (dayOf sheet) v f t step low (λ z. omega (arith, k, z))
+    ∙ alone-is v f t i _ low (p .laid .fine .vans-high) (fleet-eight (rowState routes sets levels figures))
+    (settle-rests (vanOf sheet i) (stateIn f i) (trailIn v t i) (step .kind) (step .first) (step .second) k known
+    (ap (λ (s : State). allBelow (at .nodes) (λ y. eqb (getD (s .sets) y 0) 0)) (state-of (rowState routes sets levels figures) i few) ∙ none))
+    (λ n. absurd (n refl)) refl refl
+    (record { states = λ j d h. refl; trails = λ j d h. refl; eight = fleet-eight (rowState routes sets levels figures); long = refl; over = refl })
+  where
+    v : ℕ
+    v = vansOf sheet
+
+    f : Fleet
+    f = fleetWith routes sets levels figures
+
+    i : ℕ
+    i = step .van
+
+    few : i < mostVans
+    few = omega (arith, low, p .laid .fine .vans-high)
+
+    known : Known sheet at (stateIn f i) (trailIn v t i)
+    known = record { clear = p .clear; laid = p .laid; form = known-form p i low; held = known-held p i low }

@@ -5,10 +5,13 @@ ghost use mathlib.Core.Path.{_≡_};
 ghost use Prim.Native.Nat.{_<_};
 ghost use Rattle.sheet.specs.Section.{vansOf};
 ghost use Rattle.rules.specs.Numbers.{kinds};
-ghost use Rattle.day.specs.Tell.{vanOf, dayOf};
+ghost use Rattle.day.specs.Tell.{vanOf, dayOf, jobIn};
+ghost use Rattle.along.specs.Nodes.{ByNode};
 ghost use Rattle.fleet.specs.Rows.{fleetWith};
 ghost use Rattle.acts.specs.Act.{actAll, vanAct};
 ghost use Rattle.acts.specs.Known.{KnownRows, Did};
+use along::nodes::Jobs;
+use along::nodes::by_node;
 use bars::place_bar;
 use board::Figures;
 use board::State;
@@ -19,6 +22,7 @@ use fleet::wards::share_none;
 use rules::Node;
 use rules::Refusal;
 use rules::Step;
+use settle::settling::none_open;
 use sheet::Layout;
 use turns::Outcomes;
 use turns::each::each;
@@ -71,7 +75,7 @@ fn place(
     answered(0)
 }
 
-// Steps 2 to 5: in one van.
+// Steps 2 to 4: in one van.
 fn alone(
     sheet: &[u8],
     at: Layout,
@@ -83,7 +87,49 @@ fn alone(
     step: Step,
 ) -> Outcomes
     requires { ⌜ KnownRows (now sheet) at (now routes) (now sets) (now levels) (now figures) (now trail)
-        × (step .kind ≡ kinds.PLACE → ⊥) × (step .van < vansOf (now sheet)) ⌝ }
+        × (step .kind ≡ kinds.PLACE → ⊥) × (step .kind ≡ kinds.SETTLE → ⊥) × (step .van < vansOf (now sheet)) ⌝ }
+    ensures { λ r. ⌜ Did (step .kind) (at .vans) (vanAct (vanOf (now (sheet .entry))) (dayOf (now (sheet .entry))) (vansOf (now (sheet .entry)))
+        (fleetWith (now (routes .entry)) (now (sets .entry)) (now (levels .entry)) (now (figures .entry))) (now (trail .entry)) step)
+        r (now (routes .exit)) (now (sets .exit)) (now (levels .exit)) (now (figures .exit)) (now (trail .exit)) ⌝ }
+{
+    let i = step.van;
+    let share = trail.len() / at.vans;
+    let from = i * share;
+    let end = from + share;
+    let f = figures_in(&figures[i]);
+    let o = van::change(
+        sheet,
+        at,
+        &mut routes[i],
+        &mut sets[i],
+        &mut levels[i],
+        f,
+        &mut trail[from..end],
+        step,
+    );
+    let g = o.after;
+    put_figures(&mut figures[i], g);
+    Outcomes {
+        answer: o.answer,
+        rounds: o.rounds,
+    }
+}
+
+// Settling of the named van; `jobs` has the jobs of the sheet by node.
+fn settle_van(
+    sheet: &[u8],
+    at: Layout,
+    jobs: &[u32; Jobs::ROOM],
+    routes: &mut [[usize; Node::MOST]; Fleet::VANS],
+    sets: &mut [[u64; Node::MOST]; Fleet::VANS],
+    levels: &mut [[usize; State::LEVELS]; Fleet::VANS],
+    figures: &mut [[u64; Figures::COUNT]; Fleet::VANS],
+    trail: &mut [u64],
+    step: Step,
+) -> Outcomes
+    requires { ⌜ KnownRows (now sheet) at (now routes) (now sets) (now levels) (now figures) (now trail)
+        × (step .kind ≡ kinds.SETTLE) × (step .van < vansOf (now sheet)) ⌝ }
+    requires { ⌜ ByNode (jobIn (now sheet)) (at .jobs) (now jobs) ⌝ }
     ensures { λ r. ⌜ Did (step .kind) (at .vans) (vanAct (vanOf (now (sheet .entry))) (dayOf (now (sheet .entry))) (vansOf (now (sheet .entry)))
         (fleetWith (now (routes .entry)) (now (sets .entry)) (now (levels .entry)) (now (figures .entry))) (now (trail .entry)) step)
         r (now (routes .exit)) (now (sets .exit)) (now (levels .exit)) (now (figures .exit)) (now (trail .exit)) ⌝ }
@@ -94,9 +140,10 @@ fn alone(
     let end = from + share;
     let van = day::look::van(sheet, at, i);
     let f = figures_in(&figures[i]);
-    let o = van::act(
+    let o = van::settle(
         sheet,
         at,
+        jobs,
         van,
         &mut routes[i],
         &mut sets[i],
@@ -111,6 +158,32 @@ fn alone(
         answer: o.answer,
         rounds: o.rounds,
     }
+}
+
+// Step 5: where the van has an open place, the jobs are put by node, and it settles.
+fn settle_alone(
+    sheet: &[u8],
+    at: Layout,
+    routes: &mut [[usize; Node::MOST]; Fleet::VANS],
+    sets: &mut [[u64; Node::MOST]; Fleet::VANS],
+    levels: &mut [[usize; State::LEVELS]; Fleet::VANS],
+    figures: &mut [[u64; Figures::COUNT]; Fleet::VANS],
+    trail: &mut [u64],
+    step: Step,
+) -> Outcomes
+    requires { ⌜ KnownRows (now sheet) at (now routes) (now sets) (now levels) (now figures) (now trail)
+        × (step .kind ≡ kinds.SETTLE) × (step .van < vansOf (now sheet)) ⌝ }
+    ensures { λ r. ⌜ Did (step .kind) (at .vans) (vanAct (vanOf (now (sheet .entry))) (dayOf (now (sheet .entry))) (vansOf (now (sheet .entry)))
+        (fleetWith (now (routes .entry)) (now (sets .entry)) (now (levels .entry)) (now (figures .entry))) (now (trail .entry)) step)
+        r (now (routes .exit)) (now (sets .exit)) (now (levels .exit)) (now (figures .exit)) (now (trail .exit)) ⌝ }
+{
+    let i = step.van;
+    if none_open(&sets[i], at.nodes) {
+        return answered(0);
+    }
+    let mut jobs = [0u32; Jobs::ROOM];
+    by_node(sheet, at, &mut jobs);
+    settle_van(sheet, at, &jobs, routes, sets, levels, figures, trail, step)
 }
 
 // Steps 1 to 5.
@@ -135,7 +208,39 @@ fn in_van(
     if step.kind == Step::PLACE {
         return place(sheet, at, routes, sets, levels, figures, trail, step);
     }
+    if step.kind == Step::SETTLE {
+        return settle_alone(sheet, at, routes, sets, levels, figures, trail, step);
+    }
     alone(sheet, at, routes, sets, levels, figures, trail, step)
+}
+
+// Step 5 for a caller that has the jobs of the sheet by node, and settles often.
+pub fn settle(
+    sheet: &[u8],
+    at: Layout,
+    jobs: &[u32; Jobs::ROOM],
+    routes: &mut [[usize; Node::MOST]; Fleet::VANS],
+    sets: &mut [[u64; Node::MOST]; Fleet::VANS],
+    levels: &mut [[usize; State::LEVELS]; Fleet::VANS],
+    figures: &mut [[u64; Figures::COUNT]; Fleet::VANS],
+    trail: &mut [u64],
+    step: Step,
+) -> Outcomes
+    requires { ⌜ KnownRows (now sheet) at (now routes) (now sets) (now levels) (now figures) (now trail) × (step .kind ≡ kinds.SETTLE) ⌝ }
+    requires { ⌜ ByNode (jobIn (now sheet)) (at .jobs) (now jobs) ⌝ }
+    ensures { λ r. ⌜ Did (step .kind) (at .vans) (actAll (vanOf (now (sheet .entry))) (dayOf (now (sheet .entry))) (vansOf (now (sheet .entry)))
+        (fleetWith (now (routes .entry)) (now (sets .entry)) (now (levels .entry)) (now (figures .entry))) (now (trail .entry)) step)
+        r (now (routes .exit)) (now (sets .exit)) (now (levels .exit)) (now (figures .exit)) (now (trail .exit)) ⌝ }
+{
+    let v = at.vans;
+    let i = step.van;
+    if v <= i {
+        return answered(Refusal::VAN);
+    }
+    if none_open(&sets[i], at.nodes) {
+        return answered(0);
+    }
+    settle_van(sheet, at, jobs, routes, sets, levels, figures, trail, step)
 }
 
 // Step 6: open a level in every van.

@@ -15,8 +15,9 @@ use Rattle.rules.proofs.Inner.{inner-low}
 use Rattle.rules.proofs.Fixpoint.{Seen}
 use Rattle.rules.proofs.Forms.{formed-seen}
 use Rattle.sheet.specs.declared.Layout.{Layout}
-use Rattle.day.specs.Tell.{dayOf}
+use Rattle.day.specs.Tell.{dayOf, jobIn}
 use Rattle.along.specs.Route.{Route}
+use Rattle.along.specs.Nodes.{ByNode, Routed}
 use Rattle.along.proofs.RouteLaws.{node-at}
 use Rattle.along.proofs.SpotLaws.{node-low}
 use Rattle.along.specs.Sets.{placesIn}
@@ -89,3 +90,8 @@ ready-unmarked {s} {at} {l} {n} {ws} {marks} r = record {
     marked = λ y t. absurd (subst (λ (b : Bool). T b) (has-none y) t);
   };
 }
+
+-- what a walk by the jobs by node asks, of a caller that is ready
+pub routed : {s : List ℕ} {at : Layout} {l : List ℕ} {n : ℕ} {ws : List ℕ} {marks : ℕ} {t : List ℕ} → Ready s at l n ws marks
+    → ByNode (jobIn s) (at .jobs) t → Routed s at l n t
+routed r b = record { clear = r .clear; laid = r .laid; route = route-of r; jobs = b }

@@ -6,6 +6,8 @@ pub mod SpotLaws
 pub mod RouteLaws
 pub mod LoadLaws
 pub mod NodeLaws
+pub mod Mating
 pub mod SetLaws
 pub mod ReadyLaws
+pub mod Walking
 pub mod Facts

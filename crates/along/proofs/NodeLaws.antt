@@ -2,7 +2,7 @@
 use mathlib.Core.Path.{_≡_, refl, sym, ap, _∙_, subst}
 use mathlib.Core.Bool.{Bool, true, false, cond}
 use mathlib.Core.List.{List}
-use Prim.Native.Nat.{ℕ, _+_, _^_, _<_, _≤_}
+use Prim.Native.Nat.{ℕ, max, _+_, _^_, _<_, _≤_}
 use native.Mathlib.Numerals.{add-one}
 use native.Mathlib.Omega.{arith}
 use lib.Dec.{eqb}
@@ -10,7 +10,10 @@ use lib.ListN.{getD, set, replicate, length, length-set}
 use lib.Seq.{getD-set-same, getD-set-other}
 use borrow.Author.Tests.{eqb-true, eqb-false}
 use Rattle.laws.proofs.Logic.{decided}
+use Rattle.laws.specs.Basic.{peak}
 use Rattle.laws.proofs.Sum.{sum-none, sum-next}
+use Rattle.laws.proofs.Peak.{peak-next}
+use Rattle.rules.specs.Load.{loadOf}
 use Rattle.bits.specs.Places.{has, with, without, lowest}
 use Rattle.bits.proofs.Members.{has-none, has-low, false-true, with-same, with-other, without-fits, without-part, without-other}
 use Rattle.bits.proofs.Masks.{lowest-has}
@@ -42,30 +45,32 @@ grows t i v j w h l =
 far : (t : List ℕ) (i j v : ℕ) → (j ≡ i → ⊥) → getD (set t i v) j 0 ≡ getD t j 0 + 0
 far t i j v n = getD-set-other t i j v 0 n ∙ omega arith
 
-module _ (t : List ℕ) (long : length t ≡ 320) (a w : ℕ) (h : a < 64) (low : w < 4294967296) where
+module _ (t : List ℕ) (long : length t ≡ 321) (a w : ℕ) (h : a < 64) (low : w ≤ 1000) where
   pub entered-clean : Entered (Clean a w) t (set t a (getD t a 0 + w))
   entered-clean = record {
     long = length-set t a (getD t a 0 + w) ∙ long;
-    low = λ i. grows t a (getD t a 0 + w) i 17179869184 (omega arith) (omega arith);
+    low = λ i. grows t a (getD t a 0 + w) i 4000 (omega arith) (omega arith);
     clean = λ x l. plus t a x w (eqb x a) (omega arith) (eqb-true x a) (eqb-false x a);
     soiled = λ x l. far t a (64 + x) _ (λ e. omega (arith, e));
     first = λ x l. far t a (128 + x) _ (λ e. omega (arith, e));
     second = λ x l. far t a (192 + x) _ (λ e. omega (arith, e));
     partner = λ x l. getD-set-other t a (256 + x) _ 0 (λ e. omega (arith, e));
+    most = getD-set-other t a 320 _ 0 (λ e. omega (arith, e));
   }
 
   pub entered-soiled : Entered (Soiled a w) t (set t (64 + a) (getD t (64 + a) 0 + w))
   entered-soiled = record {
     long = length-set t (64 + a) (getD t (64 + a) 0 + w) ∙ long;
-    low = λ i. grows t (64 + a) (getD t (64 + a) 0 + w) i 17179869184 (omega arith) (omega arith);
+    low = λ i. grows t (64 + a) (getD t (64 + a) 0 + w) i 4000 (omega arith) (omega arith);
     clean = λ x l. far t (64 + a) x _ (λ e. omega (arith, e));
     soiled = λ x l. plus-at t 64 a w x (omega arith);
     first = λ x l. far t (64 + a) (128 + x) _ (λ e. omega (arith, e));
     second = λ x l. far t (64 + a) (192 + x) _ (λ e. omega (arith, e));
     partner = λ x l. getD-set-other t (64 + a) (256 + x) _ 0 (λ e. omega (arith, e));
+    most = getD-set-other t (64 + a) 320 _ 0 (λ e. omega (arith, e));
   }
 
-module _ (t : List ℕ) (long : length t ≡ 320) (a b w : ℕ) (h : a < 64) (k : b < 64) (low : w < 4294967296) where
+module _ (t : List ℕ) (long : length t ≡ 321) (a b w : ℕ) (h : a < 64) (k : b < 64) (low : w ≤ 1000) where
   abbrev t1 : List ℕ
   t1 = set t (128 + a) (getD t (128 + a) 0 + w)
 
@@ -76,18 +81,18 @@ module _ (t : List ℕ) (long : length t ≡ 320) (a b w : ℕ) (h : a < 64) (k 
   t3 = set t2 (256 + a) b
 
   -- the second load that is read
-  pub second-low : ((i : ℕ) → getD t i 0 < 4398046511104) → getD t1 (192 + b) 0 < 4402341478400
-  second-low f = omega (arith, f (192 + b), grows t (128 + a) (getD t (128 + a) 0 + w) (192 + b) 4294967296 (omega arith) (omega arith))
+  pub second-low : ((i : ℕ) → getD t i 0 ≤ 1048576) → getD t1 (192 + b) 0 ≤ 1049576
+  second-low f = omega (arith, f (192 + b), grows t (128 + a) (getD t (128 + a) 0 + w) (192 + b) 1000 (omega arith) (omega arith))
 
   pub entered-transfer : Entered (Transfer a b w) t (set t3 (256 + b) a)
   entered-transfer = record {
     long = length-set t3 (256 + b) a ∙ l3;
     low = λ i. omega (
       arith,
-      grows t (128 + a) (getD t (128 + a) 0 + w) i 4294967296 (omega arith) (omega arith),
-      grows t1 (192 + b) (getD t1 (192 + b) 0 + w) i 4294967296 (omega (arith, l1)) (omega arith),
-      grows t2 (256 + a) b i 4294967296 (omega (arith, l2)) (omega arith),
-      grows t3 (256 + b) a i 4294967296 (omega (arith, l3)) (omega arith),
+      grows t (128 + a) (getD t (128 + a) 0 + w) i 1000 (omega arith) (omega arith),
+      grows t1 (192 + b) (getD t1 (192 + b) 0 + w) i 1000 (omega (arith, l1)) (omega arith),
+      grows t2 (256 + a) b i 1000 (omega (arith, l2)) (omega arith),
+      grows t3 (256 + b) a i 1000 (omega (arith, l3)) (omega arith),
     );
     clean = λ x l. low-part x (omega arith) ∙ getD-set-other t1 (192 + b) x _ 0 (λ e. omega (arith, e)) ∙ far t (128 + a) x _ (λ e. omega (arith, e));
     soiled = λ x l. low-part (64 + x) (omega arith) ∙ getD-set-other t1 (192 + b) (64 + x) _ 0 (λ e. omega (arith, e)) ∙ far t (128 + a) (64 + x) _ (λ e. omega (arith, e));
@@ -96,15 +101,17 @@ module _ (t : List ℕ) (long : length t ≡ 320) (a b w : ℕ) (h : a < 64) (k 
         ∙ ap (λ (n : ℕ). n + cond (eqb x b) w 0) (getD-set-other t (128 + a) (192 + x) _ 0 (λ e. omega (arith, e)));
     partner = λ x l. decided (eqb x b) (λ e. rw (e, eqb-true x b e) (getD-set-same t3 (256 + b) a 0 (omega (arith, l3))))
         (λ e. rw e (getD-set-other t3 (256 + b) (256 + x) a 0 (λ z. eqb-false x b e (omega (arith, z))) ∙ rest x));
+    most = getD-set-other t3 (256 + b) 320 a 0 (λ e. omega (arith, e)) ∙ getD-set-other t2 (256 + a) 320 b 0 (λ e. omega (arith, e))
+        ∙ getD-set-other t1 (192 + b) 320 _ 0 (λ e. omega (arith, e)) ∙ getD-set-other t (128 + a) 320 _ 0 (λ e. omega (arith, e));
   }
     where
-      l1 : length t1 ≡ 320
+      l1 : length t1 ≡ 321
       l1 = length-set t (128 + a) _ ∙ long
 
-      l2 : length t2 ≡ 320
+      l2 : length t2 ≡ 321
       l2 = length-set t1 (192 + b) _ ∙ l1
 
-      l3 : length t3 ≡ 320
+      l3 : length t3 ≡ 321
       l3 = length-set t2 (256 + a) b ∙ l2
 
       low-part : (i : ℕ) → i < 256 → getD (set t3 (256 + b) a) i 0 ≡ getD t2 i 0
@@ -117,17 +124,18 @@ module _ (t : List ℕ) (long : length t ≡ 320) (a b w : ℕ) (h : a < 64) (k 
 
 -- ---- all of them
 
-pub nodes-none : (g : ℕ → Job) → ByNode g 0 (replicate 320 0)
-unfolding mateIn
+pub nodes-none : (g : ℕ → Job) → ByNode g 0 (replicate 321 0)
+unfolding mateIn peak
 nodes-none g = record {
   long = refl;
-  low = λ i. omega (arith, same-entries 0 320 i);
-  near = λ x h. omega (arith, same-entries 0 320 (256 + x));
-  clean = λ x h. same-entries 0 320 x ∙ sym (sum-none _);
-  soiled = λ x h. same-entries 0 320 (64 + x) ∙ sym (sum-none _);
-  first = λ x h. same-entries 0 320 (128 + x) ∙ sym (sum-none _);
-  second = λ x h. same-entries 0 320 (192 + x) ∙ sym (sum-none _);
-  partner = λ x h. same-entries 0 320 (256 + x);
+  low = λ i. omega (arith, same-entries 0 321 i);
+  near = λ x h. omega (arith, same-entries 0 321 (256 + x));
+  clean = λ x h. same-entries 0 321 x ∙ sym (sum-none _);
+  soiled = λ x h. same-entries 0 321 (64 + x) ∙ sym (sum-none _);
+  first = λ x h. same-entries 0 321 (128 + x) ∙ sym (sum-none _);
+  second = λ x h. same-entries 0 321 (192 + x) ∙ sym (sum-none _);
+  partner = λ x h. same-entries 0 321 (256 + x);
+  heaviest = same-entries 0 321 320;
 }
 
 mate-low : (x y : ℕ) (q : Job) → Placed q → y < 64 → mateOr x y q < 64
@@ -140,18 +148,28 @@ mate-low x y (Transfer a b w) p h = go (eqb x b) (eqb x a)
     go false true = p .1
     go false false = h
 
-pub nodes-next : {g : ℕ → Job} {j : ℕ} {t r : List ℕ} {q : Job} → q ≡ g j → Placed q → Entered q t r → ByNode g j t → ByNode g (j + 1) r
+-- with the most that one loads written, too
+pub nodes-next : {g : ℕ → Job} {j : ℕ} {t r : List ℕ} {q : Job} {top : ℕ} → q ≡ g j → Placed q → loadOf q ≤ 1000 → top ≡ max (getD r 320 0) (loadOf q)
+    → Entered q t r → ByNode g j t → ByNode g (j + 1) (set r 320 top)
 unfolding mateIn
-nodes-next {g} {j} {t} {r} {q} is placed e p = record {
-  long = e .long;
-  low = λ i. omega (arith, e .low i, p .low i);
-  near = λ x h. subst (λ (n : ℕ). n < 64) (sym (e .partner x h)) (mate-low x (getD t (256 + x) 0) q placed (p .near x h));
-  clean = λ x h. e .clean x h ∙ sum-next j (λ k. cleanLoad x (g k)) (p .clean x h) (ap (cleanLoad x) is);
-  soiled = λ x h. e .soiled x h ∙ sum-next j (λ k. soiledLoad x (g k)) (p .soiled x h) (ap (soiledLoad x) is);
-  first = λ x h. e .first x h ∙ sum-next j (λ k. firstLoad x (g k)) (p .first x h) (ap (firstLoad x) is);
-  second = λ x h. e .second x h ∙ sum-next j (λ k. secondLoad x (g k)) (p .second x h) (ap (secondLoad x) is);
-  partner = λ x h. e .partner x h ∙ (λ u. mateOr x (p .partner x h u) (is u)) ∙ ap (λ (k : ℕ). mateIn g k x) (sym (add-one j));
+nodes-next {g} {j} {t} {r} {q} {top} is placed light h e p = record {
+  long = length-set r 320 top ∙ e .long;
+  low = λ i. decided (eqb i 320) (λ z. rw (eqb-true i 320 z) (omega (arith, getD-set-same r 320 top 0 inside, h, e .most, p .low 320, light)))
+      (λ z. omega (arith, getD-set-other r 320 i top 0 (eqb-false i 320 z), e .low i, p .low i));
+  near = λ x l. subst (λ (n : ℕ). n < 64) (sym (kept (256 + x) (omega arith) ∙ e .partner x l)) (mate-low x (getD t (256 + x) 0) q placed (p .near x l));
+  clean = λ x l. kept x (omega arith) ∙ e .clean x l ∙ sum-next j (λ k. cleanLoad x (g k)) (p .clean x l) (ap (cleanLoad x) is);
+  soiled = λ x l. kept (64 + x) (omega arith) ∙ e .soiled x l ∙ sum-next j (λ k. soiledLoad x (g k)) (p .soiled x l) (ap (soiledLoad x) is);
+  first = λ x l. kept (128 + x) (omega arith) ∙ e .first x l ∙ sum-next j (λ k. firstLoad x (g k)) (p .first x l) (ap (firstLoad x) is);
+  second = λ x l. kept (192 + x) (omega arith) ∙ e .second x l ∙ sum-next j (λ k. secondLoad x (g k)) (p .second x l) (ap (secondLoad x) is);
+  partner = λ x l. kept (256 + x) (omega arith) ∙ e .partner x l ∙ (λ u. mateOr x (p .partner x l u) (is u)) ∙ ap (λ (k : ℕ). mateIn g k x) (sym (add-one j));
+  heaviest = getD-set-same r 320 top 0 inside ∙ h ∙ (λ u. max ((e .most ∙ p .heaviest) u) (loadOf (is u))) ∙ sym (peak-next (λ k. loadOf (g k)) j);
 }
+  where
+    inside : 320 < length r
+    inside = omega (arith, e .long)
+
+    kept : (i : ℕ) → i < 320 → getD (set r 320 top) i 0 ≡ getD r i 0
+    kept i l = getD-set-other r 320 i top 0 (λ z. omega (arith, z))
 
 -- ---- the partners of a set
 

@@ -1,19 +1,27 @@
 -- Every number of a route in an array, and of its day, is small.
 use mathlib.Core.Path.{_≡_, subst}
-use mathlib.Core.Bool.{Bool, true, false, cond}
+use mathlib.Core.Bool.{Bool, true, false, cond, not, _&&_}
 use mathlib.Core.List.{List}
-use Prim.Native.Nat.{ℕ, _+_, _-_, _*_, _<_}
+use Prim.Native.Nat.{ℕ, _+_, _-_, _*_, _<_, _≤_}
 use native.Mathlib.Omega.{arith}
-use lib.Dec.{eqb}
+use lib.Dec.{leb, eqb}
 use lib.ListN.{getD, length-take}
 use lib.Seq.{getD-take}
+use borrow.Author.Tests.{leb-true}
+use Rattle.laws.proofs.Logic.{and-true}
+use Rattle.rules.specs.Day.{isInner}
+use Rattle.rules.specs.declared.Job.{Job}
 use Rattle.rules.specs.declared.Job.the-variants.{Clean, Soiled, Transfer}
 use Rattle.words.specs.Word.{size, wordAt}
 use Rattle.sheet.proofs.PlaceLaws.{word-low}
-use Rattle.sheet.specs.Section.{jobsAt}
-use Rattle.day.specs.Tell.{dayOf, jobOf, jobAt, jobIn}
+use Rattle.sheet.specs.Section.{nOf, jobsAt}
+use Rattle.sheet.specs.Place.{Laid}
+use Rattle.sheet.specs.declared.Layout.{Layout}
+use Rattle.day.specs.Tell.{dayOf, jobOf, jobAt, jobIn, loadOk, jobFine}
+use Rattle.day.proofs.Fit.{fine-job}
 use Rattle.tables.specs.Cell.{cell}
 use Rattle.rules.specs.Load.{loadOf}
+use Rattle.along.proofs.ReadyLaws.{jobs-are}
 use Rattle.along.proofs.SpotLaws.{node-low}
 use Rattle.along.proofs.TimeLaws.{Low}
 use Rattle.along.proofs.Signed.{mag-below}
@@ -47,3 +55,12 @@ of-low k a b w h = go (eqb k 1) (eqb k 2)
 pub job-low : (s : List ℕ) (i : ℕ) → loadOf (jobIn s i) < 4294967296
 unfolding jobAt
 job-low s i = let p = jobsAt s + 1 + size.job * i in of-low (wordAt s p) (wordAt s (p + 1)) (wordAt s (p + 2)) (wordAt s (p + 3)) (word-low s (p + 3))
+
+fine-light : (n : ℕ) (j : Job) → jobFine n j ≡ true → loadOf j ≤ 1000
+fine-light n (Clean a w) e = leb-true w 1000 (and-true (leb 1 w) (leb w 1000) (and-true (isInner n a) (loadOk w) e .1) .1)
+fine-light n (Soiled a w) e = leb-true w 1000 (and-true (leb 1 w) (leb w 1000) (and-true (isInner n a) (loadOk w) e .1) .1)
+fine-light n (Transfer a b w) e = leb-true w 1000 (and-true (leb 1 w) (leb w 1000) (and-true (isInner n a && isInner n b && not (eqb a b)) (loadOk w) e .1) .1)
+
+-- a job of an accepted sheet loads at most 1,000
+pub job-light : {s : List ℕ} {at : Layout} → Laid s at → (i : ℕ) → i < at .jobs → loadOf (jobIn s i) ≤ 1000
+job-light {s} p i h = fine-light (nOf s) (jobIn s i) (fine-job s (p .fine) i (omega (arith, jobs-are p)))

@@ -1,4 +1,4 @@
--- How the stops of nodes are found, and how they tell which jobs are aboard on a leg.
+-- How the stops of nodes are found, and how they tell who is behind a stop and who ahead.
 use mathlib.Core.Path.{_≡_, refl, sym, ap, _∙_, subst}
 use mathlib.Core.Bool.{Bool, true, false, cond, _&&_}
 use mathlib.Core.List.{List, [], _∷_}
@@ -9,16 +9,13 @@ use native.Mathlib.Omega.{arith}
 use lib.Dec.{T, leb, ltb, eqb, eqb→eq, leb→le, le→leb, ltb→lt, lt→ltb}
 use lib.ListN.{getD, set, replicate, take, drop, length, length-take, length-set}
 use lib.Seq.{ext-getD, getD-set-same, getD-set-other, getD-take}
-use borrow.Author.Tests.{eqb-true, eqb-false, eq-eqb, ltb-true, ltb-false}
+use borrow.Author.Tests.{eqb-true, eqb-false, eq-eqb, le-ltb, ltb-true, ltb-false}
 use Rattle.laws.proofs.Logic.{decided, T-ext, and-i, and-l, and-r, or-l, or-r, or-e, true→T}
 use Rattle.laws.proofs.Table.{same-entries}
 use Rattle.laws.specs.Basic.{mem}
 use Rattle.rules.specs.Rounds.{Distinct, none, more}
 use Rattle.rules.specs.Along.{behind}
-use Rattle.rules.specs.Load.{aboard}
 use Rattle.rules.proofs.AlongLaws.{mem-at, stops-apart}
-use Rattle.rules.specs.declared.Job.{Job}
-use Rattle.rules.specs.declared.Job.the-variants.{Clean, Soiled, Transfer}
 use Rattle.along.specs.Spots.{spot, Spots}
 
 -- an entry of the array, and what stands for a number past it
@@ -132,17 +129,14 @@ behind-on l n h x =
     size : length (take n l) ≡ n
     size = simp length-take (omega arith)
 
--- ---- which jobs are aboard
+-- ---- who is behind a stop, and who ahead
 
 -- the i-th leg leads on to the stop k of a route
 abbrev leadsTo : ℕ → ℕ → Bool
 leadsTo i k = ltb i k && ltb k 64
 
--- what a job has aboard on the i-th leg, where the nodes' stops are in the array a
-abbrev pub rides : List ℕ → Job → ℕ → ℕ
-rides a (Clean x w) i = cond (leadsTo i (getD a x 64)) w 0
-rides a (Soiled x w) i = cond (leb (getD a x 64) i) w 0
-rides a (Transfer x y w) i = cond (leb (getD a x 64) i && leadsTo i (getD a y 64)) w 0
+ltb-leb : (a b : ℕ) → ltb a (suc b) ≡ leb a b
+ltb-leb a b = T-ext (ltb a (suc b)) (leb a b) (λ t. le→leb a b (omega (arith, ltb→lt a (suc b) t))) (λ t. lt→ltb a (suc b) (omega (arith, leb→le a b t)))
 
 module _ (l : List ℕ) (n : ℕ) (most : n ≤ 64) (fits : n ≤ length l) {k : ℕ} (nodes : Distinct k (take n l)) where
   abbrev m : List ℕ
@@ -180,11 +174,10 @@ module _ (l : List ℕ) (n : ℕ) (most : n ≤ 64) (fits : n ≤ length l) {k :
       (λ t. let f = drop-found x m (suc i) t in let e = spot-found x (f .i) (omega (arith, f .high, size)) (f .is) in
       and-i (ltb i k) (ltb k 64) (lt→ltb i k (omega (arith, e, f .low))) (lt→ltb k 64 (omega (arith, e, f .high, size))))
 
-  -- what is aboard of a job, by the spots
-  pub aboard-is : (a : List ℕ) → Spots l n a → (j : Job) (i : ℕ) → i < n - 1 → aboard (behind m (suc i)) (drop (suc i) m) j ≡ rides a j i
-  aboard-is a p (Clean x w) i h = rw (p .at x, spot-ahead x i)
-  aboard-is a p (Soiled x w) i h = rw (p .at x, spot-behind x i (omega arith))
-  aboard-is a p (Transfer x y w) i h = rw (p .at x, p .at y, spot-behind x i (omega arith), spot-ahead y i)
+  -- behind a stop are those whose own stop is before it
+  pub spot-before : (x i : ℕ) → i ≤ n → ltb (spot l n x) i ≡ mem x (behind m i)
+  spot-before x zero h = le-ltb (spot l n x) 0 (omega arith)
+  spot-before x (suc i) h = ltb-leb (spot l n x) i ∙ spot-behind x i h
 
 -- one array for a route: what the contract of `spots::spots` allows
 pub spots-once : {l : List ℕ} {n : ℕ} {a b : List ℕ} → Spots l n a → Spots l n b → a ≡ b

@@ -1,5 +1,5 @@
 -- Sets: the words of a state, as the rules see them. Ready: what settling and the verdict ask of their caller.
--- For contracts: Times (a step along the route), Spots (where each node stands), Route (a route in an array), Loads (what comes aboard and goes off),
+-- For contracts: Times (a step along the route), Spots (where each node stands), Route (a route in an array), Loads (H at its largest),
 -- Nodes (the jobs by node).
 pub mod Sets
 pub mod Ready

@@ -1,17 +1,17 @@
 // H: the load aboard on each leg, by what comes aboard and what goes off at each stop.
 ghost use mathlib.Core.Path.{_≡_};
-ghost use Prim.Native.Nat.{ℕ, _-_, _<_};
-ghost use lib.ListN.{take, getD, length, replicate};
-ghost use Rattle.laws.specs.Basic.{peak, Filled};
-ghost use Rattle.rules.specs.Load.{loadOf};
+ghost use mathlib.Core.Bool.{cond};
+ghost use mathlib.Core.List.{[]};
+ghost use Prim.Native.Nat.{ℕ, _+_, _-_, _<_, _≤_};
+ghost use lib.ListN.{take, getD, length};
+ghost use Rattle.laws.specs.Basic.{Filled};
+ghost use Rattle.rules.specs.Load.{load};
 ghost use Rattle.rules.specs.Along.{loadAt};
-ghost use Rattle.sheet.specs.Place.{Laid};
 ghost use Rattle.day.specs.Tell.{jobIn, dayOf};
-ghost use Rattle.day.specs.Seen.{Placed};
-ghost use Rattle.along.specs.Route.{Route};
 ghost use Rattle.along.specs.Spots.{Spots};
-ghost use Rattle.along.specs.Loads.{stowFirst, stowOn, stowOff, running, Flows, Peaked};
-use rules::Job;
+ghost use Rattle.along.specs.Nodes.{Routed};
+ghost use Rattle.along.specs.Loads.{Peaked};
+use crate::nodes::Jobs;
 use rules::Node;
 use sheet::Layout;
 
@@ -21,96 +21,82 @@ pub struct Peaks {
     pub heaviest: usize,
 }
 
-// One job's load: `on` and `off` have what comes aboard and goes off at each stop; the answer is what is aboard from the start. Nothing where
-// a node of the job is off the route, or a transfer in wrong order.
-pub fn stow(
-    job: Job,
-    at: &[usize; Node::MOST],
-    on: &mut [usize; Node::MOST],
-    off: &mut [usize; Node::MOST],
-) -> usize
-    requires { ⌜ Placed job × (length (now at) ≡ 64) × (length (now on) ≡ 64) × (length (now off) ≡ 64) × (loadOf job < 4294967296) ⌝ }
-    requires { ⌜ ((i : ℕ) → getD (now on) i 0 < 1099511627776) × ((i : ℕ) → getD (now off) i 0 < 1099511627776) ⌝ }
-    ensures { λ r. ⌜ (r ≡ stowFirst job (now (at .entry))) × (now (on .exit) ≡ stowOn job (now (at .entry)) (now (on .entry)))
-        × (now (off .exit) ≡ stowOff job (now (at .entry)) (now (off .entry))) ⌝ }
+// What comes aboard at x: its soiled load, and that of the transfer that begins there, if it ends at a later stop.
+pub fn comes(t: &[u32; Jobs::ROOM], x: usize, ends: bool) -> usize
+    requires { ⌜ (length (now t) ≡ 321) × (x < 64) × ((i : ℕ) → getD (now t) i 0 < 4398046511104) ⌝ }
+    ensures { λ r. ⌜ r ≡ getD (now (t .entry)) (64 + x) 0 + cond ends (getD (now (t .entry)) (128 + x) 0) 0 ⌝ }
 {
-    match job {
-        Job::Clean { node, load } => {
-            let k = at[node];
-            if Node::MOST <= k {
-                return 0;
-            }
-            off[k] += load;
-            load
-        },
-        Job::Soiled { node, load } => {
-            let k = at[node];
-            if k < Node::MOST {
-                on[k] += load;
-            }
-            0
-        },
-        Job::Transfer { from, to, load } => {
-            let a = at[from];
-            let b = at[to];
-            if (a < b) & (b < Node::MOST) {
-                on[a] += load;
-                off[b] += load;
-            }
-            0
-        },
+    let soiled = t[Jobs::SOILED + x] as usize;
+    if ends {
+        soiled + t[Jobs::FIRST + x] as usize
+    } else {
+        soiled
     }
 }
 
-// What is aboard on each leg: `first`, and what has come and gone up to its stop. It takes the place of what comes; the answer is the most of it.
-pub fn run(
-    on: &mut [usize; Node::MOST],
-    off: &[usize; Node::MOST],
-    first: usize,
+// What goes off at x: its clean load, and that of the transfer that ends there, if it has begun.
+pub fn goes(t: &[u32; Jobs::ROOM], x: usize, begun: bool) -> usize
+    requires { ⌜ (length (now t) ≡ 321) × (x < 64) × ((i : ℕ) → getD (now t) i 0 < 4398046511104) ⌝ }
+    ensures { λ r. ⌜ r ≡ getD (now (t .entry)) x 0 + cond begun (getD (now (t .entry)) (192 + x) 0) 0 ⌝ }
+{
+    let clean = t[x] as usize;
+    if begun {
+        clean + t[Jobs::SECOND + x] as usize
+    } else {
+        clean
+    }
+}
+
+// What is aboard before the first stop: the clean load of every stop.
+pub fn at_start(
+    s: &[u8],
+    at: Layout,
+    t: &[u32; Jobs::ROOM],
+    route: &[usize; Node::MOST],
     stops: usize,
 ) -> usize
-    requires { ⌜ Flows first (now on) (now off) stops ⌝ }
-    ensures { λ r. ⌜ Filled 64 (running first (now (on .entry)) (now (off .entry))) 0 (stops - 1) (now (on .exit))
-        × (r ≡ peak (running first (now (on .entry)) (now (off .entry))) (stops - 1)) ⌝ }
+    requires { ⌜ Routed (now s) at (now route) stops (now t) ⌝ }
+    ensures { λ r. ⌜ (r ≡ load (dayOf (now (s .entry))) [] (take stops (now (route .entry)))) × (r ≤ 281474976710656) ⌝ }
 {
-    let mut aboard = first;
-    let mut most = 0;
+    let mut sum = 0;
     let mut i = 0;
-    while i + 1 < stops {
-        aboard = aboard + on[i] - off[i];
-        on[i] = aboard;
-        most = if most < aboard { aboard } else { most };
+    while i < stops {
+        let x = route[i];
+        sum += t[x] as usize;
         i += 1;
     }
-    most
+    sum
 }
 
-// H: the load aboard on each leg of the route, where `spots` has each node's stop, into an array of zeros; and the peaks.
+// H: the load aboard on each leg of the route, where `t` has the jobs by node and `spots` each node's stop, into an array; and the peaks.
 pub fn loads(
     s: &[u8],
     at: Layout,
+    t: &[u32; Jobs::ROOM],
     route: &[usize; Node::MOST],
     stops: usize,
     spots: &[usize; Node::MOST],
     h: &mut [usize; Node::MOST],
 ) -> Peaks
-    requires { ⌜ Laid (now s) at × Route (at .nodes) (now route) stops × Spots (now route) stops (now spots) × (now h ≡ replicate 64 0) ⌝ }
+    requires { ⌜ Routed (now s) at (now route) stops (now t) × Spots (now route) stops (now spots) × (length (now h) ≡ 64) ⌝ }
     ensures { λ r. ⌜ Filled 64 (loadAt (dayOf (now (s .entry))) (take stops (now (route .entry)))) 0 (stops - 1) (now (h .exit))
         × Peaked (dayOf (now (s .entry))) (take stops (now (route .entry))) (stops - 1) (jobIn (now (s .entry))) (at .jobs) r ⌝ }
 {
-    let mut off = [0usize; Node::MOST];
-    let mut first = 0;
-    let mut heaviest = 0;
-    let m = at.jobs;
-    let mut j = 0;
-    while j < m {
-        let job = day::jobs::job(s, at, j);
-        first += stow(job, spots, h, &mut off);
-        let load = job.load();
-        heaviest = if heaviest < load { load } else { heaviest };
-        j += 1;
+    let mut aboard = at_start(s, at, t, route, stops);
+    let mut highest = 0;
+    let mut i = 0;
+    while i + 1 < stops {
+        let x = route[i];
+        let other = t[Jobs::PARTNER + x] as usize;
+        let k = spots[other];
+        let up = comes(t, x, (i < k) & (k < Node::MOST));
+        let down = goes(t, x, k < i);
+        aboard = aboard + up - down;
+        h[i] = aboard;
+        highest = if highest < aboard { aboard } else { highest };
+        i += 1;
     }
-    let highest = run(h, &off, first, stops);
+    let heaviest = t[Jobs::HEAVIEST] as usize;
     Peaks {
         highest: highest,
         heaviest: heaviest,

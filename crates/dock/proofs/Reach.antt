@@ -18,6 +18,7 @@ use Rattle.laws.proofs.AnyLaws.{any-below-i, any-below-same}
 use Rattle.bits.specs.Places.{has}
 use Rattle.bits.proofs.Members.{false-true}
 use Rattle.rules.specs.Numbers.{refusal, mostVans, stepSaid}
+use Rattle.rules.specs.declared.Step.{Step}
 use Rattle.rules.specs.Verdict.{alive}
 use Rattle.sheet.specs.Section.{nOf, vansOf}
 use Rattle.sheet.specs.Place.{Laid}
@@ -29,7 +30,7 @@ use Rattle.board.specs.Board.{Board, boardOf, placesOf, setOf}
 use Rattle.board.specs.Held.{Held, Words}
 use Rattle.board.specs.declared.State.{State}
 use Rattle.trail.proofs.Bound.{records-bound}
-use Rattle.trail.proofs.Still.{move-still}
+use Rattle.trail.proofs.Still.{move-still, move-route}
 use Rattle.stands.specs.Stands.{planOf}
 use Rattle.listing.specs.Text.{stepLine}
 use Rattle.fleet.specs.Fleet.{stateIn, boardIn, trailIn, HeldAll}
@@ -39,9 +40,10 @@ use Rattle.fleet.specs.Sums.{placesAll, recordsAll, allServed}
 use Rattle.fleet.specs.declared.Fleet.{Fleet}
 use Rattle.fleet.proofs.FleetLaws.{state-of}
 use Rattle.fleet.proofs.PlanLaws.{alive-all}
-use Rattle.turns.specs.Together.{RanAll, actedAll}
+use Rattle.turns.specs.Together.{RanAll, actedAll, ranAll}
+use Rattle.turns.specs.declared.Outcomes.{Outcomes}
 use Rattle.acts.specs.Act.{actAll}
-use Rattle.acts.specs.Known.{KnownRows}
+use Rattle.acts.specs.Known.{KnownRows, Did}
 use Rattle.turns.specs.Turn.{EightRows}
 use Rattle.planner.specs.Face.{freshOf, askRefusal, stepOf, countOf, judgeOf}
 use Rattle.planner.specs.Promises.{Took, none, then}
@@ -51,7 +53,8 @@ use Rattle.planner.proofs.Never.{never-misfit}
 use Rattle.fleet.proofs.FormLaws.{form-with-all}
 use Rattle.planner.proofs.RowFacts.{rows-ready}
 use Rattle.telling.specs.declared.Sums.{Sums}
-use Rattle.telling.specs.Told.{toldIn, ToldAll, anew, sumsOf}
+use Rattle.telling.specs.Told.{toldIn, ToldAll, anew, sumsOf, keptIn, KeptAll, KeptSome}
+use Rattle.telling.proofs.VanLaws.{told-flag}
 use Rattle.dock.specs.Listing.{Reached, lineOf}
 
 -- where a listing begins
@@ -61,11 +64,6 @@ begun {sheet} t e = subst (λ (f : Fleet). Reached sheet f t) (sym e) (record { 
 -- what a line tells of a van hangs on its board and its records
 abbrev told-by : (sheet : List ℕ) (j : ℕ) → Board → ℕ → List ℕ
 told-by sheet j b records = placesOf (b .sets) 64 ∷ records ∷ cond (alive (vanOf sheet j) (dayOf sheet) (planOf b)) 1 0 ∷ []
-
--- the last number of a row is 1 exactly where the van is alive
-told-alive : (b : Bool) → not (eqb (cond b 1 0) 0) ≡ b
-told-alive true = refl
-told-alive false = refl
 
 -- the open places of a board of words
 places-few : (b : Board) → Words b → placesOf (b .sets) 64 ≤ 4096
@@ -127,12 +125,22 @@ module _ {sheet : List ℕ} {f : Fleet} {t : List ℕ} (z : callRefusal sheet �
     same-board j l h =
         decided (eqb k 0)
         (λ y. ⊎-elim
-        (λ m. move-still (stateIn f j) (stateIn f′ j) (trailIn (vansOf sheet) t j) (trailIn (vansOf sheet) t′ j) h (nOf sheet) (held .each j (omega (arith, l, call-fine sheet z .vans-high)) .wide .sets) m)
+        (λ m. move-still (stateIn f j) (stateIn f′ j) (trailIn (vansOf sheet) t j) (trailIn (vansOf sheet) t′ j) (nOf sheet) (held .each j (omega (arith, l, call-fine sheet z .vans-high)) .wide .sets) m h)
         (λ s. ap boardOf (s .0))
         (van-goes sheet f t word a b held (took (eqb-true k 0 y)) j l))
         (λ y. ap (λ (o : RanAll). boardIn (o .0 .fleet) j) (stayed (eqb-false k 0 y)))
 
-    -- so the line tells of it what it told before
+    -- where its stops are as many as before, its route is that of before
+    same-route : (j : ℕ) → j < vansOf sheet → stateIn f′ j .stops ≡ stateIn f j .stops → stateIn f′ j .route ≡ stateIn f j .route
+    same-route j l h =
+        decided (eqb k 0)
+        (λ y. ⊎-elim
+        (λ m. move-route (stateIn f j) (stateIn f′ j) (trailIn (vansOf sheet) t j) (trailIn (vansOf sheet) t′ j) (nOf sheet) m h)
+        (λ s. ap (λ (q : State). q .route) (s .0))
+        (van-goes sheet f t word a b held (took (eqb-true k 0 y)) j l))
+        (λ y. ap (λ (o : RanAll). stateIn (o .0 .fleet) j .route) (stayed (eqb-false k 0 y)))
+
+    -- and the line tells of a van with the records of before what it told before
     pub told-again : (j : ℕ) → j < vansOf sheet → stateIn f′ j .records ≡ stateIn f j .records → toldIn sheet f j ≡ toldIn sheet f′ j
     told-again j l h = ap₂ (told-by sheet j) (sym (same-board j l h)) (sym h)
 
@@ -158,7 +166,7 @@ module _ {sheet : List ℕ} {f : Fleet} {t : List ℕ} (z : callRefusal sheet �
     unfolding judgeOf askRefusal orElse
     alive-all-is =
         rw (z, formed)
-        (ap (λ (b : Bool). b && allServed (vansOf sheet) f) (below-same (vansOf sheet) _ _ (λ j l. ap (λ (k : ℕ). not (eqb k 0)) (entry 2 j l) ∙ told-alive _))
+        (ap (λ (b : Bool). b && allServed (vansOf sheet) f) (below-same (vansOf sheet) _ _ (λ j l. ap (λ (k : ℕ). not (eqb k 0)) (entry 2 j l) ∙ told-flag _))
         ∙ sym (alive-all (dayOf sheet) (vansOf sheet) f (call-fine sheet z .vans-low) (sound-van sheet f t held z roomy) (words-van sheet f t held z roomy) (vanOf sheet)))
 
     -- what is told of a van stays small
@@ -185,14 +193,6 @@ unfolding allServed
 served-same v f g some same =
     below-same 64 _ _ (λ y l. λ u. not (has (same 0 some u .must) y) || any-below-same v (λ j. hasWard (boardIn f j) y) (λ j. hasWard (boardIn g j) y) (λ j h. ap (λ (b : Board). hasWard b y) (same j h)) u)
 
--- the same rows have the same sums
-same-sums : (v : ℕ) (told told′ : List (List ℕ)) (f g : Fleet) → ((j : ℕ) → j < v → getD told j [] ≡ getD told′ j []) → allServed v f ≡ allServed v g → sumsOf v told f ≡ sumsOf v told′ g
-same-sums v told told′ f g same served = λ u. record {
-  places = sum-same v _ _ (λ j h. ap (λ (o : List ℕ). getD o 0 0) (same j h)) u;
-  records = sum-same v _ _ (λ j h. ap (λ (o : List ℕ). getD o 1 0) (same j h)) u;
-  alive = below-same v _ _ (λ j h. ap (λ (o : List ℕ). not (eqb (getD o 2 0) 0)) (same j h)) u && served u;
-}
-
 -- ---- a fleet in rows
 
 module _ {sheet : List ℕ} {at : Layout} {t : List ℕ} (z : callRefusal sheet ≡ 0) (l : Laid sheet at) (routes sets levels figures : List (List ℕ)) (figured : Figured figures)
@@ -213,39 +213,65 @@ module _ {sheet : List ℕ} {at : Layout} {t : List ℕ} (z : callRefusal sheet 
       → (at .vans ≤ mostVans) × ((j : ℕ) → j < at .vans → (getD (getD told j []) 0 0 ≤ 4096) × (getD (getD told j []) 1 0 ≤ 4096))
   summing w = (omega (arith, l .vans, l .fine .vans-high), λ j h. told-few z p w j (omega (arith, h, l .vans)))
 
-  -- the records of a van, in rows and as they were told
-  records-on : {told : List (List ℕ)} (routes′ sets′ levels′ figures′ : List (List ℕ)) → ToldAll sheet (fleetWith routes sets levels figures) told → (j : ℕ) → j < vansOf sheet
-      → figuresIn (getD figures′ j []) .records ≡ getD (getD told j []) 1 0
-      → stateIn (fleetWith routes′ sets′ levels′ figures′) j .records ≡ stateIn (fleetWith routes sets levels figures) j .records
-  records-on routes′ sets′ levels′ figures′ w j h same =
-      ap (λ (s : State). s .records) (state-of (rowState routes′ sets′ levels′ figures′) j (omega (arith, h, l .fine .vans-high))) ∙ same ∙ ap (λ (o : List ℕ). getD o 1 0) (w .each j h)
+  -- ---- a step more
 
-  -- a step more: a van whose records are those of before is told as before
-  pub told-on : {told : List (List ℕ)} (word a b : ℕ) {k r : ℕ} {t′ : List ℕ} (routes′ sets′ levels′ figures′ : List (List ℕ))
-      → stepOf sheet (fleetWith routes sets levels figures) t word a b ≡ actedAll k r (fleetWith routes′ sets′ levels′ figures′) t′
-      → ToldAll sheet (fleetWith routes sets levels figures) told
-      → (j : ℕ) → j < vansOf sheet → figuresIn (getD figures′ j []) .records ≡ getD (getD told j []) 1 0
-      → getD told j [] ≡ toldIn sheet (fleetWith routes′ sets′ levels′ figures′) j
-  told-on word a b routes′ sets′ levels′ figures′ e w j h same = w .each j h ∙ told-again z p word a b e j h (records-on routes′ sets′ levels′ figures′ w j h same)
+  module _ {told : List (List ℕ)} (word a b : ℕ) {k r : ℕ} {t′ : List ℕ} (routes′ sets′ levels′ figures′ : List (List ℕ))
+      (e : stepOf sheet (fleetWith routes sets levels figures) t word a b ≡ actedAll k r (fleetWith routes′ sets′ levels′ figures′) t′) (w : ToldAll sheet (fleetWith routes sets levels figures) told) where
+    -- the state of a van in rows, before the step and behind it
+    row-before : (j : ℕ) → j < vansOf sheet → stateIn (fleetWith routes sets levels figures) j ≡ rowState routes sets levels figures j
+    row-before j h = state-of (rowState routes sets levels figures) j (omega (arith, h, l .fine .vans-high))
 
-  -- and where all are, so are the sums
-  pub sums-on : {told told′ : List (List ℕ)} (word a b : ℕ) {k r : ℕ} {t′ : List ℕ} (routes′ sets′ levels′ figures′ : List (List ℕ))
-      → stepOf sheet (fleetWith routes sets levels figures) t word a b ≡ actedAll k r (fleetWith routes′ sets′ levels′ figures′) t′
-      → ToldAll sheet (fleetWith routes sets levels figures) told → ToldAll sheet (fleetWith routes′ sets′ levels′ figures′) told′
-      → {one : Bool} {before now : Sums} → one ≡ anyBelow (vansOf sheet) (anew false figures′ told) → now ≡ cond one (sumsOf (at .vans) told′ (fleetWith routes′ sets′ levels′ figures′)) before
-      → before ≡ sumsOf (at .vans) told (fleetWith routes sets levels figures) → now ≡ sumsOf (at .vans) told′ (fleetWith routes′ sets′ levels′ figures′)
-  sums-on {told} {told′} word a b routes′ sets′ levels′ figures′ e w w′ {one} c n s =
-      decided one (λ y. n ∙ rw y refl) (λ y. n ∙ rw y (s ∙ rw (l .vans) (same-sums (vansOf sheet) told told′ _ _ (λ j h. row j h (none y j h)) (served-same (vansOf sheet) _ _ (l .fine .vans-low) (λ j h. board j h (none y j h))))))
-    where
-      none : one ≡ false → (j : ℕ) → j < vansOf sheet → figuresIn (getD figures′ j []) .records ≡ getD (getD told j []) 1 0
-      none y j h = none-anew (vansOf sheet) figures′ told (sym c ∙ y) j h
+    row-behind : (j : ℕ) → j < vansOf sheet → stateIn (fleetWith routes′ sets′ levels′ figures′) j ≡ rowState routes′ sets′ levels′ figures′ j
+    row-behind j h = state-of (rowState routes′ sets′ levels′ figures′) j (omega (arith, h, l .fine .vans-high))
 
-      row : (j : ℕ) → j < vansOf sheet → figuresIn (getD figures′ j []) .records ≡ getD (getD told j []) 1 0 → getD told j [] ≡ getD told′ j []
-      row j h same = told-on word a b routes′ sets′ levels′ figures′ e w j h same ∙ sym (w′ .each j h)
+    -- a van has the records that were told
+    abbrev As-told : ℕ → Type 0
+    As-told j = figuresIn (getD figures′ j []) .records ≡ getD (getD told j []) 1 0
 
-      board : (j : ℕ) → j < vansOf sheet → figuresIn (getD figures′ j []) .records ≡ getD (getD told j []) 1 0
-          → boardIn (fleetWith routes sets levels figures) j ≡ boardIn (fleetWith routes′ sets′ levels′ figures′) j
-      board j h same = sym (same-board z p word a b e j h (records-on routes′ sets′ levels′ figures′ w j h same))
+    -- then they are those of before
+    records-on : (j : ℕ) → j < vansOf sheet → As-told j → stateIn (fleetWith routes′ sets′ levels′ figures′) j .records ≡ stateIn (fleetWith routes sets levels figures) j .records
+    records-on j h same = ap (λ (s : State). s .records) (row-behind j h) ∙ same ∙ ap (λ (o : List ℕ). getD o 1 0) (w .each j h)
+
+    -- it is told as before, and its board is that of before
+    pub told-on : (j : ℕ) → j < vansOf sheet → As-told j → getD told j [] ≡ toldIn sheet (fleetWith routes′ sets′ levels′ figures′) j
+    told-on j h same = w .each j h ∙ told-again z p word a b e j h (records-on j h same)
+
+    board-on : (j : ℕ) → j < vansOf sheet → As-told j → boardIn (fleetWith routes sets levels figures) j ≡ boardIn (fleetWith routes′ sets′ levels′ figures′) j
+    board-on j h same = sym (same-board z p word a b e j h (records-on j h same))
+
+    -- and a course that was kept is that of a van with as many stops, or with the records that were told
+    pub kept-on : {jobs : List ℕ} {ways : List (List ℕ)} → KeptAll sheet jobs routes figures ways → KeptSome sheet jobs routes′ figures′ told ways
+    kept-on {jobs} {ways} q = record { stopped = λ j h same. as-many j h (sym same ∙ q .each j h .count); recorded = λ j h same. as-many j h (stops j h same) }
+      where
+        as-many : (j : ℕ) → j < vansOf sheet → figuresIn (getD figures′ j []) .stops ≡ figuresIn (getD figures j []) .stops → keptIn sheet jobs routes′ figures′ ways j
+        as-many j h same =
+            let s = ap (λ (s : State). s .stops) (row-behind j h) ∙ same ∙ ap (λ (s : State). s .stops) (sym (row-before j h)) in
+            let way = ap (λ (s : State). s .route) (sym (row-behind j h)) ∙ same-route z p word a b e j h s ∙ ap (λ (s : State). s .route) (row-before j h) in
+            rw (way, same) (q .each j h)
+
+        stops : (j : ℕ) → j < vansOf sheet → As-told j → figuresIn (getD figures′ j []) .stops ≡ figuresIn (getD figures j []) .stops
+        stops j h same = ap (λ (s : State). s .stops) (sym (row-behind j h)) ∙ ap (λ (b : Board). b .stops) (sym (board-on j h same)) ∙ ap (λ (s : State). s .stops) (row-before j h)
+
+    -- where no van is to be told anew, all are told as before, and so are the sums; and their courses are those that were kept
+    pub still : {sums : Sums} {jobs : List ℕ} {ways : List (List ℕ)} → anyBelow (at .vans) (anew false figures′ told) ≡ false
+        → sums ≡ sumsOf (at .vans) told (fleetWith routes sets levels figures) → KeptAll sheet jobs routes figures ways
+        → ToldAll sheet (fleetWith routes′ sets′ levels′ figures′) told × (sums ≡ sumsOf (at .vans) told (fleetWith routes′ sets′ levels′ figures′))
+        × KeptAll sheet jobs routes′ figures′ ways
+    still y s q = (
+      record { eight = w .eight; each = λ j h. told-on j h (as-told j h) },
+      s ∙ ap with-served (rw (l .vans) (served-same (vansOf sheet) _ _ (l .fine .vans-low) (λ j h. board-on j h (as-told j h)))),
+      record { rows = q .rows; each = λ j h. kept-on q .recorded j h (as-told j h) },
+    )
+      where
+        as-told : (j : ℕ) → j < vansOf sheet → As-told j
+        as-told j h = none-anew (at .vans) figures′ told y j (omega (arith, h, l .vans))
+
+        with-served : Bool → Sums
+        with-served b = record {
+          places = sumBelow (at .vans) (λ j. getD (getD told j []) 0 0);
+          records = sumBelow (at .vans) (λ j. getD (getD told j []) 1 0);
+          alive = allBelow (at .vans) (λ j. not (eqb (getD (getD told j []) 2 0) 0)) && b;
+        }
 
 -- eight rows that have a held fleet are rows of 64
 pub rows-held : (routes sets levels figures : List (List ℕ)) → HeldAll (fleetWith routes sets levels figures) → EightRows routes sets levels figures
@@ -259,3 +285,14 @@ rows-held routes sets levels figures h e = (
   where
     at : (j : ℕ) → j < mostVans → Held (rowState routes sets levels figures j)
     at j l = subst Held (state-of (rowState routes sets levels figures) j l) (h .each j l)
+
+-- a step of the listing, done in place: no undoing is refused, so the arrays hold what it gives
+pub step-did : {sheet : List ℕ} {f : Fleet} {t : List ℕ} (z : callRefusal sheet ≡ 0) (p : Reached sheet f t) (word a b : ℕ) {said : Step} → said ≡ stepSaid word a b
+    → {v : ℕ} {o : Outcomes} {routes sets levels figures : List (List ℕ)} {t′ : List ℕ}
+    → Did (said .kind) v (actAll (vanOf sheet) (dayOf sheet) (vansOf sheet) f t said) o routes sets levels figures t′
+    → (stepOf sheet f t word a b ≡ ranAll o routes sets levels figures t′) × (Rows routes × Rows sets × Rows levels × Figured figures)
+step-did {sheet} {f} {t} z p word a b is {o = o} {routes} {sets} {levels} {figures} {t′} did =
+    let same = begins z p word a b ∙ ap (actAll (vanOf sheet) (dayOf sheet) (vansOf sheet) f t) (sym is) in
+    let e : stepOf sheet f t word a b ≡ ranAll o routes sets levels figures t′ =
+    same ∙ did .whole (λ q l y. fits z p word a b (ap (λ (r : RanAll). r .0 .answer) same ∙ sym (did .answer) ∙ y)) in
+    (e, rows-held routes sets levels figures (held z (goes-on z p word a b e)) (did .eight))

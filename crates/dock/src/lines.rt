@@ -29,18 +29,23 @@ use listing::put_refused;
 use listing::put_route;
 use listing::put_step;
 use rules::Node;
+use rules::Step;
 use sheet::Layout;
 use telling::Sums;
 use telling::Told;
+use telling::Way;
 use telling::one_if;
+use telling::stale;
 use telling::sums_now;
 use telling::tell_vans;
 use turns::Outcomes;
 
 // The sheet's i-th step, from 0, on a fleet that was reached from the fresh one: neither sheet nor fleet is asked again, and no undoing is refused.
+// Settling uses the jobs by node that the listing has.
 pub fn step_at(
     sheet: &[u8],
     at: Layout,
+    jobs: &[u32; Jobs::ROOM],
     i: usize,
     routes: &mut [[usize; Node::MOST]; Fleet::VANS],
     sets: &mut [[u64; Node::MOST]; Fleet::VANS],
@@ -48,7 +53,7 @@ pub fn step_at(
     figures: &mut [[u64; Figures::COUNT]; Fleet::VANS],
     trail: &mut [u64],
 ) -> Outcomes
-    requires { ⌜ (callRefusal (now sheet) ≡ 0) × Laid (now sheet) at × (i < at .steps) ⌝ }
+    requires { ⌜ (callRefusal (now sheet) ≡ 0) × Laid (now sheet) at × (i < at .steps) × ByNode (jobIn (now sheet)) (at .jobs) (now jobs) ⌝ }
     requires { ⌜ Rows (now routes) × Rows (now sets) × Rows (now levels) × Figured (now figures) ⌝ }
     requires { ⌜ Reached (now sheet) (fleetWith (now routes) (now sets) (now levels) (now figures)) (now trail) ⌝ }
     ensures { λ r. ⌜ stepOf (now (sheet .entry))
@@ -58,6 +63,9 @@ pub fn step_at(
     ensures { λ r. ⌜ Rows (now (routes .exit)) × Rows (now (sets .exit)) × Rows (now (levels .exit)) × Figured (now (figures .exit)) ⌝ }
 {
     let step = day::look::step(sheet, at, i);
+    if step.kind == Step::SETTLE {
+        return acts::settle(sheet, at, jobs, routes, sets, levels, figures, trail, step);
+    }
     acts::act(sheet, at, routes, sets, levels, figures, trail, step)
 }
 
@@ -87,11 +95,11 @@ fn put_line(
     put_step(out, used, head, tail)
 }
 
-// The lines of all steps, from the fresh fleet on.
+// The lines of all steps, from the fresh fleet on. After a step in which no van's records changed nothing is told anew.
 fn put_lines(
     sheet: &[u8],
     at: Layout,
-    jobs: &[usize; Jobs::ROOM],
+    jobs: &[u32; Jobs::ROOM],
     routes: &mut [[usize; Node::MOST]; Fleet::VANS],
     sets: &mut [[u64; Node::MOST]; Fleet::VANS],
     levels: &mut [[usize; State::LEVELS]; Fleet::VANS],
@@ -109,19 +117,37 @@ fn put_lines(
         × (r ≤ 200 * at .steps) × Rows (now (routes .exit)) × Figured (now (figures .exit)) ⌝ }
 {
     let mut told = [[0usize; Told::COUNT]; Fleet::VANS];
-    tell_vans(sheet, at, jobs, routes, sets, figures, true, &mut told);
-    let none = Sums {
-        places: 0,
-        records: 0,
-        alive: true,
-    };
-    let mut sums = sums_now(true, none, &told, routes, sets, figures, at.vans);
+    let mut ways = [[0u64; Way::COUNT]; Fleet::VANS];
+    tell_vans(
+        sheet,
+        at,
+        jobs,
+        routes,
+        sets,
+        figures,
+        true,
+        &mut told,
+        &mut ways,
+    );
+    let mut sums = sums_now(&told, routes, sets, figures, at.vans);
     let mut used = 0;
     let mut i = 0;
     while i < at.steps {
-        let o = step_at(sheet, at, i, routes, sets, levels, figures, trail);
-        let one = tell_vans(sheet, at, jobs, routes, sets, figures, false, &mut told);
-        sums = sums_now(one, sums, &told, routes, sets, figures, at.vans);
+        let o = step_at(sheet, at, jobs, i, routes, sets, levels, figures, trail);
+        if stale(figures, &told, at.vans) {
+            tell_vans(
+                sheet,
+                at,
+                jobs,
+                routes,
+                sets,
+                figures,
+                false,
+                &mut told,
+                &mut ways,
+            );
+            sums = sums_now(&told, routes, sets, figures, at.vans);
+        }
         used = put_line(out, used, i, o.answer, o.rounds, sums);
         i += 1;
     }
@@ -192,7 +218,7 @@ fn put_all(sheet: &[u8], at: Layout, trail: &mut [u64], out: &mut [u8]) -> usize
     let mut levels = [[0usize; State::LEVELS]; Fleet::VANS];
     let mut figures = [[0u64; Figures::COUNT]; Fleet::VANS];
     fresh_rows(sheet, at, &mut routes, &mut sets, &mut levels, &mut figures);
-    let mut jobs = [0usize; Jobs::ROOM];
+    let mut jobs = [0u32; Jobs::ROOM];
     by_node(sheet, at, &mut jobs);
     let used = put_lines(
         sheet,

@@ -287,7 +287,7 @@ fn uncounted(answer: usize) -> Counted
 fn all_alive<'a>(
     sheet: &[u8],
     at: Layout,
-    jobs: &[usize; Jobs::ROOM],
+    jobs: &[u32; Jobs::ROOM],
     routes: &'a [[usize; Node::MOST]; Fleet::VANS],
     sets: &'a [[u64; Node::MOST]; Fleet::VANS],
     figures: &'a [[u64; Figures::COUNT]; Fleet::VANS],
@@ -327,7 +327,7 @@ pub fn verdict(sheet: &[u8], fleet: Fleet) -> Judged
         return judge(code, false);
     }
     let at = read.layout;
-    let mut jobs = [0usize; Jobs::ROOM];
+    let mut jobs = [0u32; Jobs::ROOM];
     by_node(sheet, at, &mut jobs);
     if !all_alive(sheet, at, &jobs, &routes, &sets, &figures) {
         return judge(0, false);

@@ -2,6 +2,7 @@ pub mod Legs
 pub mod Rounds
 pub mod Struck
 pub mod Facts
+pub mod Begun
 pub mod Strikes
 pub mod Mixed
 pub mod Again

@@ -17,12 +17,9 @@ use Rattle.laws.proofs.Peak.{peak-most}
 use Rattle.rules.specs.Load.{loadOf}
 use Rattle.rules.specs.declared.Job.{Job}
 use Rattle.rules.specs.declared.Job.the-variants.{Clean, Soiled, Transfer}
-use Rattle.sheet.specs.Section.{mOf}
-use Rattle.day.specs.Tell.{jobIn}
-use Rattle.day.specs.Refuse.{callRefusal, endAt, clash}
-use Rattle.day.proofs.Asked.{pair}
+use Rattle.day.specs.Refuse.{endAt}
 use Rattle.walks.specs.Walks.{Kept, Legs, ridesUp, ridesDown}
-use Rattle.walks.proofs.WalkLaws.{kept-all, kept-once}
+use Rattle.walks.proofs.WalkLaws.{kept-all, kept-once, kept-zero}
 use Rattle.walks.proofs.Riding.{start-roomy, end-roomy}
 use Rattle.along.specs.Sets.{placesIn}
 use Rattle.bits.proofs.Members.{word-ext}
@@ -52,29 +49,27 @@ module _ {l h : List ℕ} (p : Pass) where
 -- ---- a transfer finds its words as they were
 
 -- a job with no end at y leaves its places
-away : (ws l h : List ℕ) (p : Pass) (q : Job) (y i : ℕ) → endAt y q ≡ false → pairLeaves ws l h p q y i ≡ true
+pub away : (ws l h : List ℕ) (p : Pass) (q : Job) (y i : ℕ) → endAt y q ≡ false → pairLeaves ws l h p q y i ≡ true
 unfolding pairLeaves
 away ws l h p (Clean a w) y i e = refl
 away ws l h p (Soiled a w) y i e = refl
 away ws l h p (Transfer a b w) y i e = let n = or-false (eqb a y) (eqb b y) e in rw (n .0, n .1) refl
 
--- the jobs before the j-th have struck nothing of the nodes of that one
-module _ (s : List ℕ) (clear : callRefusal s ≡ 0) {ws us l : List ℕ} (h : List ℕ) (p : Pass) (j : ℕ) (low : j < mOf s)
-    (k : Kepts l (p .stops - 1) (jobsLeave (pairLeaves ws l h p) (jobIn s) j) ws us) where
-  still : {a b w : ℕ} → jobIn s j ≡ Transfer a b w → (getD us a 0 ≡ getD ws a 0) × (getD us b 0 ≡ getD ws b 0)
-  unfolding jobsLeave clash
+-- the jobs before the j-th of g have struck nothing of the nodes of that one
+module _ (g : ℕ → Job) {ws us l : List ℕ} (h : List ℕ) (p : Pass) (j : ℕ)
+    (apart : (a b w : ℕ) → g j ≡ Transfer a b w → (i : ℕ) → i < j → (endAt a (g i) || endAt b (g i)) ≡ false)
+    (k : Kepts l (p .stops - 1) (jobsLeave (pairLeaves ws l h p) g j) ws us) where
+  still : {a b w : ℕ} → g j ≡ Transfer a b w → (getD us a 0 ≡ getD ws a 0) × (getD us b 0 ≡ getD ws b 0)
+  unfolding jobsLeave
   still {a} {b} {w} e = (
-    go a (λ i m. or-false (endAt a (jobIn s i)) (endAt b (jobIn s i)) (none i m) .0),
-    go b (λ i m. or-false (endAt a (jobIn s i)) (endAt b (jobIn s i)) (none i m) .1),
+    go a (λ i m. or-false (endAt a (g i)) (endAt b (g i)) (apart a b w e i m) .0),
+    go b (λ i m. or-false (endAt a (g i)) (endAt b (g i)) (apart a b w e i m) .1),
   )
     where
-      none : (i : ℕ) → i < j → (endAt a (jobIn s i) || endAt b (jobIn s i)) ≡ false
-      none i m = ap (λ (q : Job). clash q (jobIn s i)) (sym e) ∙ pair s clear j i low m
+      go : (y : ℕ) → ((i : ℕ) → i < j → endAt y (g i) ≡ false) → getD us y 0 ≡ getD ws y 0
+      go y n = kept-once (k .at y) (kept-all (λ i. below-make j _ (λ q m. away ws l h p (g q) y i (n q m))))
 
-      go : (y : ℕ) → ((i : ℕ) → i < j → endAt y (jobIn s i) ≡ false) → getD us y 0 ≡ getD ws y 0
-      go y n = kept-once (k .at y) (kept-all (λ i. below-make j _ (λ q m. away ws l h p (jobIn s q) y i (n q m))))
-
-  pub pair-turn : (q : Job) → q ≡ jobIn s j → (y i : ℕ) → pairLeaves us l h p q y i ≡ pairLeaves ws l h p q y i
+  pub pair-turn : (q : Job) → q ≡ g j → (y i : ℕ) → pairLeaves us l h p q y i ≡ pairLeaves ws l h p q y i
   unfolding pairLeaves
   pair-turn (Clean a w) e y i = refl
   pair-turn (Soiled a w) e y i = refl
@@ -90,6 +85,18 @@ kepts-two {l} {legs} {f} {g} {ws} {x} {y} {c} {d} n a b ne k m =
     let o = kepts-one x n a k in
     let e : getD (set ws x c) y 0 ≡ getD ws y 0 = getD-set-other ws x y c 0 (λ z. ne (sym z)) in
     kepts-both o (kepts-one y (o .long) b (subst (λ (w : ℕ). Kept l 0 legs g w d) (sym e) m))
+
+-- two ends with no place have none to lose
+pub kepts-empty : {l : List ℕ} {legs : ℕ} (f g : ℕ → Bool) {ws : List ℕ} (x y : ℕ) → length ws ≡ 64 → getD ws x 0 ≡ 0 → getD ws y 0 ≡ 0
+    → Kepts l legs (λ z i. atNode x f z i && atNode y g z i) ws ws
+kepts-empty {l} {legs} f g {ws} x y n a b = record { long = n; at = go }
+  where
+    none : (z : ℕ) → getD ws z 0 ≡ 0 → Kept l 0 legs (λ i. atNode x f z i && atNode y g z i) (getD ws z 0) (getD ws z 0)
+    none z e = subst (λ (w : ℕ). Kept l 0 legs (λ i. atNode x f z i && atNode y g z i) (getD ws z 0) w) (sym e) (kept-zero e)
+
+    go : (z : ℕ) → Kept l 0 legs (λ i. atNode x f z i && atNode y g z i) (getD ws z 0) (getD ws z 0)
+    go z = decided (eqb x z) (λ e. none z (ap (λ (k : ℕ). getD ws k 0) (sym (eqb-true x z e)) ∙ a))
+        (λ e. decided (eqb y z) (λ q. none z (ap (λ (k : ℕ). getD ws k 0) (sym (eqb-true y z q)) ∙ b)) (λ q. kept-all (λ i. rw (e, q) refl)))
 
 -- ---- the flag
 

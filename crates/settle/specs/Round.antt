@@ -1,6 +1,6 @@
 -- A round of settling over all words, from arrays: which places the jobs leave, and all of them together.
 use mathlib.Core.Path.{_≡_}
-use Prim.Native.Nat.{ℕ, suc, _-_}
+use Prim.Native.Nat.{ℕ, suc, _+_, _-_}
 use mathlib.Core.Bool.{Bool, true, not, _&&_, _||_}
 use mathlib.Core.List.{List}
 use lib.Dec.{eqb}
@@ -55,6 +55,10 @@ pairLeaves ws l h p (Clean a w) y i = true
 pairLeaves ws l h p (Soiled a w) y i = true
 pairLeaves ws l h p (Transfer a b w) y i =
     atNode a (ridesDown l h (rideOf p w) (partnerAt ws b)) y i && atNode b (ridesUp l h (rideOf p w) (partnerAt ws a)) y i
+
+-- the transfer that begins at x, by the jobs by node t
+abbrev pub pairFrom : List ℕ → ℕ → Job
+pairFrom t x = Transfer x (getD t (256 + x) 0) (getD t (128 + x) 0)
 
 -- the ends of a transfer are two nodes
 abbrev pub twoEnds : Job → Bool

@@ -4,14 +4,16 @@ ghost use Prim.Native.Nat.{ℕ, _<_, _≤_};
 ghost use lib.ListN.{getD, length, take};
 ghost use lib.Dec.{eqb};
 ghost use Rattle.laws.specs.Basic.{allBelow};
-ghost use Rattle.day.specs.Tell.{dayOf};
+ghost use Rattle.day.specs.Tell.{jobIn, dayOf};
 ghost use Rattle.along.specs.Ready.{Ready};
+ghost use Rattle.along.specs.Nodes.{ByNode};
 ghost use Rattle.settle.specs.Round.{sameSets};
 ghost use Rattle.settle.specs.Settles.{Read, Settles};
 use crate::strike::Pass;
 use crate::strike::round;
 use crate::strike::strike_pairs;
 use along::loads::loads;
+use along::nodes::Jobs;
 use along::spots::spots;
 use along::times::lasts;
 use rules::Node;
@@ -33,8 +35,9 @@ fn same(a: &[u64; Node::MOST], b: &[u64; Node::MOST], n: usize) -> bool
     is
 }
 
-// Whether none of the first n nodes has a place: the words or-ed up are 0, which looks at each of them without a branch.
-fn none_open(sets: &[u64; Node::MOST], n: usize) -> bool
+// Whether none of the first n nodes has a place: the words or-ed up are 0, which looks at each of them without a branch. Where none has, no round
+// can strike, and a caller who asks first need not settle.
+pub fn none_open(sets: &[u64; Node::MOST], n: usize) -> bool
     requires { ⌜ (length (now sets) ≡ 64) × (n ≤ 64) ⌝ }
     ensures { λ r. ⌜ r ≡ allBelow n (λ i. eqb (getD (now (sets .entry)) i 0) 0) ⌝ }
 {
@@ -52,6 +55,7 @@ fn none_open(sets: &[u64; Node::MOST], n: usize) -> bool
 fn rounds(
     s: &[u8],
     at: Layout,
+    t: &[u32; Jobs::ROOM],
     pass: Pass,
     old: &[u64; Node::MOST],
     new: &mut [u64; Node::MOST],
@@ -62,26 +66,26 @@ fn rounds(
     h: &[usize; Node::MOST],
 ) -> usize
     requires { ⌜ Ready (now s) at (now route) (pass .stops) (now old) 0 × Read (now s) at (now route) pass (now l) (now h) (now spots) (now before) ⌝ }
-    requires { ⌜ now new ≡ now old ⌝ }
+    requires { ⌜ (now new ≡ now old) × ByNode (jobIn (now s)) (at .jobs) (now t) ⌝ }
     ensures { λ r. ⌜ Settles (pass .van) (dayOf (now (s .entry))) (take (pass .stops) (now (route .entry))) (now (old .entry)) r (now (new .exit)) ⌝ }
 {
-    round(s, at, pass, new, route, spots, before, l, h);
+    round(s, at, t, pass, new, route, spots, before, l, h);
     let n = at.nodes;
     if same(old, new, n) {
         return 0;
     }
-    if strike_pairs(s, at, pass, new, route, spots, before, h) {
+    if strike_pairs(s, at, t, pass, new, route, spots, before, h) {
         2
     } else {
         1
     }
 }
 
-// Settles the sets of a state in form, of which `new` is a copy at first: the number of rounds that struck something. Where no node has a place,
-// none can strike, and nothing of the route is looked at.
+// Settles the sets of a state in form, of which `new` is a copy at first: the number of rounds that struck something.
 pub fn settle(
     s: &[u8],
     at: Layout,
+    t: &[u32; Jobs::ROOM],
     van: Van,
     route: &[usize; Node::MOST],
     stops: usize,
@@ -89,12 +93,9 @@ pub fn settle(
     new: &mut [u64; Node::MOST],
 ) -> usize
     requires { ⌜ Ready (now s) at (now route) stops (now old) 0 × (now new ≡ now old) × (van .limit < 1099511627776) ⌝ }
+    requires { ⌜ ByNode (jobIn (now s)) (at .jobs) (now t) ⌝ }
     ensures { λ r. ⌜ Settles van (dayOf (now (s .entry))) (take stops (now (route .entry))) (now (old .entry)) r (now (new .exit)) ⌝ }
 {
-    let n = at.nodes;
-    if none_open(old, n) {
-        return 0;
-    }
     let mut l = [0i64; Node::MOST];
     let mut spot = [Node::MOST; Node::MOST];
     let mut before = [0u64; Node::MOST];
@@ -102,11 +103,11 @@ pub fn settle(
     lasts(s, at, route, stops, &mut l);
     spots(route, stops, &mut spot);
     befores(route, stops - 1, &mut before);
-    let peaks = loads(s, at, route, stops, &spot, &mut h);
+    let peaks = loads(s, at, t, route, stops, &spot, &mut h);
     let pass = Pass {
         van: van,
         stops: stops,
         peaks: peaks,
     };
-    rounds(s, at, pass, old, new, route, &spot, &before, &l, &h)
+    rounds(s, at, t, pass, old, new, route, &spot, &before, &l, &h)
 }

@@ -8,6 +8,7 @@ ghost use Rattle.sheet.specs.Place.{Laid};
 ghost use Rattle.day.specs.Tell.{jobIn, dayOf};
 ghost use Rattle.day.specs.Seen.{Placed};
 ghost use Rattle.along.specs.Spots.{Spots};
+ghost use Rattle.along.specs.Nodes.{ByNode};
 ghost use Rattle.walks.specs.Walks.{Kept, Legs, Marked};
 ghost use Rattle.along.specs.Sets.{placesIn, setsOf};
 ghost use Rattle.along.specs.Ready.{Ready};
@@ -15,9 +16,11 @@ ghost use Rattle.rules.specs.Time.{driven};
 ghost use Rattle.rules.specs.Load.{loadOf};
 ghost use Rattle.rules.specs.Settle.{round};
 ghost use Rattle.gaps.specs.Gaps.{standsAt};
-ghost use Rattle.settle.specs.Round.{Kepts, rideOf, nodeOf, loadRides, loadLeaves, twoEnds, pairLeaves, mixedLeaves, jobsLeave, sameSets};
+ghost use Rattle.settle.specs.Round.{Kepts, rideOf, nodeOf, loadRides, loadLeaves, mixedLeaves, jobsLeave, sameSets};
+ghost use Rattle.settle.specs.Round.{pairFrom, pairLeaves, twoEnds};
 ghost use Rattle.settle.specs.Settles.{Read};
 use along::loads::Peaks;
+use along::nodes::Jobs;
 use gaps::Trial;
 use gaps::legs_of;
 use gaps::stand;
@@ -120,9 +123,11 @@ fn strike_loads(
     }
 }
 
-// A transfer against the places of its two ends: each rides to where the other stands or is open. Whether it strikes something, or `struck`.
+// The transfer that begins at x against the places of its two ends: each rides to where the other stands or is open. Whether it strikes something,
+// or `struck`. Where neither end has a place, there is nothing to strike.
 fn strike_pair(
-    job: Job,
+    t: &[u32; Jobs::ROOM],
+    x: usize,
     struck: bool,
     pass: Pass,
     new: &mut [u64; Node::MOST],
@@ -131,42 +136,36 @@ fn strike_pair(
     before: &[u64; Node::MOST],
     h: &[usize; Node::MOST],
 ) -> bool
-    requires { ⌜ Placed job × (twoEnds job ≡ true) × (0 < pass .stops) ⌝ }
-    requires { ⌜ (length (now new) ≡ 64) × Legs (now route) (now h) (rideOf pass (loadOf job))
+    requires { ⌜ (length (now t) ≡ 321) × Placed (pairFrom (now t) x) × (twoEnds (pairFrom (now t) x) ≡ true) × (0 < pass .stops) ⌝ }
+    requires { ⌜ (length (now new) ≡ 64) × Legs (now route) (now h) (rideOf pass (loadOf (pairFrom (now t) x)))
         × Marked (now route) (pass .stops - 1) (now spots) (now before) ⌝ }
-    ensures { λ r. ⌜ Kepts (now (route .entry)) (pass .stops - 1) (pairLeaves (now (new .entry)) (now (route .entry)) (now (h .entry)) pass job)
+    ensures { λ r. ⌜ Kepts (now (route .entry)) (pass .stops - 1)
+        (pairLeaves (now (new .entry)) (now (route .entry)) (now (h .entry)) pass (pairFrom (now (t .entry)) x))
         (now (new .entry)) (now (new .exit)) × (r ≡ (struck || not (sameSets (now (new .entry)) (now (new .exit))))) ⌝ }
 {
-    match job {
-        Job::Clean { node: _, load: _ } => struck,
-        Job::Soiled { node: _, load: _ } => struck,
-        Job::Transfer { from, to, load } => {
-            let ride = ride_of(pass, load);
-            let a = new[from];
-            let b = new[to];
-            let there = Partner {
-                node: to,
-                places: b,
-            };
-            let c = backward(a, route, h, spots, before, ride, there);
-            new[from] = c;
-            let first = struck | (a != c);
-            let here = Partner {
-                node: from,
-                places: a,
-            };
-            let d = forward(b, route, h, spots, before, ride, here);
-            new[to] = d;
-            first | (b != d)
-        },
+    let y = t[Jobs::PARTNER + x] as usize;
+    let a = new[x];
+    let b = new[y];
+    if (a == 0) & (b == 0) {
+        return struck;
     }
+    let ride = ride_of(pass, t[Jobs::FIRST + x] as usize);
+    let there = Partner { node: y, places: b };
+    let c = backward(a, route, h, spots, before, ride, there);
+    new[x] = c;
+    let first = struck | (a != c);
+    let here = Partner { node: x, places: a };
+    let d = forward(b, route, h, spots, before, ride, here);
+    new[y] = d;
+    first | (b != d)
 }
 
-// The transfers against the places of their ends, and whether they strike something. No two of them share a node, so the words of each are those
-// of the beginning when its turn comes.
+// The transfers against the places of their ends, and whether they strike something: at each node the one that begins there. No two of them share
+// a node, so the words of each are those of the beginning when its turn comes.
 pub fn strike_pairs(
     s: &[u8],
     at: Layout,
+    t: &[u32; Jobs::ROOM],
     pass: Pass,
     new: &mut [u64; Node::MOST],
     route: &[usize; Node::MOST],
@@ -176,17 +175,19 @@ pub fn strike_pairs(
 ) -> bool
     requires { ⌜ Ready (now s) at (now route) (pass .stops) (now new) 0 × Legs (now route) (now h) (rideOf pass 0)
         × Marked (now route) (pass .stops - 1) (now spots) (now before) ⌝ }
+    requires { ⌜ ByNode (jobIn (now s)) (at .jobs) (now t) ⌝ }
     ensures { λ r. ⌜ Kepts (now (route .entry)) (pass .stops - 1)
         (jobsLeave (pairLeaves (now (new .entry)) (now (route .entry)) (now (h .entry)) pass) (jobIn (now (s .entry))) (at .jobs))
         (now (new .entry)) (now (new .exit)) × (r ≡ not (sameSets (now (new .entry)) (now (new .exit)))) ⌝ }
 {
-    let m = at.jobs;
+    let n = at.nodes;
     let mut struck = false;
-    let mut j = 0;
-    while j < m {
-        let job = day::jobs::job(s, at, j);
-        struck = strike_pair(job, struck, pass, new, route, spots, before, h);
-        j += 1;
+    let mut x = 0;
+    while x < n {
+        if t[Jobs::FIRST + x] != 0 {
+            struck = strike_pair(t, x, struck, pass, new, route, spots, before, h);
+        }
+        x += 1;
     }
     struck
 }
@@ -256,6 +257,7 @@ fn strike_mixed(
 pub fn round(
     s: &[u8],
     at: Layout,
+    t: &[u32; Jobs::ROOM],
     pass: Pass,
     new: &mut [u64; Node::MOST],
     route: &[usize; Node::MOST],
@@ -265,10 +267,11 @@ pub fn round(
     h: &[usize; Node::MOST],
 )
     requires { ⌜ Ready (now s) at (now route) (pass .stops) (now new) 0 × Read (now s) at (now route) pass (now l) (now h) (now spots) (now before) ⌝ }
+    requires { ⌜ ByNode (jobIn (now s)) (at .jobs) (now t) ⌝ }
     ensures { λ _. ⌜ now (new .exit)
         ≡ setsOf (round (pass .van) (dayOf (now (s .entry))) (take (pass .stops) (now (route .entry))) (placesIn (now (new .entry)))) ⌝ }
 {
-    strike_pairs(s, at, pass, new, route, spots, before, h);
+    strike_pairs(s, at, t, pass, new, route, spots, before, h);
     strike_mixed(s, at, pass.stops, new, route);
     stand_all(s, at, pass, new, route, spots, l);
     strike_loads(s, at, pass, new, route, h);

@@ -1,2 +1,2 @@
--- VanLaws: what a line tells of the vans, van by van.
+-- VanLaws: what a line tells of the vans, van by van, and what is kept of their routes.
 pub mod VanLaws

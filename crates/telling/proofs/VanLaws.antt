@@ -1,15 +1,19 @@
--- What a line tells of the vans, van by van.
+-- What a line tells of the vans, van by van, and what is kept of their routes.
 use Prim.Native.Nat.{ℕ, _+_, _<_, _≤_}
-use mathlib.Core.Path.{_≡_, refl, sym, ap, _∙_}
+use mathlib.Core.Path.{_≡_, refl, sym, ap, subst, _∙_}
+use mathlib.Core.Logic.{_≢_}
 use mathlib.Core.Bool.{Bool, true, false, cond, not, _||_}
 use mathlib.Core.List.{List, [], _∷_}
 use native.Mathlib.Omega.{arith}
-use lib.ListN.{length, getD, set, replicate, getD-replicate}
+use lib.ListN.{length, getD, set, take, replicate, getD-replicate, length-set}
+use lib.Seq.{getD-set-same, getD-set-other}
 use lib.Dec.{eqb, ltb}
 use borrow.Author.Tests.{eqb-true, eqb-false, lt-ltb, le-ltb}
 use Rattle.laws.proofs.Logic.{decided}
 use Rattle.rules.specs.Numbers.{mostVans}
 use Rattle.rules.specs.Verdict.{alive}
+use Rattle.rules.specs.declared.Van.{Van}
+use Rattle.bits.proofs.Members.{false-true}
 use Rattle.sheet.specs.Section.{vansOf}
 use Rattle.day.specs.Tell.{dayOf, vanOf}
 use Rattle.board.specs.Board.{placesOf}
@@ -19,7 +23,9 @@ use Rattle.van.specs.Act.{planIn}
 use Rattle.fleet.specs.Rows.{figuresIn, rowState, rowBoard, fleetWith, RowsOf}
 use Rattle.fleet.proofs.FleetLaws.{state-of}
 use Rattle.laws.proofs.Turned.{Turned, ltb-more}
-use Rattle.telling.specs.Told.{toldIn, ToldAll, anew}
+use Rattle.verdict.specs.Verdict.{Coursed}
+use Rattle.verdict.specs.declared.Course.{Course}
+use Rattle.telling.specs.Told.{toldIn, ToldAll, anew, courseIn, Kept, keptIn}
 
 -- a row of three, each entry written
 pub told-written : (l : List ℕ) (a b c : ℕ) → length l ≡ 3 → set (set (set l 0 a) 1 b) 2 c ≡ a ∷ b ∷ c ∷ []
@@ -29,9 +35,31 @@ told-written (x ∷ y ∷ []) a b c h = absurd (omega arith)
 told-written (x ∷ y ∷ z ∷ []) a b c h = refl
 told-written (x ∷ y ∷ z ∷ w ∷ l) a b c h = absurd (omega arith)
 
--- before anything is told
+-- a row of four, each entry written
+way-written : (l : List ℕ) (a b c d : ℕ) → length l ≡ 4 → set (set (set (set l 0 a) 1 b) 2 c) 3 d ≡ a ∷ b ∷ c ∷ d ∷ []
+way-written [] a b c d h = absurd (omega arith)
+way-written (x ∷ []) a b c d h = absurd (omega arith)
+way-written (x ∷ y ∷ []) a b c d h = absurd (omega arith)
+way-written (x ∷ y ∷ z ∷ []) a b c d h = absurd (omega arith)
+way-written (x ∷ y ∷ z ∷ w ∷ []) a b c d h = refl
+way-written (x ∷ y ∷ z ∷ w ∷ v ∷ l) a b c d h = absurd (omega arith)
+
+-- 1 or 0 for a flag, read back
+pub told-flag : (b : Bool) → not (eqb (cond b 1 0) 0) ≡ b
+told-flag true = refl
+told-flag false = refl
+
+-- before anything is told or kept
 pub told-none : RowsOf 3 (replicate mostVans (replicate 3 0))
 told-none = let none : List ℕ = replicate 3 0 in record { eight = refl; wide = λ j l. ap length (getD-replicate mostVans j none [] l) }
+
+pub kept-none : RowsOf 4 (replicate mostVans (replicate 4 0))
+kept-none = let none : List ℕ = replicate 4 0 in record { eight = refl; wide = λ j l. ap length (getD-replicate mostVans j none [] l) }
+
+-- where neither every one is asked for nor the number is another
+pub as-before : (every : Bool) (a b : ℕ) → every || not (eqb a b) ≡ false → (every ≡ false) × (a ≡ b)
+as-before true a b e = absurd (false-true (sym e))
+as-before false a b e = (refl, decided (eqb a b) (eqb-true a b) (λ z. absurd (false-true (sym (rw z at e)))))
 
 -- what is told of row j
 abbrev pub toldRow : List ℕ → List (List ℕ) → List (List ℕ) → List (List ℕ) → ℕ → List ℕ
@@ -86,14 +114,58 @@ module _ (sheet : List ℕ) (routes sets figures : List (List ℕ)) (every : Boo
       passed : (j : ℕ) → j < k → getD told j [] ≡ toldOr sheet routes sets figures every before j
       passed j l = rw (lt-ltb j k l) at (p .at j (omega (arith, l, most)))
 
-      kept : (j : ℕ) → j < vansOf sheet → anew every figures before j ≡ false → (every ≡ false) × (figuresIn (getD figures j []) .records ≡ getD (getD before j []) 1 0)
-      kept j l z =
-          decided every
-          (λ y. absurd (eqb-false 0 1 refl (ap (λ (c : Bool). cond c 1 0) (sym (rw y at z)))))
-          (λ y. (y, decided (eqb (figuresIn (getD figures j []) .records) (getD (getD before j []) 1 0)) (eqb-true _ _) (λ n. absurd (eqb-false 0 1 refl (ap (λ (c : Bool). cond c 1 0) (sym (rw (y, n) at z)))))))
-
       known : (j : ℕ) → j < vansOf sheet → toldOr sheet routes sets figures every before j ≡ toldIn sheet (fleetWith routes sets levels figures) j
       known j l =
           decided (anew every figures before j)
           (λ y. rw y (row-told levels j (omega (arith, e, l, most))))
-          (λ y. rw y (same j l (kept j l y .0) (kept j l y .1)))
+          (λ y. let b = as-before every _ _ y in rw y (same j l (b .0) (b .1)))
+
+-- ---- the courses of the routes
+
+-- a course written into a row is kept there
+pub way-kept : {sheet jobs : List ℕ} {van : Van} {route : List ℕ} {stops : ℕ} (l : List ℕ) (c : Course) {k : ℕ} → length l ≡ 4 → k ≡ cond (c .keeps) 1 0
+    → Coursed van (dayOf sheet) jobs (take stops route) c
+    → Kept sheet jobs van route stops (set (set (set (set l 0 stops) 1 k) 2 (c .on)) 3 (c .called)) × (c ≡ courseIn (set (set (set (set l 0 stops) 1 k) 2 (c .on)) 3 (c .called)))
+way-kept {sheet} {jobs} {van} {route} {stops} l c h e p =
+    rw (way-written l stops _ (c .on) (c .called) h, e)
+    (record { long = refl; count = refl; course = subst (Coursed van (dayOf sheet) jobs (take stops route)) back p }, back)
+  where
+    back : c ≡ courseIn (stops ∷ cond (c .keeps) 1 0 ∷ c .on ∷ c .called ∷ [])
+    back = λ u. record { keeps = sym (told-flag (c .keeps)) u; on = c .on; called = c .called }
+
+-- the first j vans have their courses kept, the rows of the others are as they were
+pub record KeptBelow (sheet jobs : List ℕ) (routes figures before : List (List ℕ)) (j : ℕ) (ways : List (List ℕ)) : Type 0 where
+  pub rows : RowsOf 4 ways
+  pub each : (k : ℕ) → k < j → keptIn sheet jobs routes figures ways k
+  pub ahead : (k : ℕ) → j ≤ k → getD ways k [] ≡ getD before k []
+
+module _ {sheet jobs : List ℕ} {routes figures before : List (List ℕ)} where
+  -- the van at hand is still as it was: what is known of its row then is known now
+  pub kept-ahead : {j : ℕ} {ways : List (List ℕ)} → KeptBelow sheet jobs routes figures before j ways → keptIn sheet jobs routes figures before j → keptIn sheet jobs routes figures ways j
+  kept-ahead {j} h = subst (Kept sheet jobs (vanOf sheet j) (getD routes j []) (figuresIn (getD figures j []) .stops)) (sym (h .ahead j (omega arith)))
+
+  -- it is passed over
+  pub kept-skip : {j : ℕ} {ways : List (List ℕ)} → KeptBelow sheet jobs routes figures before j ways → keptIn sheet jobs routes figures before j → KeptBelow sheet jobs routes figures before (j + 1) ways
+  kept-skip {j} h p = record {
+    rows = h .rows;
+    each = λ k l. decided (eqb k j) (λ z. rw (eqb-true k j z) (kept-ahead h p)) (λ z. h .each k (omega (arith, l, eqb-false k j z)));
+    ahead = λ k l. h .ahead k (omega (arith, l));
+  }
+
+  -- its row is written
+  pub kept-more : {j : ℕ} {ways : List (List ℕ)} (way : List ℕ) → KeptBelow sheet jobs routes figures before j ways → j < mostVans
+      → Kept sheet jobs (vanOf sheet j) (getD routes j []) (figuresIn (getD figures j []) .stops) way → KeptBelow sheet jobs routes figures before (j + 1) (set ways j way)
+  kept-more {j} {ways} way h l p = record {
+    rows = record {
+      eight = length-set ways j way ∙ h .rows .eight;
+      wide = λ k b. decided (eqb k j) (λ z. rw (eqb-true k j z, here) (p .long)) (λ z. rw (there k (eqb-false k j z)) (h .rows .wide k b));
+    };
+    each = λ k b. decided (eqb k j) (λ z. rw (eqb-true k j z, here) p) (λ z. rw (there k (eqb-false k j z)) (h .each k (omega (arith, b, eqb-false k j z))));
+    ahead = λ k b. there k (omega (arith, b)) ∙ h .ahead k (omega (arith, b));
+  }
+    where
+      here : getD (set ways j way) j [] ≡ way
+      here = getD-set-same ways j way [] (subst (λ (m : ℕ). j < m) (sym (h .rows .eight)) l)
+
+      there : (k : ℕ) → k ≢ j → getD (set ways j way) k [] ≡ getD ways k []
+      there k n = getD-set-other ways j k way [] n

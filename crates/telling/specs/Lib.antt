@@ -1,2 +1,2 @@
--- Told: what a line tells of one van, and of all.
+-- Told: what a line tells of one van, and of all; what is kept of their routes.
 pub mod Told

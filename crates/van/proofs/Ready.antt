@@ -1,11 +1,13 @@
 -- A sheet that no call refuses and a state in form are what the steps, settling and the verdict ask.
 use Prim.Native.Nat.{ℕ}
-use mathlib.Core.Path.{_≡_, sym, ap, ap₂, subst, _∙_}
+use mathlib.Core.Path.{_≡_, refl, sym, ap, ap₂, subst, _∙_}
 use mathlib.Core.Bool.{true}
 use mathlib.Core.List.{List}
 use native.Mathlib.Omega.{arith}
-use lib.Dec.{T}
-use lib.ListN.{length, take}
+use lib.Dec.{T, eqb}
+use lib.ListN.{getD, length, take}
+use Rattle.laws.specs.Basic.{allBelow}
+use Rattle.rules.specs.Numbers.{kinds}
 use Rattle.rules.specs.declared.Van.{Van}
 use Rattle.rules.specs.Plan.{Places}
 use Rattle.rules.proofs.Fixpoint.{settle-less}
@@ -17,17 +19,22 @@ use Rattle.day.specs.Refuse.{callRefusal}
 use Rattle.day.specs.Tell.{dayOf}
 use Rattle.board.specs.Board.{boardOf, routeOf, setOf, openAt}
 use Rattle.board.specs.Form.{inForm, formWith}
-use Rattle.board.proofs.FormLaws.{in-form}
+use Rattle.board.proofs.FormLaws.{in-form, form-with}
 use Rattle.board.specs.Held.{Held, FormedBoard, Sound}
 use Rattle.board.specs.declared.State.{State}
 use Rattle.along.specs.Sets.{placesIn}
 use Rattle.along.proofs.SetLaws.{length-sets}
 use Rattle.along.specs.Ready.{Ready}
 use Rattle.along.proofs.ReadyLaws.{nodes-most}
+use Rattle.along.proofs.Facts.{ready-unmarked}
 use Rattle.rules.specs.Day.{Day}
-use Rattle.trail.specs.Steps.{settleStep}
-use Rattle.van.specs.Act.{settledSets, settlingRounds}
+use Rattle.records.specs.Trail.{roomOf}
+use Rattle.trail.specs.Steps.{settleStep, answered}
+use Rattle.trail.proofs.StepLaws.{settle-still}
+use Rattle.van.specs.Act.{settledSets, settlingRounds, actOf}
+use Rattle.van.specs.Known.{Known}
 use Rattle.settle.specs.Settles.{Settles}
+use Rattle.settle.proofs.Again.{none-open}
 use Rattle.settle.proofs.Facts.{settled-open}
 use Rattle.van.proofs.Plans.{state-formed}
 
@@ -75,3 +82,11 @@ pub settled-is : (v : Van) (d : Day) (s : State) (t : List ℕ) {k : ℕ} {new :
     → settleStep s t (settlingRounds v d s) (settledSets v d s) ≡ settleStep s t k new
 unfolding routeOf openAt setOf
 settled-is v d s t p = ap₂ (settleStep s t) (sym (p .rounds)) (sym (p .sets))
+
+-- where no node has a place, settling changes nothing
+pub settle-rests : {sheet : List ℕ} {at : Layout} (v : Van) (s : State) (t : List ℕ) (kind a b : ℕ) → kind ≡ kinds.SETTLE → Known sheet at s t
+    → allBelow (at .nodes) (λ i. eqb (getD (s .sets) i 0) 0) ≡ true → actOf v (dayOf sheet) s t kind a b ≡ answered 0 s t
+unfolding actOf
+settle-rests {sheet} v s t kind a b k p none =
+    let f = form-with (nOf sheet) s (roomOf t) (p .form) in
+    rw k (settled-is v (dayOf sheet) s t (none-open v (ready-unmarked (ready s (p .clear) (p .laid) (p .held) (f .0))) none refl) ∙ settle-still s t (f .1))

@@ -53,8 +53,8 @@ fn placing(
     place(route, sets, f, n, p, x, trail)
 }
 
-// The steps other than settling: they ask for no van.
-fn change(
+// The steps other than settling: they ask neither for the van nor for its jobs.
+pub fn change(
     sheet: &[u8],
     at: Layout,
     route: &mut [usize; Node::MOST],
@@ -88,10 +88,11 @@ fn change(
     }
 }
 
-// Settling, with the rounds that struck something.
+// Settling, with the rounds that struck something; `jobs` has the jobs of the sheet by node.
 fn settling(
     sheet: &[u8],
     at: Layout,
+    jobs: &[u32; Jobs::ROOM],
     van: Van,
     route: &[usize; Node::MOST],
     sets: &mut [u64; Node::MOST],
@@ -99,6 +100,7 @@ fn settling(
     trail: &mut [u64],
 ) -> Outcome
     requires { ⌜ Ready (now sheet) at (now route) (f .stops) (now sets) (f .marks) × (f .records ≤ roomOf (now trail)) × (van .limit ≤ 1000000) ⌝ }
+    requires { ⌜ ByNode (jobIn (now sheet)) (at .jobs) (now jobs) ⌝ }
     ensures { λ r. ⌜ ((levels : List ℕ) →
         settleStep (stateWith (now (route .entry)) (now (sets .entry)) levels f) (now (trail .entry))
         (settlingRounds van (dayOf (now (sheet .entry))) (stateWith (now (route .entry)) (now (sets .entry)) levels f))
@@ -106,14 +108,15 @@ fn settling(
         ≡ ran r (now (route .entry)) (now (sets .exit)) levels (now (trail .exit))) ⌝ }
 {
     let mut new = *sets;
-    let rounds = settle::settling::settle(sheet, at, van, route, f.stops, sets, &mut new);
+    let rounds = settle::settling::settle(sheet, at, jobs, van, route, f.stops, sets, &mut new);
     trail::steps::settle(sets, f, rounds, &new, at.nodes, trail)
 }
 
-// One step of a van: the arrays and the trail are changed in place.
-pub fn act(
+// Step 5 of a van: the sets and the trail are changed in place.
+pub fn settle(
     sheet: &[u8],
     at: Layout,
+    jobs: &[u32; Jobs::ROOM],
     van: Van,
     route: &mut [usize; Node::MOST],
     sets: &mut [u64; Node::MOST],
@@ -123,21 +126,19 @@ pub fn act(
     step: Step,
 ) -> Outcome
     requires { ⌜ Known (now sheet) at (stateWith (now route) (now sets) (now levels) f) (now trail) × (van .limit ≤ 1000000) ⌝ }
+    requires { ⌜ ByNode (jobIn (now sheet)) (at .jobs) (now jobs) × (step .kind ≡ kinds.SETTLE) ⌝ }
     ensures { λ r. ⌜ actOf van (dayOf (now (sheet .entry))) (stateWith (now (route .entry)) (now (sets .entry)) (now (levels .entry)) f)
         (now (trail .entry)) (step .kind) (step .first) (step .second)
         ≡ ran r (now (route .exit)) (now (sets .exit)) (now (levels .exit)) (now (trail .exit)) ⌝ }
 {
-    if step.kind == Step::SETTLE {
-        return settling(sheet, at, van, route, sets, f, trail);
-    }
-    change(sheet, at, route, sets, levels, f, trail, step)
+    settling(sheet, at, jobs, van, route, sets, f, trail)
 }
 
 // The verdict of a van; `jobs` has the jobs of the sheet by node.
 pub fn alive<'a>(
     sheet: &[u8],
     at: Layout,
-    jobs: &[usize; Jobs::ROOM],
+    jobs: &[u32; Jobs::ROOM],
     van: Van,
     route: &'a [usize; Node::MOST],
     sets: &'a [u64; Node::MOST],

@@ -25,8 +25,9 @@ use Rattle.day.specs.Tell.{dayOf, jobIn, loadOk, jobFine}
 use Rattle.day.proofs.Fit.{fine-job}
 use Rattle.along.specs.Nodes.{cleanLoad, soiledLoad}
 use Rattle.along.proofs.ReadyLaws.{jobs-are}
-use Rattle.verdict.specs.Verdict.{Routed, profileKept}
-use Rattle.verdict.proofs.Carry.{near}
+use Rattle.along.specs.Nodes.{Routed}
+use Rattle.verdict.specs.Verdict.{profileKept}
+use Rattle.along.proofs.Walking.{near}
 
 -- ---- who is clean, and who is soiled, by the loads
 

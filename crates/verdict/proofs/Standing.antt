@@ -25,14 +25,15 @@ use Rattle.day.specs.Tell.{dayOf, jobIn}
 use Rattle.day.proofs.Asked.{proper}
 use Rattle.along.specs.Sets.{planFrom}
 use Rattle.along.specs.Ready.{Ready}
-use Rattle.along.specs.Nodes.{ByNode, Mates}
-use Rattle.along.proofs.Facts.{route-of}
+use Rattle.along.specs.Nodes.{ByNode, Mates, Routed}
+use Rattle.along.proofs.Facts.{routed}
 use Rattle.along.proofs.ReadyLaws.{jobs-are}
 use Rattle.verdict.specs.declared.Course.{Course}
-use Rattle.verdict.specs.Verdict.{joins, memberOpen, Routed, Coursed}
+use Rattle.verdict.specs.Verdict.{joins, memberOpen, Coursed}
 use Rattle.verdict.proofs.Pairing.{other, joined-on}
-use Rattle.verdict.proofs.Mating.{in-at, mate-found}
-use Rattle.verdict.proofs.Carry.{mates, told}
+use Rattle.along.proofs.Mating.{in-at}
+use Rattle.verdict.proofs.Mating.{mate-found}
+use Rattle.along.proofs.Walking.{mates, told}
 use Rattle.verdict.proofs.Owing.{owed-is}
 use Rattle.verdict.proofs.Road.{alive-told}
 
@@ -52,8 +53,8 @@ module _ {s : List ℕ} {at : Layout} {l : List ℕ} {n : ℕ} {ws : List ℕ} {
   abbrev d : Day
   d = dayOf s
 
-  pub routed : Routed s at l n t
-  routed = record { clear = r .clear; laid = r .laid; route = route-of r; jobs = b }
+  road : Routed s at l n t
+  road = routed r b
 
   module _ {v : Van} {c : Course} (k : Coursed v d t m c) (on-low : c .on < 2 ^ 64) (marks-low : marks < 2 ^ 64) {paired : ℕ} (p : Mates t marks paired) where
     abbrev call : ℕ → Bool
@@ -70,7 +71,7 @@ module _ {s : List ℕ} {at : Layout} {l : List ℕ} {n : ℕ} {ws : List ℕ} {
         go (Clean a w) q l e u = absurd u
         go (Soiled a w) q l e u = absurd u
         go (Transfer a b w) q l e u =
-            let z = mates routed q a b w l e y h in
+            let z = mates road q a b w l e y h in
             ⊎-elim (λ f. z .2 (sym (eqb→eq b y (and-r (eqb a x) (eqb b y) f))) ∙ eqb→eq a x (and-l (eqb a x) (eqb b y) f))
             (λ f. z .1 (sym (eqb→eq a y (and-r (eqb b x) (eqb a y) f))) ∙ eqb→eq b x (and-l (eqb b x) (eqb a y) f))
             (or-e (eqb a x && eqb b y) (eqb b x && eqb a y) u)
@@ -83,7 +84,7 @@ module _ {s : List ℕ} {at : Layout} {l : List ℕ} {n : ℕ} {ws : List ℕ} {
     by-mate x y o u h e =
         let is = sym (b .partner y h) ∙ e in
         ⊎-elim (λ z. absurd (T-not (mem x m) o (subst (λ (q : ℕ). T (mem q m)) (sym z ∙ is) start-on)))
-        (λ q. any-i (partnered call x) (subst (λ (js : List Job). In (jobIn s (q .0)) js) (sym (told routed)) (in-at (at .jobs) (q .0) (jobIn s) (q .1)))
+        (λ q. any-i (partnered call x) (subst (λ (js : List Job). In (jobIn s (q .0)) js) (sym (told road)) (in-at (at .jobs) (q .0) (jobIn s) (q .1)))
         (joined-on call x y (jobIn s (q .0)) (turned x y (jobIn s (q .0)) (subst (λ (z : ℕ). T (joins y z (jobIn s (q .0)))) is (q .2))) u))
         (mate-found (jobIn s) (at .jobs) y)
 

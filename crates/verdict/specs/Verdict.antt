@@ -14,12 +14,7 @@ use Rattle.rules.specs.Time.{onTime, driven}
 use Rattle.rules.specs.Load.{carries}
 use Rattle.rules.specs.Profile.{cleanFirst}
 use Rattle.rules.specs.Verdict.{partnered, wrongWay}
-use Rattle.sheet.specs.Place.{Laid}
-use Rattle.sheet.specs.declared.Layout.{Layout}
-use Rattle.day.specs.Refuse.{callRefusal}
-use Rattle.day.specs.Tell.{jobIn}
-use Rattle.along.specs.Route.{Route}
-use Rattle.along.specs.Nodes.{ByNode, Mates}
+use Rattle.along.specs.Nodes.{Mates}
 use Rattle.verdict.specs.declared.Course.{Course}
 use Rattle.rules.specs.declared.Job.{Job}
 
@@ -40,13 +35,6 @@ unfoldable pub roadKept : ℕ → Day → List ℕ → Bool
 roadKept limit d l = onTime d [] l && leb (driven d l) limit
 
 -- ---- with the jobs by node
-
--- what a walk along a route asks: a sheet that no call refuses, where it has what, a route in an array, and the jobs by node
-pub record Routed (s : List ℕ) (at : Layout) (l : List ℕ) (n : ℕ) (t : List ℕ) : Type 0 where
-  pub clear : callRefusal s ≡ 0
-  pub laid : Laid s at
-  pub route : Route (at .nodes) l n
-  pub jobs : ByNode (jobIn s) (at .jobs) t
 
 -- the loads and the order of the transfers: no leg is above the capacity, no transfer is in wrong order
 unfoldable pub loadKept : Van → Day → List ℕ → Bool

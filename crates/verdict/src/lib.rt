@@ -1,7 +1,7 @@
 // Who is owed, and the verdict of a state.
 ghost use mathlib.Core.Path.{_≡_};
-ghost use mathlib.Core.Bool.{cond, not, _&&_, _||_};
-ghost use mathlib.Core.List.{List, []};
+ghost use mathlib.Core.Bool.{not, _&&_, _||_};
+ghost use mathlib.Core.List.{List};
 ghost use Prim.Native.Nat.{ℕ, _+_, _<_, _≤_};
 ghost use lib.ListN.{getD, length, take};
 ghost use lib.Dec.{eqb};
@@ -15,11 +15,13 @@ ghost use Rattle.day.specs.Seen.{Placed};
 ghost use Rattle.along.specs.Route.{Route};
 ghost use Rattle.along.specs.Sets.{planFrom};
 ghost use Rattle.along.specs.Ready.{Ready};
-ghost use Rattle.verdict.specs.Verdict.{joins, memberOpen, roadKept, loadKept, profileKept, Routed, Coursed};
+ghost use Rattle.verdict.specs.Verdict.{joins, memberOpen, roadKept, loadKept, profileKept, Coursed};
 ghost use Rattle.rules.specs.declared.Van.{Van};
 ghost use Rattle.sheet.specs.declared.Layout.{Layout};
-ghost use Rattle.along.specs.Nodes.{ByNode};
-ghost use Rattle.rules.specs.Load.{load};
+ghost use Rattle.along.specs.Nodes.{ByNode, Routed};
+use along::loads::at_start;
+use along::loads::comes;
+use along::loads::goes;
 use along::nodes::Jobs;
 use along::times::arrive;
 use along::times::in_time;
@@ -149,58 +151,11 @@ pub fn owed(
     owes(route, stops, marks, pair, x)
 }
 
-// What comes aboard at x: its soiled load, and that of the transfer that begins there, if it ends on the route.
-fn comes(t: &[usize; Jobs::ROOM], x: usize, ends: bool) -> usize
-    requires { ⌜ (length (now t) ≡ 320) × (x < 64) × ((i : ℕ) → getD (now t) i 0 < 4398046511104) ⌝ }
-    ensures { λ r. ⌜ r ≡ getD (now (t .entry)) (64 + x) 0 + cond ends (getD (now (t .entry)) (128 + x) 0) 0 ⌝ }
-{
-    let soiled = t[Jobs::SOILED + x];
-    if ends {
-        soiled + t[Jobs::FIRST + x]
-    } else {
-        soiled
-    }
-}
-
-// What goes off at x: its clean load, and that of the transfer that ends there, if it has begun.
-fn goes(t: &[usize; Jobs::ROOM], x: usize, begun: bool) -> usize
-    requires { ⌜ (length (now t) ≡ 320) × (x < 64) × ((i : ℕ) → getD (now t) i 0 < 4398046511104) ⌝ }
-    ensures { λ r. ⌜ r ≡ getD (now (t .entry)) x 0 + cond begun (getD (now (t .entry)) (192 + x) 0) 0 ⌝ }
-{
-    let clean = t[x];
-    if begun {
-        clean + t[Jobs::SECOND + x]
-    } else {
-        clean
-    }
-}
-
-// What is aboard before the first stop: the clean load of every stop.
-fn at_start(
-    s: &[u8],
-    at: Layout,
-    t: &[usize; Jobs::ROOM],
-    route: &[usize; Node::MOST],
-    stops: usize,
-) -> usize
-    requires { ⌜ Routed (now s) at (now route) stops (now t) ⌝ }
-    ensures { λ r. ⌜ (r ≡ load (dayOf (now (s .entry))) [] (take stops (now (route .entry)))) × (r ≤ 281474976710656) ⌝ }
-{
-    let mut sum = 0;
-    let mut i = 0;
-    while i < stops {
-        let x = route[i];
-        sum += t[x];
-        i += 1;
-    }
-    sum
-}
-
 // The loads and the order of the transfers in one pass along the route, where `on` has its nodes. A transfer in wrong order shows where it begins.
 fn carried(
     s: &[u8],
     at: Layout,
-    t: &[usize; Jobs::ROOM],
+    t: &[u32; Jobs::ROOM],
     van: Van,
     route: &[usize; Node::MOST],
     stops: usize,
@@ -214,7 +169,7 @@ fn carried(
     let mut i = 0;
     while i < stops {
         let x = route[i];
-        let other = t[Jobs::PARTNER + x];
+        let other = t[Jobs::PARTNER + x] as usize;
         let begun = bits::holds(seen, other);
         if begun & (t[Jobs::FIRST + x] != 0) {
             return false;
@@ -235,7 +190,7 @@ fn carried(
 fn clean_first(
     s: &[u8],
     at: Layout,
-    t: &[usize; Jobs::ROOM],
+    t: &[u32; Jobs::ROOM],
     route: &[usize; Node::MOST],
     stops: usize,
 ) -> bool
@@ -285,7 +240,7 @@ pub struct Course {
 pub fn sound(
     s: &[u8],
     at: Layout,
-    t: &[usize; Jobs::ROOM],
+    t: &[u32; Jobs::ROOM],
     van: Van,
     route: &[usize; Node::MOST],
     stops: usize,
@@ -306,8 +261,8 @@ pub fn sound(
 }
 
 // The verdict of a state whose route has the course: who is marked, and who is a partner of a node marked or on the route, is on it or open.
-pub fn stand(t: &[usize; Jobs::ROOM], sets: &[u64; Node::MOST], marks: u64, course: Course) -> bool
-    requires { ⌜ (length (now t) ≡ 320) × ((x : ℕ) → x < 64 → getD (now t) (256 + x) 0 < 64) × (length (now sets) ≡ 64) ⌝ }
+pub fn stand(t: &[u32; Jobs::ROOM], sets: &[u64; Node::MOST], marks: u64, course: Course) -> bool
+    requires { ⌜ (length (now t) ≡ 321) × ((x : ℕ) → x < 64 → getD (now t) (256 + x) 0 < 64) × (length (now sets) ≡ 64) ⌝ }
     ensures { λ r. ⌜ ((v : Van) (s : List ℕ) (at : Layout) (l : List ℕ) (n : ℕ) → Ready s at l n (now (sets .entry)) marks
         → ByNode (jobIn s) (at .jobs) (now (t .entry)) → Coursed v (dayOf s) (now (t .entry)) (take n l) course
         → r ≡ alive v (dayOf s) (planFrom l n (now (sets .entry)) marks)) ⌝ }
@@ -325,7 +280,7 @@ pub fn stand(t: &[usize; Jobs::ROOM], sets: &[u64; Node::MOST], marks: u64, cour
 pub fn alive<'a>(
     s: &[u8],
     at: Layout,
-    t: &[usize; Jobs::ROOM],
+    t: &[u32; Jobs::ROOM],
     van: Van,
     route: &'a [usize; Node::MOST],
     stops: usize,

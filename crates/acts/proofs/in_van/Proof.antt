@@ -29,14 +29,23 @@ same-length c = search needs
 returns-2 : tie.Need-returns-2
 returns-2 c = search needs
 
-alone-requires : tie.Need-alone-requires
-alone-requires c κs = search needs
+settle-alone-requires : tie.Need-settle-alone-requires
+settle-alone-requires c κs = search needs
 
 same-length-2 : tie.Need-same-length-2
 same-length-2 c = search needs
 
 returns-3 : tie.Need-returns-3
 returns-3 c = search needs
+
+alone-requires : tie.Need-alone-requires
+alone-requires c κs = search needs
+
+same-length-3 : tie.Need-same-length-3
+same-length-3 c = search needs
+
+returns-4 : tie.Need-returns-4
+returns-4 c = search needs
 
 pub in-van-spec : {M : Type 1} → statement M
 in-van-spec =
@@ -47,6 +56,9 @@ in-van-spec =
     place-requires
     same-length
     returns-2
-    alone-requires
+    settle-alone-requires
     same-length-2
-    returns-3)
+    returns-3
+    alone-requires
+    same-length-3
+    returns-4)

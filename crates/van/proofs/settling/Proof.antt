@@ -9,15 +9,15 @@ use Rattle.van.proofs.settling.Statement.{statement}
 use Rattle.van.proofs.settling.Tie as tie
 
 settle-requires : tie.Need-settle-requires
-settle-requires c κs = let d = c .before .before .before .before .before in (ready-unmarked (d .pre .0), refl, omega (arith, d .pre .2))
+settle-requires c κs = let d = c .before .before .before .before .before in ((ready-unmarked (d .pre .0 .0), refl, omega (arith, d .pre .0 .2)), d .pre .1)
 
 settle-requires-2 : tie.Need-settle-requires-2
 settle-requires-2 c κs =
     let g = c .before .before .before in
     let d = g .before .before .before .before .before .before in
-    let r = d .pre .0 in
+    let r = d .pre .0 .0 in
     let new = ready-settled _ r (g .settle .ensures) in
-    ((r .sized, new .sized, nodes-most (r .laid), past-same r new), (d .pre .1, g .settle .ensures .still))
+    ((r .sized, new .sized, nodes-most (r .laid), past-same r new), (d .pre .0 .1, g .settle .ensures .still))
 
 same-length : tie.Need-same-length
 same-length c = search needs

@@ -1,4 +1,4 @@
-use Rattle.verdict.proofs.Standing.{routed}
+use Rattle.along.proofs.Facts.{routed}
 use Rattle.verdict.proofs.alive.Statement.{statement}
 use Rattle.verdict.proofs.alive.Tie as tie
 

@@ -3,7 +3,8 @@ use Prim.Native.Nat.{_+_, _-_, _<_, _≤_}
 use native.Mathlib.Omega.{arith}
 use lib.ListN.{getD}
 use Rattle.day.specs.Tell.{dayOf}
-use Rattle.verdict.proofs.Carry.{near, low, Laden, laden-none, laden-all, laden-wrong, laden-over, laden-next, up-low, down-low}
+use Rattle.along.proofs.Walking.{near, low}
+use Rattle.verdict.proofs.Carry.{Laden, laden-none, laden-all, laden-wrong, laden-over, laden-next, up-low, down-low}
 use Rattle.verdict.proofs.carried.Statement.{statement}
 use Rattle.verdict.proofs.carried.Tie as tie
 
@@ -53,6 +54,11 @@ element-copy-out-other c =
     let l = c .before .before .loop in
     let h : l .i < o .args .stops = omega arith in
     omega (arith, near (o .pre .0) (l .i) h, o .pre .0 .jobs .long)
+
+cast-other : tie.Need-cast-other Inv-loop μ-loop
+cast-other c =
+    let o = c .before .before .before .before .before .before in
+    let l = c .before .before .before .loop in omega (arith, low (o .pre .0) (256 + getD (o .args .route .now) (l .i) 0))
 
 holds-requires : tie.Need-holds-requires Inv-loop μ-loop
 holds-requires c κs =
@@ -180,6 +186,7 @@ carried-spec =
     add-other
     mul-other
     element-copy-out-other
+    cast-other
     holds-requires
     add-if1
     mul-if1

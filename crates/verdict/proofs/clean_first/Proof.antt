@@ -4,7 +4,7 @@ use native.Mathlib.Omega.{arith}
 use lib.ListN.{getD, take}
 use borrow.Author.Tests.{not-true, not-false}
 use Rattle.day.specs.Tell.{dayOf}
-use Rattle.verdict.proofs.Carry.{near}
+use Rattle.along.proofs.Walking.{near}
 use Rattle.verdict.proofs.Mixing.{Walked, unprofiled, profiled, walk-none, walk-stops, walk-next, walk-all}
 use Rattle.verdict.proofs.clean_first.Statement.{statement}
 use Rattle.verdict.proofs.clean_first.Tie as tie

@@ -1,5 +1,5 @@
 use mathlib.Core.Bool.{_&&_}
-use Rattle.verdict.proofs.Carry.{near}
+use Rattle.along.proofs.Walking.{near}
 use Rattle.verdict.proofs.sound.Statement.{statement}
 use Rattle.verdict.proofs.sound.Tie as tie
 

@@ -1,100 +1,121 @@
-use mathlib.Core.Path.{_≡_, refl, ap, _∙_}
+use mathlib.Core.Path.{_≡_, refl}
 use mathlib.Core.Logic.{⊎-elim}
-use Prim.Native.Nat.{_-_, _≤_}
+use Prim.Native.Nat.{_+_, _-_, _≤_}
 use native.Mathlib.Omega.{arith}
-use Rattle.laws.specs.Basic.{peak}
-use Rattle.laws.proofs.Peak.{peak-next}
-use Rattle.sheet.specs.declared.Layout.{Layout}
-use Rattle.sheet.specs.Section.{mOf}
-use Rattle.day.specs.Tell.{jobIn}
-use Rattle.day.proofs.Fit.{placed-read}
-use Rattle.rules.specs.Load.{loadOf}
-use Rattle.along.proofs.RouteLaws.{job-low}
-use Rattle.along.proofs.LoadLaws.{Stowed, stowed-none, stowed-more, stowed-run, stowed-loads, stowed-peak, stow-first-low}
+use lib.ListN.{getD, take}
+use Rattle.day.specs.Tell.{dayOf}
+use Rattle.along.proofs.Walking.{near, low, Riding, riding-none, riding-next, up-few, down-few}
 use Rattle.along.proofs.loads.loads.Statement.{statement}
 use Rattle.along.proofs.loads.loads.Tie as tie
 
 abbrev Inv-loop : tie.InvT-loop
-Inv-loop s at route stops spots h₀ off₀ first₀ heaviest₀ m j₀ h off first heaviest j =
-    (j ≤ m) × Stowed (jobIn s) route stops j first h off × (heaviest ≡ peak (λ k. loadOf (jobIn s k)) j)
+Inv-loop s t route stops spots h₀ aboard₀ highest₀ i₀ h aboard highest i = (i + 1 ≤ stops) × Riding (dayOf s) (take stops route) i aboard highest h
 
 abbrev μ-loop : tie.MeasureT-loop
-μ-loop s at route stops spots h₀ off₀ first₀ heaviest₀ m j₀ h off first heaviest j = m - j
+μ-loop s t route stops spots h₀ aboard₀ highest₀ i₀ h aboard highest i = stops - i
+
+at-start-requires : tie.Need-at-start-requires Inv-loop μ-loop
+at-start-requires c κs = c .before .pre .0
 
 loop-holds : tie.Need-loop-holds Inv-loop μ-loop
-unfolding peak
-loop-holds c = (omega arith, rw (c .before .pre .3) (stowed-none _ _ _), refl)
+loop-holds c =
+    let p = c .before .before .pre in
+    let e = c .at-start .ensures in (omega (arith, p .0 .route .some), riding-none (p .0) (e .0) (e .1) (p .2))
 
-job-requires : tie.Need-job-requires Inv-loop μ-loop
-job-requires c κs = (c .before .before .before .pre .0, omega arith)
+add-loop : tie.Need-add-loop Inv-loop μ-loop
+add-loop c = omega (arith, c .loop .inv .0)
 
-stow-requires : tie.Need-stow-requires Inv-loop μ-loop
-stow-requires c κs =
-    let p = c .before .before .before .before .before .before .pre in
-    let j = c .before .before .before .before .loop .j in
-    let v = c .before .before .before .before .loop .inv .1 in
-    let e = ap (λ (l : Layout). l .jobs) (p .0 .is) in
-    let q = c .before .before .job .ensures in
-    let w = job-low (c .before .before .before .before .before .before .args .s .now) j in (
-      (placed-read (p .0) j (omega arith) q, p .2 .long, v .wide, v .long, omega (arith, ap loadOf q, w)),
-      (λ i. omega (arith, v .comes i, p .0 .fine .m-high), λ i. omega (arith, v .goes i, p .0 .fine .m-high)),
-    )
+mul-x : tie.Need-mul-x Inv-loop μ-loop
+mul-x c = omega (arith, c .before .before .before .before .pre .0 .route .most)
 
-add-first : tie.Need-add-first Inv-loop μ-loop
-add-first c =
-    let a = c .before .before .before .before .before .before .before .args in
-    let p = c .before .before .before .before .before .before .before .pre in
-    let q = c .before .before .before .job in
-    omega (
-      arith,
-      c .stow .ensures .0,
-      stow-first-low (q .result) (a .spots .now),
-      ap loadOf (q .ensures),
-      job-low (a .s .now) (c .before .before .before .before .before .loop .j),
-      c .before .before .before .before .before .loop .inv .1 .low,
-      ap (λ (l : Layout). l .jobs) (p .0 .is),
-      p .0 .fine .m-high,
-    )
+element-copy-out-x : tie.Need-element-copy-out-x Inv-loop μ-loop
+element-copy-out-x c = let r = c .before .before .before .before .pre .0 .route in omega (arith, r .long, r .most)
 
-add-j : tie.Need-add-j Inv-loop μ-loop
-add-j c = omega arith
+add-other : tie.Need-add-other Inv-loop μ-loop
+add-other c = let o = c .before .before .before .before .before in let l = c .before .before .loop in omega (arith, near (o .pre .0) (l .i) (omega arith))
+
+mul-other : tie.Need-mul-other Inv-loop μ-loop
+mul-other c = let o = c .before .before .before .before .before in let l = c .before .before .loop in omega (arith, near (o .pre .0) (l .i) (omega arith))
+
+element-copy-out-other : tie.Need-element-copy-out-other Inv-loop μ-loop
+element-copy-out-other c =
+    let o = c .before .before .before .before .before in
+    let l = c .before .before .loop in omega (arith, near (o .pre .0) (l .i) (omega arith), o .pre .0 .jobs .long)
+
+cast-other : tie.Need-cast-other Inv-loop μ-loop
+cast-other c =
+    let o = c .before .before .before .before .before .before in
+    let l = c .before .before .before .loop in omega (arith, low (o .pre .0) (256 + getD (o .args .route .now) (l .i) 0))
+
+mul-k : tie.Need-mul-k Inv-loop μ-loop
+mul-k c =
+    let o = c .before .before .before .before .before .before in
+    let l = c .before .before .before .loop in omega (arith, o .pre .0 .jobs .near _ (near (o .pre .0) (l .i) (omega arith)))
+
+element-copy-out-k : tie.Need-element-copy-out-k Inv-loop μ-loop
+element-copy-out-k c =
+    let o = c .before .before .before .before .before .before in
+    let l = c .before .before .before .loop in omega (arith, o .pre .0 .jobs .near _ (near (o .pre .0) (l .i) (omega arith)), o .pre .1 .long)
+
+comes-requires : tie.Need-comes-requires Inv-loop μ-loop
+comes-requires c κs =
+    let o = c .before .before .before .before .before .before .before in
+    let l = c .before .before .before .before .loop in (o .pre .0 .jobs .long, near (o .pre .0) (l .i) (omega arith), low (o .pre .0))
+
+goes-requires : tie.Need-goes-requires Inv-loop μ-loop
+goes-requires c κs =
+    let o = c .before .before .before .before .before .before .before .before in
+    let l = c .before .before .before .before .before .loop in (o .pre .0 .jobs .long, near (o .pre .0) (l .i) (omega arith), low (o .pre .0))
+
+add-aboard : tie.Need-add-aboard Inv-loop μ-loop
+add-aboard c =
+    let o = c .before .before .before .before .before .before .before .before .before in
+    let l = c .before .before .before .before .before .before .loop in
+    omega (arith, l .inv .1 .few, o .pre .0 .route .most, up-few (o .pre .0) (o .pre .1) (l .inv .1) (omega arith) (c .before .comes .ensures) (c .goes .ensures))
+
+sub-aboard : tie.Need-sub-aboard Inv-loop μ-loop
+sub-aboard c =
+    let o = c .before .before .before .before .before .before .before .before .before in
+    let l = c .before .before .before .before .before .before .loop in
+    down-few (o .pre .0) (o .pre .1) (l .inv .1) (omega arith) (c .before .comes .ensures) (c .goes .ensures)
+
+mul-h : tie.Need-mul-h Inv-loop μ-loop
+mul-h c = omega (arith, c .before .before .before .before .before .before .before .before .before .pre .0 .route .most)
+
+element-write-h : tie.Need-element-write-h Inv-loop μ-loop
+element-write-h c =
+    let o = c .before .before .before .before .before .before .before .before .before in
+    let l = c .before .before .before .before .before .before .loop in omega (arith, o .pre .0 .route .most, l .inv .1 .legs .long)
+
+add-i : tie.Need-add-i Inv-loop μ-loop
+add-i c = omega arith
 
 loop-less : tie.Need-loop-less Inv-loop μ-loop
 loop-less c = omega arith
 
-load-requires : tie.Need-load-requires Inv-loop μ-loop
-load-requires c κs = tt
-
 loop-again : tie.Need-loop-again Inv-loop μ-loop
 loop-again c =
-    let k = c .before .before in
-    let o = k .before .before .before in
-    let v = o .before .before in
-    let a = v .before .before .args in
-    let p = v .before .before .pre in
-    let g = jobIn (a .s .now) in
-    let e : c .before .load .result ≡ loadOf (g (v .loop .j)) = c .before .load .ensures ∙ ap loadOf (o .job .ensures) in (
+    let g = c .before in
+    let o = g .before .before .before .before .before .before .before .before .before in
+    let l = g .before .before .before .before .before .before .loop in (
       omega arith,
-      rw (k .stow .ensures .0, k .stow .ensures .1, k .stow .ensures .2)
-          (stowed-more g (a .route .now) (a .stops) (v .loop .j) (omega arith) (omega arith) (p .1 .nodes) (p .2) (o .job .ensures)
-          (omega (arith, ap loadOf (o .job .ensures), job-low (a .s .now) (v .loop .j))) (v .loop .inv .1)),
-      ⊎-elim (λ w. omega (arith, peak-next (λ k. loadOf (g k)) (v .loop .j))) (λ w. omega (arith, peak-next (λ k. loadOf (g k)) (v .loop .j))) (c .if1 .came),
+      riding-next (o .pre .0) (o .pre .1) (l .inv .1) (omega arith) (g .before .comes .ensures) (g .goes .ensures) refl
+          (⊎-elim (λ w. omega arith) (λ w. omega arith) (c .if1 .came)),
     )
 
-run-requires : tie.Need-run-requires Inv-loop μ-loop
-run-requires c κs =
-    let p = c .before .before .before .before .before .pre in
-    let v = c .before .before .before .loop .inv .1 in
-    let e = ap (λ (l : Layout). l .jobs) (p .0 .is) in stowed-run (omega (arith, p .0 .fine .m-high)) (omega arith) v
+element-copy-out-heaviest : tie.Need-element-copy-out-heaviest Inv-loop μ-loop
+element-copy-out-heaviest c = omega (arith, c .before .before .before .before .pre .0 .jobs .long)
+
+cast-heaviest : tie.Need-cast-heaviest Inv-loop μ-loop
+cast-heaviest c = omega (arith, low (c .before .before .before .before .before .pre .0) 320)
 
 returns : tie.Need-returns Inv-loop μ-loop
 returns c =
-    let a = c .before .before .before .before .before .before .args in
-    let v = c .before .before .before .before .loop in
-    let m = ap (λ (l : Layout). l .jobs) (c .before .before .before .before .before .before .pre .0 .is) in
-    let e : v .j ≡ mOf (a .s .now) = omega arith in (
-      rw (← e) (stowed-loads (v .inv .1) (c .run .ensures .0)),
-      record { highest = rw (← e) (c .run .ensures .1 ∙ stowed-peak (v .inv .1)); heaviest = let z : v .j ≡ a .at .jobs = omega arith in rw z at (v .inv .2) },
+    let l = c .before .before .loop in
+    let o = c .before .before .before .before .before in
+    let e : l .i ≡ o .args .stops - 1 = omega arith in (
+      rw e at (l .inv .1 .legs),
+      record { highest = rw e at (l .inv .1 .peak); heaviest = o .pre .0 .jobs .heaviest },
     )
 
 pub loads-spec : {M : Type 1} → statement M
@@ -103,13 +124,26 @@ loads-spec =
     (tie.spec
     Inv-loop
     μ-loop
+    at-start-requires
     loop-holds
-    job-requires
-    stow-requires
-    add-first
-    load-requires
-    add-j
+    add-loop
+    mul-x
+    element-copy-out-x
+    add-other
+    mul-other
+    element-copy-out-other
+    cast-other
+    mul-k
+    element-copy-out-k
+    comes-requires
+    goes-requires
+    add-aboard
+    sub-aboard
+    mul-h
+    element-write-h
+    add-i
     loop-less
     loop-again
-    run-requires
+    element-copy-out-heaviest
+    cast-heaviest
     returns)

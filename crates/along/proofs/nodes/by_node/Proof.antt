@@ -1,11 +1,12 @@
 use mathlib.Core.Path.{_≡_, ap}
+use mathlib.Core.Logic.{⊎-elim}
 use Prim.Native.Nat.{_-_, _≤_}
 use native.Mathlib.Omega.{arith}
 use Rattle.day.specs.Tell.{jobIn}
 use Rattle.day.proofs.Fit.{placed-read}
 use Rattle.rules.specs.Load.{loadOf}
 use Rattle.along.specs.Nodes.{ByNode}
-use Rattle.along.proofs.RouteLaws.{job-low}
+use Rattle.along.proofs.RouteLaws.{job-light}
 use Rattle.along.proofs.ReadyLaws.{jobs-are}
 use Rattle.along.proofs.NodeLaws.{nodes-none, nodes-next}
 use Rattle.along.proofs.nodes.by_node.Statement.{statement}
@@ -29,10 +30,26 @@ enter-requires c κs =
     let o = c .before .before .before .before .before in
     let q = c .before .job in (
       placed-read (o .pre .0) (l .j) (omega arith) (q .ensures),
-      omega (arith, ap loadOf (q .ensures), job-low (o .args .s .now) (l .j)),
+      omega (arith, ap loadOf (q .ensures), job-light (o .pre .0) (l .j) (omega arith)),
       l .inv .1 .long,
       λ i. omega (arith, l .inv .1 .low i, jobs-are (o .pre .0), o .pre .0 .fine .m-high),
     )
+
+load-requires : tie.Need-load-requires Inv-loop μ-loop
+load-requires c κs = tt
+
+cast-load : tie.Need-cast-load Inv-loop μ-loop
+cast-load c =
+    let e = c .before in
+    let q = e .before .before .job in
+    let l = e .before .before .before .before .loop in
+    let o = e .before .before .before .before .before .before in omega (arith, c .load .ensures, ap loadOf (q .ensures), job-light (o .pre .0) (l .j) (omega arith))
+
+element-copy-out-most : tie.Need-element-copy-out-most Inv-loop μ-loop
+element-copy-out-most c = omega (arith, c .before .enter .ensures .long)
+
+element-write-t : tie.Need-element-write-t Inv-loop μ-loop
+element-write-t c = omega (arith, c .before .before .before .enter .ensures .long)
 
 add-j : tie.Need-add-j Inv-loop μ-loop
 add-j c = omega arith
@@ -42,10 +59,16 @@ loop-less c = omega arith
 
 loop-again : tie.Need-loop-again Inv-loop μ-loop
 loop-again c =
-    let l = c .before .before .before .before .loop in
-    let o = c .before .before .before .before .before .before in
-    let q = c .before .before .job in
-    (omega arith, nodes-next (q .ensures) (placed-read (o .pre .0) (l .j) (omega arith) (q .ensures)) (c .enter .ensures) (l .inv .1))
+    let e = c .before .before .before in
+    let q = e .before .before .job in
+    let l = e .before .before .before .before .loop in
+    let o = e .before .before .before .before .before .before in
+    let light : loadOf (q .result) ≤ 1000 = omega (arith, ap loadOf (q .ensures), job-light (o .pre .0) (l .j) (omega arith)) in
+    let w = c .before .before .load .ensures in (
+      omega arith,
+      nodes-next (q .ensures) (placed-read (o .pre .0) (l .j) (omega arith) (q .ensures)) light
+          (⊎-elim (λ t. omega (arith, w)) (λ t. omega (arith, w)) (c .if1 .came)) (e .enter .ensures) (l .inv .1),
+    )
 
 returns : tie.Need-returns Inv-loop μ-loop
 returns c =
@@ -61,6 +84,10 @@ by-node-spec =
     loop-holds
     job-requires
     enter-requires
+    load-requires
+    cast-load
+    element-copy-out-most
+    element-write-t
     add-j
     loop-less
     loop-again

@@ -27,6 +27,14 @@ mul-y c = omega (arith, c .lowest .ensures .1)
 element-copy-out-y : tie.Need-element-copy-out-y Inv-loop μ-loop
 element-copy-out-y c = omega (arith, named-low (omega arith) (c .before .before .loop .inv) (c .lowest .ensures .0))
 
+cast-y : tie.Need-cast-y Inv-loop μ-loop
+cast-y c =
+    omega (
+      arith,
+      c .before .before .before .before .pre .1 (c .before .lowest .result)
+          (named-low (omega arith) (c .before .before .before .loop .inv) (c .before .lowest .ensures .0)),
+    )
+
 put-requires : tie.Need-put-requires Inv-loop μ-loop
 put-requires c κs =
     c .before .before .before .before .pre .1 (c .before .lowest .result)
@@ -58,6 +66,7 @@ partners-of-spec =
     add-y
     mul-y
     element-copy-out-y
+    cast-y
     put-requires
     rest-requires
     loop-less

@@ -5,9 +5,9 @@ use native.Mathlib.Omega.{arith}
 use lib.ListN.{take, drop, getD}
 use Rattle.rules.specs.Load.{load}
 use Rattle.day.specs.Tell.{dayOf}
-use Rattle.verdict.proofs.Carry.{near, low, start-next, empty-load}
-use Rattle.verdict.proofs.at_start.Statement.{statement}
-use Rattle.verdict.proofs.at_start.Tie as tie
+use Rattle.along.proofs.Walking.{near, low, start-next, empty-load}
+use Rattle.along.proofs.loads.at_start.Statement.{statement}
+use Rattle.along.proofs.loads.at_start.Tie as tie
 
 abbrev Inv-loop : tie.InvT-loop
 Inv-loop s t route stops sum₀ i₀ sum i =
@@ -30,6 +30,9 @@ mul-sum c = let o = c .before .before .before in let l = c .before .before .loop
 
 element-copy-out-sum : tie.Need-element-copy-out-sum Inv-loop μ-loop
 element-copy-out-sum c = let o = c .before .before .before in let l = c .before .before .loop in omega (arith, near (o .pre) (l .i) (omega arith), o .pre .jobs .long)
+
+cast-sum : tie.Need-cast-sum Inv-loop μ-loop
+cast-sum c = let o = c .before .before .before .before in let l = c .before .before .before .loop in omega (arith, low (o .pre) (getD (o .args .route .now) (l .i) 0))
 
 add-sum : tie.Need-add-sum Inv-loop μ-loop
 add-sum c = let o = c .before .before .before .before in let l = c .before .before .before .loop in omega (arith, l .inv .1, low (o .pre) (getD (o .args .route .now) (l .i) 0), o .pre .route .most)
@@ -64,6 +67,7 @@ at-start-spec =
     element-copy-out-x
     mul-sum
     element-copy-out-sum
+    cast-sum
     add-sum
     add-i
     loop-less

@@ -2,8 +2,8 @@ use mathlib.Core.Path.{refl}
 use Prim.Native.Nat.{_+_}
 use native.Mathlib.Omega.{arith}
 use borrow.Author.Needs.{needs}
-use Rattle.verdict.proofs.comes.Statement.{statement}
-use Rattle.verdict.proofs.comes.Tie as tie
+use Rattle.along.proofs.loads.comes.Statement.{statement}
+use Rattle.along.proofs.loads.comes.Tie as tie
 
 add-soiled : tie.Need-add-soiled
 add-soiled c = search needs
@@ -14,6 +14,9 @@ mul-soiled c = search needs
 element-copy-out-soiled : tie.Need-element-copy-out-soiled
 element-copy-out-soiled c = search needs
 
+cast-soiled : tie.Need-cast-soiled
+cast-soiled c = let o = c .before in omega (arith, o .pre .2 (64 + o .args .x))
+
 add-result : tie.Need-add-result
 add-result c = search needs
 
@@ -22,6 +25,9 @@ mul-result c = search needs
 
 element-copy-out-result : tie.Need-element-copy-out-result
 element-copy-out-result c = search needs
+
+cast-result : tie.Need-cast-result
+cast-result c = let o = c .before .before .before in omega (arith, o .pre .2 (128 + o .args .x))
 
 add-result-2 : tie.Need-add-result-2
 add-result-2 c = let o = c .before .before .before in omega (arith, o .pre .2 (64 + o .args .x), o .pre .2 (128 + o .args .x))
@@ -39,9 +45,11 @@ comes-spec =
     add-soiled
     mul-soiled
     element-copy-out-soiled
+    cast-soiled
     add-result
     mul-result
     element-copy-out-result
+    cast-result
     add-result-2
     returns
     returns-2)
