@@ -56,11 +56,14 @@ pub job-low : (s : List ℕ) (i : ℕ) → loadOf (jobIn s i) < 4294967296
 unfolding jobAt
 job-low s i = let p = jobsAt s + 1 + size.job * i in of-low (wordAt s p) (wordAt s (p + 1)) (wordAt s (p + 2)) (wordAt s (p + 3)) (word-low s (p + 3))
 
-fine-light : (n : ℕ) (j : Job) → jobFine n j ≡ true → loadOf j ≤ 1000
-fine-light n (Clean a w) e = leb-true w 1000 (and-true (leb 1 w) (leb w 1000) (and-true (isInner n a) (loadOk w) e .1) .1)
-fine-light n (Soiled a w) e = leb-true w 1000 (and-true (leb 1 w) (leb w 1000) (and-true (isInner n a) (loadOk w) e .1) .1)
-fine-light n (Transfer a b w) e = leb-true w 1000 (and-true (leb 1 w) (leb w 1000) (and-true (isInner n a && isInner n b && not (eqb a b)) (loadOk w) e .1) .1)
+fine-load : (n : ℕ) (j : Job) → jobFine n j ≡ true → loadOk (loadOf j) ≡ true
+fine-load n (Clean a w) e = and-true (isInner n a) (loadOk w) e .1
+fine-load n (Soiled a w) e = and-true (isInner n a) (loadOk w) e .1
+fine-load n (Transfer a b w) e = and-true (isInner n a && isInner n b && not (eqb a b)) (loadOk w) e .1
 
--- a job of an accepted sheet loads at most 1,000
-pub job-light : {s : List ℕ} {at : Layout} → Laid s at → (i : ℕ) → i < at .jobs → loadOf (jobIn s i) ≤ 1000
-job-light {s} p i h = fine-light (nOf s) (jobIn s i) (fine-job s (p .fine) i (omega (arith, jobs-are p)))
+-- a job of an accepted sheet loads something, and at most 1,000
+pub job-load : {s : List ℕ} {at : Layout} → Laid s at → (i : ℕ) → i < at .jobs → (1 ≤ loadOf (jobIn s i)) × (loadOf (jobIn s i) ≤ 1000)
+job-load {s} p i h =
+    let w = loadOf (jobIn s i) in
+    let b = and-true (leb 1 w) (leb w 1000) (fine-load (nOf s) (jobIn s i) (fine-job s (p .fine) i (omega (arith, jobs-are p)))) in
+    (leb-true 1 w (b .0), leb-true w 1000 (b .1))

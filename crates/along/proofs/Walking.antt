@@ -7,29 +7,27 @@ use mathlib.Core.Logic.{⊎-elim, _⊎_, inl, inr, _≢_}
 use native.Mathlib.Numerals.{add-one}
 use native.Mathlib.Nat.{eq-or-lt-of-le, le-of-suc-le-suc}
 use native.Mathlib.Omega.{arith}
-use lib.Dec.{leb, ltb, eqb}
+use lib.Dec.{ltb, eqb}
 use lib.ListN.{getD, set, take, drop, length, length-take, drop-of-length-le}
 use lib.Seq.{getD-take, drop-cons}
-use borrow.Author.Tests.{eq-eqb, eqb-true, eqb-false, leb-true}
+use borrow.Author.Tests.{eq-eqb, eqb-true, eqb-false}
 use Rattle.laws.proofs.Logic.{decided, true→T}
-use Rattle.laws.proofs.Logic.{and-true as and-both}
 use Rattle.laws.specs.Basic.{mem, In, sumBelow, tab, peak, Filled}
 use Rattle.laws.proofs.Peak.{peak-next}
 use Rattle.laws.proofs.Table.{filled-none, filled-more}
-use Rattle.rules.specs.Day.{Day, isInner}
-use Rattle.rules.specs.Load.{aboard, sum, load}
+use Rattle.rules.specs.Day.{Day}
+use Rattle.rules.specs.Load.{loadOf, aboard, sum, load}
 use Rattle.rules.specs.Along.{behind, loadAt}
 use Rattle.rules.specs.declared.Job.{Job}
 use Rattle.rules.specs.declared.Job.the-variants.{Clean, Soiled, Transfer}
 use Rattle.rules.proofs.AlongLaws.{stops-apart}
 use Rattle.sheet.specs.declared.Layout.{Layout}
-use Rattle.day.specs.Tell.{dayOf, jobIn, jobFine, loadOk}
-use Rattle.day.proofs.Fit.{fine-job}
+use Rattle.day.specs.Tell.{dayOf, jobIn}
 use Rattle.day.proofs.Asked.{proper, one-end}
 use Rattle.along.specs.Nodes.{firstLoad, mateIn, Routed}
 use Rattle.along.specs.Spots.{spot, Spots}
 use Rattle.along.proofs.ReadyLaws.{jobs-are, nodes-most}
-use Rattle.along.proofs.RouteLaws.{node-at}
+use Rattle.along.proofs.RouteLaws.{node-at, job-load}
 use Rattle.along.proofs.SpotLaws.{behind-found, drop-found, spot-node, spot-ahead, spot-before}
 use Rattle.along.proofs.LoadLaws.{cond-low}
 use Rattle.along.proofs.Mating.{in-at, first-mate, second-mate, load-front, load-past}
@@ -158,15 +156,10 @@ module _ {s : List ℕ} {at : Layout} {l : List ℕ} {n : ℕ} {t : List ℕ} (r
         ∙ load-past d (jobIn s) (at .jobs) told x (behind m i) (drop (suc i) m) (mate x) none-behind none-ahead (λ k a b w h e. mates k a b w h e x small)
         ∙ (λ u. load d (behind m i) (sym cut u) + (sym (r .jobs .soiled x small) u + cond (mem (mate x) (drop (suc i) m)) (sym (r .jobs .first x small) u) 0))
 
-  load-some : (k a b w : ℕ) → k < at .jobs → jobIn s k ≡ Transfer a b w → 1 ≤ w
-  load-some k a b w h e =
-      let q : jobFine (dayOf s .n) (Transfer a b w) ≡ true = ap (jobFine (dayOf s .n)) (sym e) ∙ fine-job s (r .laid .fine) k (omega (arith, jobs-are (r .laid))) in
-      leb-true 1 w (and-both (leb 1 w) (leb w 1000) (and-both (isInner (dayOf s .n) a && isInner (dayOf s .n) b && not (eqb a b)) (loadOk w) q .1) .0)
-
   -- a transfer's load is part of what begins at its first node
   pub first-some : (k a b w : ℕ) → k < at .jobs → jobIn s k ≡ Transfer a b w → a < 64 → getD t (128 + a) 0 ≢ 0
   first-some k a b w h e c z =
-      let p = load-some k a b w h e in
+      let p : 1 ≤ w = omega (arith, job-load (r .laid) k h .0, ap loadOf e) in
       let q : firstLoad a (jobIn s k) ≡ w = ap (firstLoad a) e ∙ rw (eq-eqb a a refl) refl in
       omega (arith, p, q, sum-part (at .jobs) k (λ j. firstLoad a (jobIn s j)) h, r .jobs .first a c, z)
 

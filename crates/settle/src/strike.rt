@@ -173,9 +173,8 @@ pub fn strike_pairs(
     before: &[u64; Node::MOST],
     h: &[usize; Node::MOST],
 ) -> bool
-    requires { ⌜ Ready (now s) at (now route) (pass .stops) (now new) 0 × Legs (now route) (now h) (rideOf pass 0)
-        × Marked (now route) (pass .stops - 1) (now spots) (now before) ⌝ }
-    requires { ⌜ ByNode (jobIn (now s)) (at .jobs) (now t) ⌝ }
+    requires { ⌜ Ready (now s) at (now route) (pass .stops) (now new) 0 × Legs (now route) (now h) (rideOf pass 0) ⌝ }
+    requires { ⌜ Marked (now route) (pass .stops - 1) (now spots) (now before) × ByNode (jobIn (now s)) (at .jobs) (now t) ⌝ }
     ensures { λ r. ⌜ Kepts (now (route .entry)) (pass .stops - 1)
         (jobsLeave (pairLeaves (now (new .entry)) (now (route .entry)) (now (h .entry)) pass) (jobIn (now (s .entry))) (at .jobs))
         (now (new .entry)) (now (new .exit)) × (r ≡ not (sameSets (now (new .entry)) (now (new .exit)))) ⌝ }

@@ -5,7 +5,7 @@ use mathlib.Core.Logic.{_≢_}
 use mathlib.Core.Bool.{Bool, true, false, cond, not, _||_}
 use mathlib.Core.List.{List, [], _∷_}
 use native.Mathlib.Omega.{arith}
-use lib.ListN.{length, getD, set, take, replicate, getD-replicate, length-set}
+use lib.ListN.{length, getD, set, take, replicate, getD-replicate, length-set, length-replicate}
 use lib.Seq.{getD-set-same, getD-set-other}
 use lib.Dec.{eqb, ltb}
 use borrow.Author.Tests.{eqb-true, eqb-false, lt-ltb, le-ltb}
@@ -50,11 +50,10 @@ told-flag true = refl
 told-flag false = refl
 
 -- before anything is told or kept
-pub told-none : RowsOf 3 (replicate mostVans (replicate 3 0))
-told-none = let none : List ℕ = replicate 3 0 in record { eight = refl; wide = λ j l. ap length (getD-replicate mostVans j none [] l) }
-
-pub kept-none : RowsOf 4 (replicate mostVans (replicate 4 0))
-kept-none = let none : List ℕ = replicate 4 0 in record { eight = refl; wide = λ j l. ap length (getD-replicate mostVans j none [] l) }
+pub rows-none : (w : ℕ) → RowsOf w (replicate mostVans (replicate w 0))
+rows-none w =
+    let none : List ℕ = replicate w 0 in
+    record { eight = length-replicate mostVans none; wide = λ j l. ap length (getD-replicate mostVans j none [] l) ∙ length-replicate w 0 }
 
 -- where neither every one is asked for nor the number is another
 pub as-before : (every : Bool) (a b : ℕ) → every || not (eqb a b) ≡ false → (every ≡ false) × (a ≡ b)

@@ -140,8 +140,7 @@ pub fn tell_vans<'a>(
     told: &mut [[usize; Told::COUNT]; Fleet::VANS],
     ways: &mut [[u64; Way::COUNT]; Fleet::VANS],
 )
-    requires { ⌜ ReadyAll (now sheet) at (now routes) (now sets) (now figures) × RowsOf 3 (now told)
-        × ByNode (jobIn (now sheet)) (at .jobs) (now jobs) ⌝ }
+    requires { ⌜ ReadyAll (now sheet) at (now routes) (now sets) (now figures) × RowsOf 3 (now told) × ByNode (jobIn (now sheet)) (at .jobs) (now jobs) ⌝ }
     requires { ⌜ RowsOf 4 (now ways) × (every ≡ false → KeptSome (now sheet) (now jobs) (now routes) (now figures) (now told) (now ways)) ⌝ }
     ensures { λ _. ⌜ RowsOf 3 (now (told .exit)) ⌝ }
     ensures { λ _. ⌜ KeptAll (now (sheet .entry)) (now (jobs .entry)) (now (routes .entry)) (now (figures .entry)) (now (ways .exit)) ⌝ }

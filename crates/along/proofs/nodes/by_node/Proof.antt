@@ -6,7 +6,7 @@ use Rattle.day.specs.Tell.{jobIn}
 use Rattle.day.proofs.Fit.{placed-read}
 use Rattle.rules.specs.Load.{loadOf}
 use Rattle.along.specs.Nodes.{ByNode}
-use Rattle.along.proofs.RouteLaws.{job-light}
+use Rattle.along.proofs.RouteLaws.{job-load}
 use Rattle.along.proofs.ReadyLaws.{jobs-are}
 use Rattle.along.proofs.NodeLaws.{nodes-none, nodes-next}
 use Rattle.along.proofs.nodes.by_node.Statement.{statement}
@@ -30,7 +30,7 @@ enter-requires c κs =
     let o = c .before .before .before .before .before in
     let q = c .before .job in (
       placed-read (o .pre .0) (l .j) (omega arith) (q .ensures),
-      omega (arith, ap loadOf (q .ensures), job-light (o .pre .0) (l .j) (omega arith)),
+      omega (arith, ap loadOf (q .ensures), job-load (o .pre .0) (l .j) (omega arith) .1),
       l .inv .1 .long,
       λ i. omega (arith, l .inv .1 .low i, jobs-are (o .pre .0), o .pre .0 .fine .m-high),
     )
@@ -43,7 +43,7 @@ cast-load c =
     let e = c .before in
     let q = e .before .before .job in
     let l = e .before .before .before .before .loop in
-    let o = e .before .before .before .before .before .before in omega (arith, c .load .ensures, ap loadOf (q .ensures), job-light (o .pre .0) (l .j) (omega arith))
+    let o = e .before .before .before .before .before .before in omega (arith, c .load .ensures, ap loadOf (q .ensures), job-load (o .pre .0) (l .j) (omega arith) .1)
 
 element-copy-out-most : tie.Need-element-copy-out-most Inv-loop μ-loop
 element-copy-out-most c = omega (arith, c .before .enter .ensures .long)
@@ -63,7 +63,7 @@ loop-again c =
     let q = e .before .before .job in
     let l = e .before .before .before .before .loop in
     let o = e .before .before .before .before .before .before in
-    let light : loadOf (q .result) ≤ 1000 = omega (arith, ap loadOf (q .ensures), job-light (o .pre .0) (l .j) (omega arith)) in
+    let light : loadOf (q .result) ≤ 1000 = omega (arith, ap loadOf (q .ensures), job-load (o .pre .0) (l .j) (omega arith) .1) in
     let w = c .before .before .load .ensures in (
       omega arith,
       nodes-next (q .ensures) (placed-read (o .pre .0) (l .j) (omega arith) (q .ensures)) light

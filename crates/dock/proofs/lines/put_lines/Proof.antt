@@ -13,7 +13,7 @@ use Rattle.listing.specs.Put.{Put}
 use Rattle.listing.proofs.TextLaws.{step-takes}
 use Rattle.dock.specs.Listing.{comeTo, linesOf, Reached}
 use Rattle.telling.specs.Told.{toldIn, ToldAll, sumsOf, KeptAll}
-use Rattle.telling.proofs.VanLaws.{told-none, kept-none}
+use Rattle.telling.proofs.VanLaws.{rows-none}
 use Rattle.dock.proofs.Reach.{begun, readied, goes-on, line-is, summing, told-on, kept-on, still}
 use Rattle.dock.proofs.LineLaws.{come-none, come-next, lines-none, lines-next}
 use borrow.Author.Needs.{needs}
@@ -36,7 +36,7 @@ tell-vans-requires c κs =
     let d = c .before .before .before .before .before .before .before .before in
     let a = d .args in
     let r = readied (d .pre .0 .0) (d .pre .0 .1) (a .routes .now) (a .sets .now) (a .levels .now) (a .figures .now) (d .pre .1 .0 .3) (begun (a .trail .now) (d .pre .1 .1)) in
-    ((r, told-none, d .pre .0 .3), (kept-none, λ e. absurd (false-true (sym e))))
+    ((r, rows-none 3, d .pre .0 .3), (rows-none 4, λ e. absurd (false-true (sym e))))
 
 -- the fresh fleet is told
 first : (c : tie.After-tell-vans Inv-loop μ-loop) → let a = c .before .before .before .before .before .before .before .before .before .args in

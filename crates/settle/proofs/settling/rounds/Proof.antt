@@ -27,7 +27,7 @@ strike-pairs-requires c κs =
     let d = c .before .before .before .before .before .before .before in
     let p = d .pre .0 in
     let f = ready-first (d .args .pass .van) (p .0) (rw (d .pre .1 .0) at (c .before .before .before .before .round .ensures)) in
-    ((f, legs (p .0) (p .1), marked (p .0) (p .1 .spots) (p .1 .before)), d .pre .1 .1)
+    ((f, legs (p .0) (p .1)), (marked (p .0) (p .1 .spots) (p .1 .before), d .pre .1 .1))
 
 returns-2 : tie.Need-returns-2
 returns-2 c =

@@ -12,7 +12,7 @@ use Rattle.settle.proofs.strike.round.Statement.{statement}
 use Rattle.settle.proofs.strike.round.Tie as tie
 
 strike-pairs-requires : tie.Need-strike-pairs-requires
-strike-pairs-requires c κs = let d = c .before .before .pre in let p = d .0 in ((p .0, legs (p .0) (p .1), marked (p .0) (p .1 .spots) (p .1 .before)), d .1)
+strike-pairs-requires c κs = let d = c .before .before .pre in let p = d .0 in ((p .0, legs (p .0) (p .1)), (marked (p .0) (p .1 .spots) (p .1 .before), d .1))
 
 strike-mixed-requires : tie.Need-strike-mixed-requires
 strike-mixed-requires c κs = ready-kepts (c .before .before .before .before .pre .0 .0) (c .before .strike-pairs .ensures .0)

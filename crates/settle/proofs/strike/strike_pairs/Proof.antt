@@ -34,7 +34,7 @@ mul-if1 : tie.Need-mul-if1 Inv-loop μ-loop
 mul-if1 c = omega (arith, node c)
 
 element-copy-out-if1 : tie.Need-element-copy-out-if1 Inv-loop μ-loop
-element-copy-out-if1 c = omega (arith, node c, c .before .before .before .pre .1 .long)
+element-copy-out-if1 c = omega (arith, node c, c .before .before .before .pre .1 .1 .long)
 
 strike-pair-requires : tie.Need-strike-pair-requires Inv-loop μ-loop
 strike-pair-requires c κs =
@@ -42,8 +42,9 @@ strike-pair-requires c κs =
     let l = k .before in
     let d = l .before .before in
     let p = d .pre .0 in
-    let j = from-asked (routed (p .0) (d .pre .1)) (d .args .pass) (p .1) (l .loop .x) (node k) (c .before .if1 .taken) in
-    ((d .pre .1 .long, j .0, j .1, omega (arith, two-stops (p .0))), (l .loop .inv .1 .long, j .2, p .2))
+    let b = d .pre .1 .1 in
+    let j = from-asked (routed (p .0) b) (d .args .pass) (p .1) (l .loop .x) (node k) (c .before .if1 .taken) in
+    ((b .long, j .0, j .1, omega (arith, two-stops (p .0))), (l .loop .inv .1 .long, j .2, d .pre .1 .0))
 
 add-x : tie.Need-add-x Inv-loop μ-loop
 add-x c = omega (arith, node (c .before .before))
@@ -63,7 +64,7 @@ joined c =
     let v = l .loop .inv in
     let x = l .loop .x in
     let g = jobFrom (a .t .now) in
-    let apart = from-apart (routed (d .pre .0 .0) (d .pre .1)) x (node k) in
+    let apart = from-apart (routed (d .pre .0 .0) (d .pre .1 .1)) x (node k) in
     ⊎-elim
     (λ w. let e = sym (from-some (a .t .now) x (w .0 .taken)) in
     let p = w .2 .ensures in
@@ -81,7 +82,7 @@ returns c =
     let d = c .before .before .before in
     let a = d .args in
     let e : c .before .loop .x ≡ a .at .nodes = omega arith in
-    (kepts-same (λ y i b. from-all (routed (d .pre .0 .0) (d .pre .1)) (a .new .now) (a .h .now) (a .pass) y i) (rw e at (v .1)), v .2)
+    (kepts-same (λ y i b. from-all (routed (d .pre .0 .0) (d .pre .1 .1)) (a .new .now) (a .h .now) (a .pass) y i) (rw e at (v .1)), v .2)
 
 pub strike-pairs-spec : {M : Type 1} → statement M
 strike-pairs-spec =
