@@ -13,7 +13,7 @@ use rules::Node;
 use sheet::Layout;
 
 // The most that is aboard on any leg, and the most that any job loads.
-#[derive(Drop)]
+#[derive(Clone, Copy)]
 pub struct Peaks {
     pub highest: usize,
     pub heaviest: usize,

@@ -10,7 +10,7 @@ use rules::Job;
 use sheet::Layout;
 
 // The array that has them, and where its parts begin: the clean loads at its head, one for each node. At its end is the most that one job loads.
-#[derive(Drop)]
+#[derive(Clone, Copy)]
 pub struct Jobs;
 
 impl Jobs {

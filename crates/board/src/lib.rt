@@ -13,7 +13,7 @@ use rules::Node;
 
 // The route, each unplaced node's set of open places, the marks of required nodes, those of wards that must go somewhere, and for each level the
 // record count when it was opened.
-#[derive(Drop)]
+#[derive(Clone, Copy)]
 pub struct State {
     pub route: [usize; Node::MOST],
     pub stops: usize,
@@ -26,7 +26,7 @@ pub struct State {
 }
 
 // The numbers of a state beside its three arrays.
-#[derive(Drop)]
+#[derive(Clone, Copy)]
 pub struct Figures {
     pub stops: usize,
     pub marks: u64,

@@ -48,7 +48,7 @@ pub fn job(s: &[u8], l: Layout, i: usize) -> Job
 }
 
 // The nodes at which a clean job, a soiled job or a transfer end was met, each a word, and whether one of them was met again.
-#[derive(Drop)]
+#[derive(Clone, Copy)]
 pub struct Seen {
     pub clean: u64,
     pub soiled: u64,
@@ -85,7 +85,7 @@ fn see(seen: Seen, job: Job) -> Seen
 
 // What all jobs together are held to: whether no node has two jobs of one kind, or two transfer ends, and the most that one job loads; and the nodes that
 // have a clean job, and a soiled one.
-#[derive(Drop)]
+#[derive(Clone, Copy)]
 pub struct Looked {
     pub apart: bool,
     pub heaviest: usize,

@@ -49,7 +49,7 @@ pub fn opening(s: &[u8]) -> Found
 }
 
 // A stretch of words.
-#[derive(Drop)]
+#[derive(Clone, Copy)]
 pub struct Span {
     pub from: usize,
     pub count: usize,

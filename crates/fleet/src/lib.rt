@@ -17,7 +17,7 @@ use rules::{Node, Van};
 use sheet::Layout;
 
 // The states of the vans, the marks "must go somewhere" in that of the first; a state that is no van has every number 0.
-#[derive(Drop)]
+#[derive(Clone, Copy)]
 pub struct Fleet {
     pub vans: [State; Fleet::VANS],
 }

@@ -18,7 +18,7 @@ use board::route::word;
 use rules::Node;
 
 // The wards on a route of some van, those that some van has on its route or open, and whether no ward on a route is on or open in another van.
-#[derive(Drop)]
+#[derive(Clone, Copy)]
 pub struct Wards {
     pub placed: u64,
     pub reached: u64,

@@ -15,7 +15,7 @@ use sheet::Layout;
 
 // A gap of the route, into which a node is tried: its two stops, when the first is left, by when the second has to be started, how many metres
 // the route may have with the leg between them still counted, and how many it has.
-#[derive(Drop)]
+#[derive(Clone, Copy)]
 pub struct Gap {
     pub from: usize,
     pub to: usize,
@@ -26,7 +26,7 @@ pub struct Gap {
 }
 
 // A node that is tried at each of its places, on a route of so many metres.
-#[derive(Drop)]
+#[derive(Clone, Copy)]
 pub struct Trial {
     pub node: usize,
     pub places: u64,

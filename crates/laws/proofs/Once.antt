@@ -88,7 +88,7 @@ module _ {A : Type 0} where
           (λ j. (there (k j).0, (k j).1)) (in-cons j)
       go false e j k = (there (k j).0, (k j).1)
 
-  pub in-only : (f : A → Bool) {l : List A} {x : A} → In x l → T (f x) → In x (only f l)
+  pub in-only : (f : A → Bool) {x : A} {l : List A} → In x l → T (f x) → In x (only f l)
   unfolding only
   in-only f {x = x} (here {l = l}) t = subst (λ (b : Bool). In x (cond b (x ∷ only f l) (only f l))) (sym (T→true (f x) t)) here
   in-only f {x = x} (there {b = y} {l = l} i) t = go (f y) (in-only f i t)

@@ -6,7 +6,7 @@ ghost use Rattle.listing.specs.Put.{Put};
 use rules::Node;
 
 // Three numbers of a line.
-#[derive(Drop)]
+#[derive(Clone, Copy)]
 pub struct Three {
     pub first: u64,
     pub second: u64,

@@ -40,7 +40,7 @@ fn listing_of(sheet: &[u8], trail: &mut [u64], out: &mut [u8]) -> u64
 }
 
 // A step that is measured.
-#[derive(Drop)]
+#[derive(Clone, Copy)]
 struct Task {
     word: usize,
     first: usize,

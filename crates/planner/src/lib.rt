@@ -25,21 +25,21 @@ use sheet::{Found, Layout};
 use turns::{Outcomes, Turned};
 
 // What opening gives: 0 and the fresh fleet, or the number of a refusal and the fleet with every number 0.
-#[derive(Drop)]
+#[derive(Clone, Copy)]
 pub struct Opened {
     pub answer: usize,
     pub fleet: Fleet,
 }
 
 // The open places in all, or the number of a refusal beside 0.
-#[derive(Drop)]
+#[derive(Clone, Copy)]
 pub struct Counted {
     pub answer: usize,
     pub places: usize,
 }
 
 // The verdict, or the number of a refusal beside dead.
-#[derive(Drop)]
+#[derive(Clone, Copy)]
 pub struct Judged {
     pub answer: usize,
     pub alive: bool,

@@ -15,7 +15,7 @@ const TRAIL: usize = 65536;
 const HEAD: usize = 12600;
 
 // What stands before a case's bytes and trail words.
-#[derive(Drop)]
+#[derive(Clone, Copy)]
 struct Case {
     bytes: usize,
     words: usize,
@@ -27,7 +27,7 @@ struct Case {
 }
 
 // The numbers that begin a line, and the fleet that came back.
-#[derive(Drop)]
+#[derive(Clone, Copy)]
 struct Told {
     answer: usize,
     rounds: usize,
@@ -315,7 +315,7 @@ fn unpack(trail: &mut [u64], bytes: &[u8]) {
 }
 
 // How much text the buffer holds, and whether to go on.
-#[derive(Drop)]
+#[derive(Clone, Copy)]
 struct Next {
     used: usize,
     more: bool,

@@ -7,7 +7,7 @@ use rules::Node;
 
 // The nodes with a clean job, and the legs that are too late for them; the nodes with a soiled job, and the legs that are too early for them. A leg is
 // named by the stop that it leaves, as a place is.
-#[derive(Drop)]
+#[derive(Clone, Copy)]
 pub struct Shut {
     pub clean: u64,
     pub late: u64,

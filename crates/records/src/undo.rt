@@ -15,7 +15,7 @@ use board::route::word;
 use rules::Node;
 
 // Whether it fitted, and the numbers of the board after, its legs as a set among them.
-#[derive(Drop)]
+#[derive(Clone, Copy)]
 pub struct Undone {
     pub fits: bool,
     pub stops: usize,

@@ -5,7 +5,7 @@ ghost use Rattle.records.specs.Trail.{room_of, pushed, change, first_word, Alike
 use rules::Node;
 
 // A record, named by its kind.
-#[derive(Drop)]
+#[derive(Clone, Copy)]
 pub struct Record;
 
 impl Record {

@@ -8,7 +8,7 @@ ghost use Rattle.rules.specs.Class.{admits};
 
 // A job is one of three things, each with its own data: aboard from the start to a node, from a node to the end,
 // or from one node to another.
-#[derive(Drop)]
+#[derive(Clone, Copy)]
 pub enum Job {
     Clean { node: usize, load: usize },
     Soiled { node: usize, load: usize },
@@ -36,7 +36,7 @@ impl Job {
 }
 
 // What one van can carry, and how far it may drive.
-#[derive(Drop)]
+#[derive(Clone, Copy)]
 pub struct Van {
     pub capacity: usize,
     pub limit: usize,
@@ -48,7 +48,7 @@ impl Van {
 }
 
 // A node of the day: the start, a ward or the end, named by its number.
-#[derive(Drop)]
+#[derive(Clone, Copy)]
 pub struct Node;
 
 impl Node {
@@ -64,7 +64,7 @@ impl Node {
 }
 
 // A step that a sheet or a caller asks for: the van it is for, its kind, and two words for the nodes that it names.
-#[derive(Drop)]
+#[derive(Clone, Copy)]
 pub struct Step {
     pub van: usize,
     pub kind: usize,
@@ -109,7 +109,7 @@ impl Step {
 }
 
 // Why a sheet or a step is refused: 01's table of numbers. Each is explained in specs/Numbers.antt.
-#[derive(Drop)]
+#[derive(Clone, Copy)]
 pub struct Refusal;
 
 impl Refusal {

@@ -26,7 +26,7 @@ use sheet::Layout;
 use walks::{Partner, Ride, backward, forward, from_start, has_room, to_end};
 
 // What a pass over the places carries: the van, how many stops the route has, and the peaks of what is aboard and loaded.
-#[derive(Drop)]
+#[derive(Clone, Copy)]
 pub struct Pass {
     pub van: Van,
     pub stops: usize,

@@ -10,7 +10,7 @@ use rules::{Job, Node, Refusal, Step, Van};
 use words::{Entry, all_limits_ok, entries_ok, jobs_ok, nodes_ok, word};
 
 // Where an accepted sheet has what: how many vans, nodes, jobs and steps, and the word of the first van, node, job, second, metre and step.
-#[derive(Drop)]
+#[derive(Clone, Copy)]
 pub struct Layout {
     pub vans: usize,
     pub nodes: usize,
@@ -25,7 +25,7 @@ pub struct Layout {
 }
 
 // What reading a sheet hands on: the number that refuses it, or 0, and its layout, all zeros where its sections are refused.
-#[derive(Drop)]
+#[derive(Clone, Copy)]
 pub struct Found {
     pub answer: usize,
     pub layout: Layout,
@@ -68,7 +68,7 @@ impl Found {
 }
 
 // A section that was read: the number that refuses it, or 0 and its count, the word of its first entry and the word behind its last.
-#[derive(Drop)]
+#[derive(Clone, Copy)]
 struct Part {
     answer: usize,
     count: usize,

@@ -10,7 +10,7 @@ ghost use Rattle.tables.specs.Square.{wide_of, InRange, Cleared, Copied, Squared
 use words::word;
 
 // A table as numbers, each built from its bytes once: its rows one after another, each with 0 on the diagonal and made up with 0 to `wide` entries.
-#[derive(Drop)]
+#[derive(Clone, Copy)]
 struct Square;
 
 impl Square {

@@ -26,7 +26,7 @@ use sheet::Layout;
 use verdict::Course;
 
 // What a line tells of a van: its open places, its records, and its verdict, in a row.
-#[derive(Drop)]
+#[derive(Clone, Copy)]
 pub struct Told;
 
 impl Told {
@@ -40,7 +40,7 @@ pub fn one_if(b: bool) -> usize
 }
 
 // What is kept of a van's route from line to line, in a row: how many stops it had, 1 where it keeps the rules, its nodes, and their partners.
-#[derive(Drop)]
+#[derive(Clone, Copy)]
 pub struct Way;
 
 impl Way {
@@ -169,7 +169,7 @@ pub fn tell_vans<'a>(
 }
 
 // What a line tells of all vans: open places and records in all, and the verdict.
-#[derive(Drop)]
+#[derive(Clone, Copy)]
 pub struct Sums {
     pub places: usize,
     pub records: usize,

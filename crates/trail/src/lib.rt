@@ -5,7 +5,7 @@ pub mod steps;
 use board::{Figures, State};
 
 // What a step gives: 0 or the number of a refusal, how many rounds of settling struck something, and the state.
-#[derive(Drop)]
+#[derive(Clone, Copy)]
 pub struct Stepped {
     pub answer: usize,
     pub rounds: usize,
@@ -13,7 +13,7 @@ pub struct Stepped {
 }
 
 // The same where the arrays were changed in place: the numbers of the state after it.
-#[derive(Drop)]
+#[derive(Clone, Copy)]
 pub struct Outcome {
     pub answer: usize,
     pub rounds: usize,

@@ -4,7 +4,7 @@ pub mod each;
 use fleet::Fleet;
 
 // What a step gives: 0 or the number of a refusal, how many rounds of settling struck something, and the fleet.
-#[derive(Drop)]
+#[derive(Clone, Copy)]
 pub struct Turned {
     pub answer: usize,
     pub rounds: usize,
@@ -12,7 +12,7 @@ pub struct Turned {
 }
 
 // The same where the rows were changed in place.
-#[derive(Drop)]
+#[derive(Clone, Copy)]
 pub struct Outcomes {
     pub answer: usize,
     pub rounds: usize,

@@ -220,7 +220,7 @@ fn all_open(sets: &[u64; Node::MOST], members: u64) -> bool
 }
 
 // What hangs on a van's route alone, and stands while the route does.
-#[derive(Drop)]
+#[derive(Clone, Copy)]
 pub struct Course {
     pub keeps: bool,
     pub on: u64,

@@ -6,7 +6,7 @@ ghost use Rattle.walks.specs.Walks.{Kept, Legs, Before, Marked, struck, rides_up
 use rules::Node;
 
 // A load that is to ride: how many legs the route has, the most that is aboard on any of them, the capacity, and how much the load is.
-#[derive(Drop)]
+#[derive(Clone, Copy)]
 pub struct Ride {
     pub legs: usize,
     pub highest: usize,
@@ -15,7 +15,7 @@ pub struct Ride {
 }
 
 // The other end of a transfer: its node, and its open places.
-#[derive(Drop)]
+#[derive(Clone, Copy)]
 pub struct Partner {
     pub node: usize,
     pub places: u64,

@@ -7,7 +7,7 @@ ghost use Rattle.words.specs.Word.{size, words, word_at, Reads, three_at, four_a
 ghost use Rattle.words.specs.Quarters.{or_of_four};
 
 // How many words an entry has.
-#[derive(Drop)]
+#[derive(Clone, Copy)]
 pub struct Entry;
 
 impl Entry {
@@ -21,14 +21,14 @@ impl Entry {
 }
 
 // An entry's first words.
-#[derive(Drop)]
+#[derive(Clone, Copy)]
 pub struct Three {
     pub first: u32,
     pub second: u32,
     pub third: u32,
 }
 
-#[derive(Drop)]
+#[derive(Clone, Copy)]
 pub struct Four {
     pub first: u32,
     pub second: u32,

@@ -4,7 +4,7 @@ use lib.Count.{ones-le}
 use Rattle.bits.proofs.count.Statement.{statement}
 use Rattle.bits.proofs.count.Tie as tie
 
-cast-result : tie.Need-overflow-cast-result
+cast-result : tie.Need-overflow_cast-result
 cast-result c = omega (arith, ones-le 64 c.args.w c.ranges.w.fits)
 
 returns : tie.Need-returns

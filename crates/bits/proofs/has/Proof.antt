@@ -7,11 +7,11 @@ use Rattle.bits.proofs.has.Tie as tie
 holds-requires : tie.Need-holds-requires
 holds-requires c κs = search rules
 
-returns : tie.Need-returns
+returns : tie.Need-returns-then-p-lt-PLACES
 returns c = search rules
 
-returns-2 : tie.Need-returns-2
-returns-2 c = sym (has-high _ _ c.before.ranges.w.fits c.if1.false)
+returns-2 : tie.Need-returns-else-p-lt-PLACES
+returns-2 c = sym (has-high _ _ c.before.ranges.w.fits c.if-p-lt-PLACES.false)
 
-pub has-spec : {M : Type 1} → statement M
-has-spec = tie.close (tie.spec holds-requires returns returns-2)
+pub has_spec : {M : Type 1} → statement M
+has_spec = tie.close (tie.spec holds-requires returns returns-2)

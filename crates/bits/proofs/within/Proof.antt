@@ -5,5 +5,5 @@ use Rattle.bits.proofs.within.Tie as tie
 returns : tie.Need-returns
 returns c = within-mask _ _ c.ranges.a.fits c.ranges.b.fits
 
-pub within-spec : {M : Type 1} → statement M
-within-spec = tie.close (tie.spec returns)
+pub within_spec : {M : Type 1} → statement M
+within_spec = tie.close (tie.spec returns)

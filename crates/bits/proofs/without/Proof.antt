@@ -7,11 +7,11 @@ use Rattle.bits.proofs.without.Tie as tie
 take-requires : tie.Need-take-requires
 take-requires c κs = search rules
 
-returns : tie.Need-returns
+returns : tie.Need-returns-then-p-lt-PLACES
 returns c = search rules
 
-returns-2 : tie.Need-returns-2
-returns-2 c = sym (without-no _ _ (has-high _ _ c.before.ranges.w.fits c.if1.false))
+returns-2 : tie.Need-returns-else-p-lt-PLACES
+returns-2 c = sym (without-no _ _ (has-high _ _ c.before.ranges.w.fits c.if-p-lt-PLACES.false))
 
-pub without-spec : {M : Type 1} → statement M
-without-spec = tie.close (tie.spec take-requires returns returns-2)
+pub without_spec : {M : Type 1} → statement M
+without_spec = tie.close (tie.spec take-requires returns returns-2)

@@ -7,5 +7,5 @@ returns : tie.Need-returns
 unfolding admits
 returns c = refl
 
-pub admits-spec : {M : Type 1} → statement M
-admits-spec = tie.close (tie.spec returns)
+pub admits_spec : {M : Type 1} → statement M
+admits_spec = tie.close (tie.spec returns)
