@@ -154,10 +154,10 @@ tail-order {e = e} a g h (next {x = x} {l = l} {t = t} m u) =
       others = λ y q. ⊎_elim (λ p. inr (subst (λ (c : ℕ). T (mem c l)) (eqb→eq x y p) m)) (λ p. ⊎_elim inl (λ i. inr (mem-sub y s i)) (k.others y p)) (or-e (eqb x y) (mem y t) q);
     }
 
-order-tail : {n e : ℕ} {l : List ℕ} (t : List ℕ) → Distinct n t → T (ends_with e t) → ((y : ℕ) → T (mem y t) → (e ≡ y) ⊎ T (mem y l)) → Tail e l t
+order-tail : {n e : ℕ} (t : List ℕ) {l : List ℕ} → Distinct n t → T (ends_with e t) → ((y : ℕ) → T (mem y t) → (e ≡ y) ⊎ T (mem y l)) → Tail e l t
 order-tail [] g h f = absurd h
-order-tail {e = e} {l = l} (x ∷ []) g h f = subst (λ (k : ℕ). Tail e l (k ∷ [])) (sym (eqb→eq x e h)) last
-order-tail {e = e} {l = l} (x ∷ y ∷ t) (more a b g) h f =
+order-tail {e = e} (x ∷ []) {l = l} g h f = subst (λ (k : ℕ). Tail e l (k ∷ [])) (sym (eqb→eq x e h)) last
+order-tail {e = e} (x ∷ y ∷ t) {l = l} (more a b g) h f =
     next (⊎_elim (λ q. absurd (T_not (mem x (y ∷ t)) b (subst (λ (k : ℕ). T (mem k (y ∷ t))) q (ends-mem e (y ∷ t) h)))) (λ m. m) (f x (mem-hd x (y ∷ t))))
     (order-tail (y ∷ t) g h (λ w m. ⊎_elim inl (λ i. inr (mem-less x w l (mem-ne x w (y ∷ t) b m) i)) (f w (mem-tl w x (y ∷ t) m))))
 

@@ -116,7 +116,7 @@ sum-grows : (f g : Job → ℕ) (js : List Job) → ((j : Job) → f j ≤ g j) 
 sum-grows f g [] h = omega arith
 sum-grows f g (j ∷ js) h = omega (arith, h j, sum-grows f g js h)
 
-sum-new : (f g : Job → ℕ) {js : List Job} {j : Job} (w : ℕ) → ((j : Job) → f j ≤ g j) → In j js → f j + w ≤ g j → sum f js + w ≤ sum g js
+sum-new : (f g : Job → ℕ) {j : Job} {js : List Job} (w : ℕ) → ((j : Job) → f j ≤ g j) → In j js → f j + w ≤ g j → sum f js + w ≤ sum g js
 sum-new f g w h (here {l = l}) e = omega (arith, sum-grows f g l h)
 sum-new f g w h (there {b = b} i) e = omega (arith, h b, sum-new f g w h i e)
 

@@ -1,6 +1,6 @@
 -- MONOTONE: struck stays struck on every longer route. A place that passes every test on the longer route passes each test, on a triangle
 -- day, in the leg of the shorter route that it comes from.
-use mathlib.Core.Path.{◌≡◌, sym, ◌∙◌}
+use mathlib.Core.Path.{subst, ◌≡◌, sym, ◌∙◌}
 use Prim.Native.Nat.{ℕ, ◌<◌}
 use native.Mathlib.Omega.{arith}
 use mathlib.Core.Bool.{Bool, not}
@@ -17,7 +17,7 @@ use Rattle.rules.specs.Time.{start}
 use Rattle.rules.specs.Load.{room, reach_ahead, reach_back}
 use Rattle.rules.specs.Profile.{unmixed}
 use Rattle.rules.specs.Plan.{Places}
-use Rattle.rules.specs.Rounds.{Distinct, more, Within, stop, extra}
+use Rattle.rules.specs.Rounds.{Distinct, more, Within, done, stop, extra}
 use Rattle.rules.specs.Tests.{Test, tests, window, short, clean, clean_fits, soiled, soiled_fits, partner_placed, neither_placed, clean_before, stays}
 use Rattle.rules.specs.Asked.{Triangle}
 use Rattle.rules.specs.declared.Job.{Job}
@@ -58,6 +58,7 @@ module _ (v : Van) (d : Day) (z : ℕ) (r e : List ℕ) (o W : Places) (over : O
   -- a way along the longer route is a way along the shorter one, from the leg in which it begins to the leg in which it ends
   way-grows : {w p q : ℕ} {A A' B B' A₁ B₁ A₂ B₂ : List ℕ} → Within o p B B' → Cut (z ∷ []) r (p ∷ A) B → Cut (z ∷ []) e (q ∷ A') B' → Sub (p ∷ A) (q ∷ A')
       → Way v d w (q ∷ A') B' A₂ B₂ → Lies z e r A₂ B₂ A₁ B₁ → Way v d w (p ∷ A) B A₁ B₁
+  way-grows done c c' u x l = elim x [ ]
   way-grows (stop s) c c' u (single t) l = way_end (record { long = c'; short = c; behind = u; ahead = keep (within-sub s) }) t l
   way-grows {w} (stop s) c c' u (onward t y) l = onward (room-grows v d w u (keep (within-sub s)) t) (way-grows s (cut-next c) (cut-next c') (keep u) y l)
   way-grows (extra x s) c c' u (single t) l = way_end (record { long = c'; short = c; behind = u; ahead = skip (within-sub s) }) t l
@@ -91,7 +92,7 @@ module _ (v : Van) (d : Day) (z : ℕ) (r e : List ℕ) (o W : Places) (over : O
   stands_at_lem x on p {m'} (inr c) t = absurd (T_not (mem x (z ∷ r)) (over.off x p (rw (eqb→eq m' x t) at c)) on)
 
   had-place : (x : ℕ) → T (not (mem x (z ∷ r))) → (p : ℕ) {m' m : ℕ} → T (mem m (z ∷ r)) → (m' ≡ m) ⊎ T (o m' p) → T (eqb m' x) → T (o x p)
-  had-place x out p {m'} {m} on (inl c) t = let q : m ≡ x = sym c ∙ eqb→eq m' x t in absurd (T_not (mem x (z ∷ r)) out (rw q at on))
+  had-place x out p {m'} {m} on (inl c) t = let q : m ≡ x = sym c ∙ eqb→eq m' x t in absurd (T_not (mem x (z ∷ r)) out (subst (λ (c : ℕ). T (mem c (z ∷ r))) q on))
   had-place x out p {m'} on (inr c) t = rw (eqb→eq m' x t) at c
 
   module _ (x : ℕ) where

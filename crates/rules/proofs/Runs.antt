@@ -57,7 +57,7 @@ pub record Coursed (v : Van) (d : Day) (z : ℕ) (r₀ : List ℕ) (o₀ : Place
   pub is : b.route ≡ z ∷ rest
   pub course : Course v d z r₀ o₀ rest b.places X
 
-pub coursed : {v : Van} {d : Day} {z : ℕ} {r₀ X : List ℕ} {a b : Plan} → a.route ≡ z ∷ r₀ → LaidOut d z r₀ a.places → PlanRun v d a b X
+pub coursed : {v : Van} {d : Day} {z : ℕ} {r₀ : List ℕ} {a b : Plan} {X : List ℕ} → a.route ≡ z ∷ r₀ → LaidOut d z r₀ a.places → PlanRun v d a b X
     → Coursed v d z r₀ a.places b X
 coursed {r₀ = r₀} e l begin = record { rest = r₀; is = e; course = outset }
 coursed e l (place p x run off open') =

@@ -1,6 +1,6 @@
 -- Sound: no test strikes a place that a rule-keeping round of the plan uses. The tests have this law one by one; the theorems read
 -- `each-sound` only.
-use mathlib.Core.Path.{subst}
+use mathlib.Core.Path.{◌≡◌, refl, subst}
 use Prim.Native.Nat.{ℕ}
 use native.Mathlib.Omega.{arith}
 use mathlib.Core.Bool.{not, ◌&&◌, ◌||◌}
@@ -93,26 +93,26 @@ module _ (v : Van) (d : Day) where
       placed-ahead i (skip s) t (mem-tl x y A' m) a (not-or-r (eqb y x) (mem x B') n) mb (and_r (carries v d A' (y ∷ B')) (legs_ahead (carries v d) (y ∷ A') B') h)
 
   -- the first node at x, the second open in a leg ahead
-  open-ahead : {x b w : ℕ} {o : Places} {A A' B B' : List ℕ} → In (Transfer x b w) d.jobs → Sub A A' → Within o (hd A) B B' → T (mem x A') → T (not (mem x A))
-      → T (not (mem x B'))
+  open-ahead : {x b w : ℕ} {o : Places} {q : ℕ} {A A' B B' : List ℕ} → In (Transfer x b w) d.jobs → Sub A A' → Within o q B B' → q ≡ hd A → T (mem x A')
+      → T (not (mem x A)) → T (not (mem x B'))
       → T (not (mem b B)) → T (mem b B') → T (legs_ahead (carries v d) A' B') → T (reach_ahead v d (λ p k. o b p) w A B)
-  open-ahead i s done m a n nb mb h = absurd mb
-  open-ahead {x} {b} {w} {o} {A} {A'} i s (stop {k = k} {r = B} {R = B'} u) m a n nb mb h =
+  open-ahead i s done z m a n nb mb h = absurd mb
+  open-ahead {x} {b} {w} {o} {A = A} {A'} i s (stop {k = k} {r = B} {R = B'} u) z m a n nb mb h =
       and_i (room v d w A (k ∷ B)) (o b (hd A) || reach_ahead v d (λ p k. o b p) w (k ∷ A) B)
       (transfer-room i s (keep (within-sub u)) m mb (contra (mem x A && mem b (k ∷ B)) (mem x A) (and_l (mem x A) (mem b (k ∷ B))) a)
       (and_l (carries v d A' (k ∷ B')) (legs_ahead (carries v d) (k ∷ A') B') h))
       (or_r (o b (hd A)) (reach_ahead v d (λ p k. o b p) w (k ∷ A) B)
-      (open-ahead i (keep s) u (mem-tl x k A' m) (not-or-i (eqb k x) (mem x A) (not-or-l (eqb k x) (mem x B') n) a) (not-or-r (eqb k x) (mem x B') n)
+      (open-ahead i (keep s) u refl (mem-tl x k A' m) (not-or-i (eqb k x) (mem x A) (not-or-l (eqb k x) (mem x B') n) a) (not-or-r (eqb k x) (mem x B') n)
       (not-or-r (eqb k b) (mem b B) nb) (mem-rest b k B' (not-or-l (eqb k b) (mem b B) nb) mb) (and_r (carries v d A' (k ∷ B')) (legs_ahead (carries v d) (k ∷ A') B') h)))
-  open-ahead {x} {b} {w} {o} {A} {A'} i s (extra {x = y} {k = k} {r = B} {R = B'} t u) m a n nb mb h = go (tf (eqb y b))
-      (λ mb'. open-ahead i (skip s) u (mem-tl x y A' m) a (not-or-r (eqb y x) (mem x B') n) nb mb' (and_r (carries v d A' (y ∷ B')) (legs_ahead (carries v d) (y ∷ A') B') h))
+  open-ahead {x} {b} {w} {o} {A = A} {A'} i s (extra {x = y} {k = k} {r = B} {R = B'} t u) z m a n nb mb h = go (tf (eqb y b))
+      (λ mb'. open-ahead i (skip s) u z (mem-tl x y A' m) a (not-or-r (eqb y x) (mem x B') n) nb mb' (and_r (carries v d A' (y ∷ B')) (legs_ahead (carries v d) (y ∷ A') B') h))
     where
       go : T (eqb y b) ⊎ T (not (eqb y b)) → (T (mem b B') → T (reach_ahead v d (λ p k. o b p) w A (k ∷ B))) → T (reach_ahead v d (λ p k. o b p) w A (k ∷ B))
       go (inr e) f = f (mem-rest b y B' e mb)
       go (inl e) f = and_i (room v d w A (k ∷ B)) (o b (hd A) || reach_ahead v d (λ p k. o b p) w (k ∷ A) B)
           (transfer-room i s (skip (within-sub u)) m mb (contra (mem x A && mem b (k ∷ B)) (mem x A) (and_l (mem x A) (mem b (k ∷ B))) a)
           (and_l (carries v d A' (y ∷ B')) (legs_ahead (carries v d) (y ∷ A') B') h))
-          (or_l (o b (hd A)) (reach_ahead v d (λ p k. o b p) w (k ∷ A) B) (subst (λ (c : ℕ). T (o c (hd A))) (eqb→eq y b e) t))
+          (or_l (o b (hd A)) (reach_ahead v d (λ p k. o b p) w (k ∷ A) B) (subst (λ (c : ℕ). T (o c (hd A))) (eqb→eq y b e) (subst (λ (c : ℕ). T (o y c)) z t)))
 
   -- the second node at x, the first on the route behind
   placed-back : {a x w : ℕ} {A A' B B' : List ℕ} → In (Transfer a x w) d.jobs → Sub A A' → Sub B B' → T (mem x B') → T (not (mem x B)) → T (not (mem x A'))
@@ -232,7 +232,7 @@ partner_placed-sound v d tri o z x p k r R A B u = meets-i v d (z ∷ r) o x (p 
 
 pub neither_placed-sound : SoundTest neither_placed
 neither_placed-sound v d tri o z x p k r R A B u = supports-i v d (z ∷ r) o x (p ∷ A) (k ∷ B) (record {
-  first = λ b w i n. open-ahead v d i (skip (sub_behind u)) u.ahead (mem-hd x (u.q ∷ u.A')) (off_behind u) (distinct-off (fresh_ahead u))
+  first = λ b w i n. open-ahead v d i (skip (sub_behind u)) u.ahead refl (mem-hd x (u.q ∷ u.A')) (off_behind u) (distinct-off (fresh_ahead u))
       (contra (mem b (k ∷ B)) (mem b (z ∷ r)) (cut-ahead b (move u.leg)) n) (second u b w i) (loads_ahead u);
   second = λ a w i n. open-back v d i u.behind (skip (sub_ahead u)) (mem-hd x u.B') (off_ahead u) (distinct-off (fresh_behind u))
       (contra (mem a (p ∷ A)) (mem a (z ∷ r)) (λ m. ⊎_elim (λ f. absurd f) (λ h. h) (cut-behind a (move u.leg) m)) n) (first u a w i) (loads_behind u);

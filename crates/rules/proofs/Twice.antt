@@ -1,7 +1,7 @@
 -- At most two rounds of settling strike. Every test but 'neither placed' reads the route only, so what it strikes it strikes in the first
 -- round. 'Neither placed' strikes in the second what has lost its support; support goes both ways, so a place that is left then still
 -- has its support, and the third round strikes nothing.
-use mathlib.Core.Path.{◌≡◌}
+use mathlib.Core.Path.{subst, ◌≡◌}
 use Prim.Native.Nat.{ℕ, zero, suc, ◌*◌, ◌≤◌}
 use native.Mathlib.Omega.{arith}
 use mathlib.Core.Bool.{Bool, true, false, not, ◌&&◌}
@@ -10,6 +10,7 @@ use lib.Dec.{T, T_not}
 use Rattle.laws.proofs.Logic.{and_l, and_r}
 use Rattle.laws.proofs.Lists.{Each, end, also, each_in, any_none}
 use Rattle.laws.specs.Basic.{hd, any, In}
+use Rattle.rules.specs.Load.{reach_ahead}
 use Rattle.rules.specs.Day.{Day, inner}
 use Rattle.rules.specs.declared.Van.{Van}
 use Rattle.rules.specs.Plan.{Places}
@@ -84,7 +85,9 @@ module _ (v : Van) (d : Day) (one : OneEnd d.jobs) (z : ℕ) (r : List ℕ) (g :
       → Cut (z ∷ []) r (p ∷ A) (k ∷ B) → T (o₁ b (hd A')) → T (o₁ a p) → T (o₂ a p)
   first-left {a} {b} {w} {p} {k} {k'} {A} {B} {A'} {B'} i way c hb ha =
       round-i v d z r o₁ a g c ha (restays v d (z ∷ r) o o₁ a (p ∷ A) (k ∷ B) (round-stays v d z r o a g c ha) (supports-i v d (z ∷ r) o₁ a (p ∷ A) (k ∷ B) (record {
-        first = λ b' w' j n. let q = one.firsts a b b' w w' i j in rw (← q.0, ← q.1) (way-reach v d (λ p k. o₁ b p) w way hb);
+        first = λ b' w' j n. let q = one.firsts a b b' w w' i j in
+            subst (λ (c : ℕ). T (reach_ahead v d (λ p k. o₁ c p) w' (p ∷ A) (k ∷ B))) q.0
+            (subst (λ (c : ℕ). T (reach_ahead v d (λ p k. o₁ b p) c (p ∷ A) (k ∷ B))) q.1 (way-reach v d (λ p k. o₁ b p) w way hb));
         second = λ a' w' j. absurd (one.apart a b a' w w' i j);
       })))
 

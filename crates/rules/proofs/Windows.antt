@@ -85,9 +85,9 @@ window-fits v d rt o x A (k ∷ B) =
       and_mono a (fits d next k B) a (le_z (pos next) (last_start d B k)) (λ h. h) (last_fits d next k B).1,
     )
 
-pub fits-sooner : (d : Day) {t t' : ℕ} (k : ℕ) (B : List ℕ) → t ≤ t' → T (fits d t' k B) → T (fits d t k B)
+pub fits-sooner : (d : Day) (k : ℕ) (B : List ℕ) {t t' : ℕ} → t ≤ t' → T (fits d t' k B) → T (fits d t k B)
 fits-sooner d k [] h f = in-time-sooner d k h f
-fits-sooner d {t} {t'} k (m ∷ B) h f =
+fits-sooner d k (m ∷ B) {t} {t'} h f =
     let u = t' + d.service k + d.seconds k m in
     let v = t + d.service k + d.seconds k m in
     and_mono (in_time d k t') (fits d u m B) (in_time d k t) (fits d v m B) (in-time-sooner d k h) (fits-sooner d m B (omega arith)) f
