@@ -6,11 +6,11 @@ use Rattle.board.proofs.fresh_set.Tie as tie
 admits-requires : tie.Need-admits-requires
 admits-requires c κs = search rules
 
-returns : tie.Need-returns
-returns c = rw (sym c.before.admits.ensures ∙ c.if1.true)
+returns : tie.Need-returns-then-admits
+returns c = rw (sym c.admits.ensures ∙ c.if-admits.true)
 
-returns-2 : tie.Need-returns-2
-returns-2 c = rw (sym c.before.admits.ensures ∙ c.if1.false)
+returns-2 : tie.Need-returns-else-admits
+returns-2 c = rw (sym c.admits.ensures ∙ c.if-admits.false)
 
-pub fresh-set-spec : {M : Type 1} → statement M
-fresh-set-spec = tie.close (tie.spec admits-requires returns returns-2)
+pub fresh_set_spec : {M : Type 1} → statement M
+fresh_set_spec = tie.close (tie.spec admits-requires returns returns-2)

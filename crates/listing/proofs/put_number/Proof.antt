@@ -5,46 +5,46 @@ use borrow.Author.Rules.{rules}
 use Rattle.listing.proofs.put_number.Statement.{statement}
 use Rattle.listing.proofs.put_number.Tie as tie
 
-put-short-requires : tie.Need-put-short-requires
+put-short-requires : tie.Need-put_short-requires
 put-short-requires c κs = search rules
 
-same_length : tie.Need-same-length
+same_length : tie.Need-shape_of-out-then-v-lt100
 same_length c = search rules
 
-returns : tie.Need-returns
+returns : tie.Need-returns-then-v-lt100
 returns c = search rules
 
-put-short-requires-2 : tie.Need-put-short-requires-2
+put-short-requires-2 : tie.Need-put_short-i-requires
 put-short-requires-2 c κs = search rules
 
-put-pair-requires : tie.Need-put-pair-requires
+put-pair-requires : tie.Need-put_pair-requires
 put-pair-requires c κs =
-    let p = c.before.before.before.put-short2.ensures in
-    let start = c.before.before.before.before.before.before.before.before in
+    let p = c.put_short-i.ensures in
+    let start = c in
     (omega arith, omega (arith, p.next-is, hundredth-short start.args.v start.ranges.v.fits, put-length p))
 
-same-length-2 : tie.Need-same-length-2
+same-length-2 : tie.Need-shape_of-out-then-v-lt10000
 same-length-2 c = search rules
 
-returns-2 : tie.Need-returns-2
+returns-2 : tie.Need-returns-then-v-lt10000
 returns-2 c =
-    let second = c.before.before in
-    let first = second.before.before.before.before in
-    let test = first.before.before.before in
-    let start = test.before.before in
-    put-hundred start.args.v start.ranges.v.fits test.if1.false first.put-short2.ensures second.put-pair.ensures
+    let second = c in
+    let first = second in
+    let test = first in
+    let start = test in
+    put-hundred start.args.v start.ranges.v.fits test.if-v-lt100.false first.put_short-i.ensures second.put_pair.ensures
 
-put-long-requires : tie.Need-put-long-requires
+put-long-requires : tie.Need-put_long-requires
 put-long-requires c κs = search rules
 
-same-length-3 : tie.Need-same-length-3
+same-length-3 : tie.Need-shape_of-out
 same-length-3 c = search rules
 
-returns-3 : tie.Need-returns-3
+returns-3 : tie.Need-returns
 returns-3 c = search rules
 
-pub put-number-spec : {M : Type 1} → statement M
-put-number-spec =
+pub put_number_spec : {M : Type 1} → statement M
+put_number_spec =
     tie.close
     (tie.spec
     put-short-requires

@@ -3,34 +3,34 @@ use borrow.Author.Rules.{rules}
 use Rattle.listing.proofs.put_pair.Statement.{statement}
 use Rattle.listing.proofs.put_pair.Tie as tie
 
-cast-put-byte : tie.Need-overflow-cast-put-byte
+cast-put-byte : tie.Need-overflow_cast-v
 cast-put-byte c = search rules
 
-add-put-byte : tie.Need-overflow-add-put-byte
+add-put-byte : tie.Need-overflow_add-v
 add-put-byte c = search rules
 
-put-byte-requires : tie.Need-put-byte-requires
+put-byte-requires : tie.Need-put_byte-i-requires
 put-byte-requires c κs = search rules
 
-cast-put-byte-2 : tie.Need-overflow-cast-put-byte-2
+cast-put-byte-2 : tie.Need-overflow_cast-v-2
 cast-put-byte-2 c = search rules
 
-add-put-byte-2 : tie.Need-overflow-add-put-byte-2
+add-put-byte-2 : tie.Need-overflow_add-v-2
 add-put-byte-2 c = search rules
 
-put-byte-requires-2 : tie.Need-put-byte-requires-2
+put-byte-requires-2 : tie.Need-put_byte-requires
 put-byte-requires-2 c κs = search rules
 
-same_length : tie.Need-same-length
+same_length : tie.Need-shape_of-out
 same_length c = search rules
 
 returns : tie.Need-returns
 returns c =
-    let second = c.before.before in
-    put_then second.before.before.before.before.put_byte.ensures second.put-byte2.ensures
+    let second = c in
+    put_then second.put_byte-i.ensures second.put_byte.ensures
 
-pub put-pair-spec : {M : Type 1} → statement M
-put-pair-spec =
+pub put_pair_spec : {M : Type 1} → statement M
+put_pair_spec =
     tie.close
     (tie.spec
     cast-put-byte

@@ -6,38 +6,34 @@ use borrow.Author.Rules.{rules}
 use Rattle.listing.proofs.put_route.Statement.{statement}
 use Rattle.listing.proofs.put_route.Tie as tie
 
-slice-aggregate-put-text : tie.Need-slice-aggregate-put-text
-slice-aggregate-put-text c = search rules
-
-put-text-requires : tie.Need-put-text-requires
+put-text-requires : tie.Need-put_text-i-requires
 put-text-requires c κs = search rules
 
-put-stops-requires : tie.Need-put-stops-requires
+put-stops-requires : tie.Need-put_stops-j-requires
 put-stops-requires c κs = search rules
 
-put-byte-requires : tie.Need-put-byte-requires
+put-byte-requires : tie.Need-put_byte-requires
 put-byte-requires c κs =
-    let second = c.before.before.before in
-    let first = second.before.before.before.before in
-    let start = first.before.before.before.before in
-    omega (arith, stops-take start.args.route.now start.args.stops second.put-stops.ensures, first.put-text.ensures.next-is, put-length first.put-text.ensures)
+    let second = c in
+    let first = second in
+    let start = first in
+    omega (arith, stops-take start.args.route.now start.args.stops second.put_stops-j.ensures, first.put_text-i.ensures.next-is, put-length first.put_text-i.ensures)
 
-same_length : tie.Need-same-length
+same_length : tie.Need-shape_of-out
 same_length c = search rules
 
 returns : tie.Need-returns
 unfolding route_line
 returns c =
-    let third = c.before.before in
-    let second = third.before.before.before.before in
-    let first = second.before.before.before.before in
-    put_then (put_then first.put-text.ensures second.put-stops.ensures) third.put_byte.ensures
+    let third = c in
+    let second = third in
+    let first = second in
+    put_then (put_then first.put_text-i.ensures second.put_stops-j.ensures) third.put_byte.ensures
 
-pub put-route-spec : {M : Type 1} → statement M
-put-route-spec =
+pub put_route_spec : {M : Type 1} → statement M
+put_route_spec =
     tie.close
     (tie.spec
-    slice-aggregate-put-text
     put-text-requires
     put-stops-requires
     put-byte-requires

@@ -4,20 +4,20 @@ use borrow.Author.Rules.{rules}
 use Rattle.listing.proofs.put_stop.Statement.{statement}
 use Rattle.listing.proofs.put_stop.Tie as tie
 
-put-byte-requires : tie.Need-put-byte-requires
+put-byte-requires : tie.Need-put_byte-i-requires
 put-byte-requires c κs = search rules
 
-put-number-requires : tie.Need-put-number-requires
+put-number-requires : tie.Need-put_number-requires
 put-number-requires c κs = search rules
 
-same_length : tie.Need-same-length
+same_length : tie.Need-shape_of-out
 same_length c = search rules
 
 returns : tie.Need-returns
 unfolding stop_text
 returns c =
-    let second = c.before.before in
-    put_then second.before.before.before.before.put_byte.ensures second.put-number.ensures
+    let second = c in
+    put_then second.put_byte-i.ensures second.put_number.ensures
 
-pub put-stop-spec : {M : Type 1} → statement M
-put-stop-spec = tie.close (tie.spec put-byte-requires put-number-requires same_length returns)
+pub put_stop_spec : {M : Type 1} → statement M
+put_stop_spec = tie.close (tie.spec put-byte-requires put-number-requires same_length returns)

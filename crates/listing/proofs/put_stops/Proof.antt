@@ -9,48 +9,48 @@ use Rattle.listing.proofs.TextLaws.{stops-none, stops-turn, stop-takes}
 use Rattle.listing.proofs.put_stops.Statement.{statement}
 use Rattle.listing.proofs.put_stops.Tie as tie
 
-abbrev invariant-loop : tie.invariant-loop
+abbrev invariant-loop : tie.invariant-loop-i
 invariant-loop out₀ at route stops next₀ i₀ out next i =
     (i ≤ stops) × (at + 21 * stops ≤ length out) × (next ≤ at + 21 * i) × (length out ≡ length out₀) × Put out₀ at (stops_text (take i route)) next out
 
-abbrev decreases-loop : tie.decreases-loop
+abbrev decreases-loop : tie.decreases-loop-i
 decreases-loop out₀ at route stops next₀ i₀ out next i = stops - i
 
-loop-holds : tie.Need-loop-init invariant-loop decreases-loop
+loop-holds : tie.Need-loop-i-init invariant-loop decreases-loop
 loop-holds c = (search rules, search rules, search rules, refl, stops-none _ _)
 
-mul-put-stop : tie.Need-overflow-mul-put-stop invariant-loop decreases-loop
+mul-put-stop : tie.Need-offset_bounds-route-i invariant-loop decreases-loop
 mul-put-stop c = omega arith
 
-element-copy-out-put-stop : tie.Need-element-copy-out-put-stop invariant-loop decreases-loop
+element-copy-out-put-stop : tie.Need-bounds-route-i invariant-loop decreases-loop
 element-copy-out-put-stop c = omega arith
 
-put-stop-requires : tie.Need-put-stop-requires invariant-loop decreases-loop
+put-stop-requires : tie.Need-put_stop-next-requires invariant-loop decreases-loop
 put-stop-requires c κs = omega arith
 
-add-i : tie.Need-overflow-add-i invariant-loop decreases-loop
+add-i : tie.Need-overflow_add-i invariant-loop decreases-loop
 add-i c = omega arith
 
-loop-less : tie.Need-loop-smaller invariant-loop decreases-loop
+loop-less : tie.Need-loop-i-smaller invariant-loop decreases-loop
 loop-less c = omega arith
 
-loop-again : tie.Need-loop-preserved invariant-loop decreases-loop
+loop-again : tie.Need-loop-i-preserved invariant-loop decreases-loop
 loop-again c =
-    let turn = c.before.before in
-    let top = turn.before.before.before.before in
-    let p = stop-takes _ turn.put-stop.ensures in
-    (omega arith, omega arith, omega arith, p.1 ∙ top.loop.invariant.3, stops-turn top.before.before.args.route.now _ (omega arith) top.loop.invariant.4 turn.put-stop.ensures)
+    let turn = c in
+    let top = turn in
+    let p = stop-takes _ turn.put_stop-next.ensures in
+    (omega arith, omega arith, omega arith, p.1 ∙ top.loop-i.invariant.3, stops-turn top.args.route.now _ (omega arith) top.loop-i.invariant.4 turn.put_stop-next.ensures)
 
-same_length : tie.Need-same-length invariant-loop decreases-loop
-same_length c = c.before.loop.invariant.3
+same_length : tie.Need-shape_of-out invariant-loop decreases-loop
+same_length c = c.loop-i.invariant.3
 
 returns : tie.Need-returns invariant-loop decreases-loop
 returns c =
-    let e : c.before.loop.i ≡ c.before.before.before.args.stops = omega arith in
-    rw e at c.before.loop.invariant.4
+    let e : c.loop-i.i ≡ c.args.stops = omega arith in
+    rw e at c.loop-i.invariant.4
 
-pub put-stops-spec : {M : Type 1} → statement M
-put-stops-spec =
+pub put_stops_spec : {M : Type 1} → statement M
+put_stops_spec =
     tie.close
     (tie.spec
     invariant-loop

@@ -6,97 +6,85 @@ use borrow.Author.Rules.{rules}
 use Rattle.listing.proofs.put_tail.Statement.{statement}
 use Rattle.listing.proofs.put_tail.Tie as tie
 
-slice-aggregate-put-text : tie.Need-slice-aggregate-put-text
-slice-aggregate-put-text c = search rules
-
-put-text-requires : tie.Need-put-text-requires
+put-text-requires : tie.Need-put_text-a-requires
 put-text-requires c κs = search rules
 
-put-number-requires : tie.Need-put-number-requires
+put-number-requires : tie.Need-put_number-b-requires
 put-number-requires c κs = search rules
 
-slice-aggregate-put-text-2 : tie.Need-slice-aggregate-put-text-2
-slice-aggregate-put-text-2 c = search rules
-
-put-text-requires-2 : tie.Need-put-text-requires-2
+put-text-requires-2 : tie.Need-put_text-c-requires
 put-text-requires-2 c κs =
-    let one = c.before.before.before.before in
-    let name = one.before.before.before.before in
-    let p = takes-then (takes-text name.put-text.ensures) (takes-number _ one.put-number.ensures) in
-    takes-room 84 8 name.before.before.before.before.requires p (omega arith)
+    let one = c in
+    let name = one in
+    let p = takes-then (takes-text name.put_text-a.ensures) (takes-number _ one.put_number-b.ensures) in
+    takes-room 84 8 name.requires p (omega arith)
 
-put-number-requires-2 : tie.Need-put-number-requires-2
+put-number-requires-2 : tie.Need-put_number-d-requires
 put-number-requires-2 c κs =
-    let text = c.before.before.before in
-    let one = text.before.before.before.before.before in
-    let name = one.before.before.before.before in
-    let p = takes-then (takes-text name.put-text.ensures) (takes-number _ one.put-number.ensures) in
-    takes-room 84 20 name.before.before.before.before.requires (takes-then p (takes-text text.put-text2.ensures)) (omega arith)
+    let text = c in
+    let one = text in
+    let name = one in
+    let p = takes-then (takes-text name.put_text-a.ensures) (takes-number _ one.put_number-b.ensures) in
+    takes-room 84 20 name.requires (takes-then p (takes-text text.put_text-c.ensures)) (omega arith)
 
-slice-aggregate-put-text-3 : tie.Need-slice-aggregate-put-text-3
-slice-aggregate-put-text-3 c = search rules
-
-put-text-requires-3 : tie.Need-put-text-requires-3
+put-text-requires-3 : tie.Need-put_text-e-requires
 put-text-requires-3 c κs =
-    let two = c.before.before.before.before in
-    let text = two.before.before.before.before in
-    let one = text.before.before.before.before.before in
-    let name = one.before.before.before.before in
-    let p = takes-then (takes-text name.put-text.ensures) (takes-number _ one.put-number.ensures) in
-    let q = takes-then (takes-then p (takes-text text.put-text2.ensures)) (takes-number _ two.put-number2.ensures) in
-    takes-room 84 7 name.before.before.before.before.requires q (omega arith)
+    let two = c in
+    let text = two in
+    let one = text in
+    let name = one in
+    let p = takes-then (takes-text name.put_text-a.ensures) (takes-number _ one.put_number-b.ensures) in
+    let q = takes-then (takes-then p (takes-text text.put_text-c.ensures)) (takes-number _ two.put_number-d.ensures) in
+    takes-room 84 7 name.requires q (omega arith)
 
-put-number-requires-3 : tie.Need-put-number-requires-3
+put-number-requires-3 : tie.Need-put_number-f-requires
 put-number-requires-3 c κs =
-    let last = c.before.before.before in
-    let two = last.before.before.before.before.before in
-    let text = two.before.before.before.before in
-    let one = text.before.before.before.before.before in
-    let name = one.before.before.before.before in
-    let p = takes-then (takes-text name.put-text.ensures) (takes-number _ one.put-number.ensures) in
-    let q = takes-then (takes-then p (takes-text text.put-text2.ensures)) (takes-number _ two.put-number2.ensures) in
-    takes-room 84 20 name.before.before.before.before.requires (takes-then q (takes-text last.put-text3.ensures)) (omega arith)
+    let last = c in
+    let two = last in
+    let text = two in
+    let one = text in
+    let name = one in
+    let p = takes-then (takes-text name.put_text-a.ensures) (takes-number _ one.put_number-b.ensures) in
+    let q = takes-then (takes-then p (takes-text text.put_text-c.ensures)) (takes-number _ two.put_number-d.ensures) in
+    takes-room 84 20 name.requires (takes-then q (takes-text last.put_text-e.ensures)) (omega arith)
 
-put-byte-requires : tie.Need-put-byte-requires
+put-byte-requires : tie.Need-put_byte-requires
 put-byte-requires c κs =
-    let three = c.before.before.before in
-    let last = three.before.before.before.before in
-    let two = last.before.before.before.before.before in
-    let text = two.before.before.before.before in
-    let one = text.before.before.before.before.before in
-    let name = one.before.before.before.before in
-    let p = takes-then (takes-text name.put-text.ensures) (takes-number _ one.put-number.ensures) in
-    let q = takes-then (takes-then p (takes-text text.put-text2.ensures)) (takes-number _ two.put-number2.ensures) in
-    let r = takes-then (takes-then q (takes-text last.put-text3.ensures)) (takes-number _ three.put-number3.ensures) in
-    takes_one 84 name.before.before.before.before.requires r (omega arith)
+    let three = c in
+    let last = three in
+    let two = last in
+    let text = two in
+    let one = text in
+    let name = one in
+    let p = takes-then (takes-text name.put_text-a.ensures) (takes-number _ one.put_number-b.ensures) in
+    let q = takes-then (takes-then p (takes-text text.put_text-c.ensures)) (takes-number _ two.put_number-d.ensures) in
+    let r = takes-then (takes-then q (takes-text last.put_text-e.ensures)) (takes-number _ three.put_number-f.ensures) in
+    takes_one 84 name.requires r (omega arith)
 
-same_length : tie.Need-same-length
+same_length : tie.Need-shape_of-out
 same_length c = search rules
 
 returns : tie.Need-returns
 returns c =
-    let end = c.before.before in
-    let three = end.before.before.before.before in
-    let last = three.before.before.before.before in
-    let two = last.before.before.before.before.before in
-    let text = two.before.before.before.before in
-    let one = text.before.before.before.before.before in
-    let a = put_then one.before.before.before.before.put-text.ensures one.put-number.ensures in
-    let b = put_then (put_then a text.put-text2.ensures) two.put-number2.ensures in
-    let d = put_then (put_then b last.put-text3.ensures) three.put-number3.ensures in
+    let end = c in
+    let three = end in
+    let last = three in
+    let two = last in
+    let text = two in
+    let one = text in
+    let a = put_then one.put_text-a.ensures one.put_number-b.ensures in
+    let b = put_then (put_then a text.put_text-c.ensures) two.put_number-d.ensures in
+    let d = put_then (put_then b last.put_text-e.ensures) three.put_number-f.ensures in
     put-fields (bytes "records") _ (bytes "rounds") _ (bytes "alive") _ _ (put_then d end.put_byte.ensures)
 
-pub put-tail-spec : {M : Type 1} → statement M
-put-tail-spec =
+pub put_tail_spec : {M : Type 1} → statement M
+put_tail_spec =
     tie.close
     (tie.spec
-    slice-aggregate-put-text
     put-text-requires
     put-number-requires
-    slice-aggregate-put-text-2
     put-text-requires-2
     put-number-requires-2
-    slice-aggregate-put-text-3
     put-text-requires-3
     put-number-requires-3
     put-byte-requires

@@ -14,120 +14,120 @@ use Rattle.walks.proofs.Meeting.{kept_back, start-low, last-rides}
 use Rattle.walks.proofs.backward.Statement.{statement}
 use Rattle.walks.proofs.backward.Tie as tie
 
-abbrev invariant-loop : tie.invariant-loop
+abbrev invariant-loop : tie.invariant-loop-i
 invariant-loop word route h spots before ride partner w₀ on₀ i₀ w on i = (i ≤ ride.legs) × Back route (fits_at h ride) (met_ahead route partner) false ride.legs word i w on
 
-abbrev decreases-loop : tie.decreases-loop
+abbrev decreases-loop : tie.decreases-loop-i
 decreases-loop word route h spots before ride partner w₀ on₀ i₀ w on i = i
 
-returns : tie.Need-returns invariant-loop decreases-loop
-returns c = kept-zero c.if1.true
+returns : tie.Need-returns-then-word-eq0 invariant-loop decreases-loop
+returns c = kept-zero c.if-word-eq0.true
 
-fits-all-requires : tie.Need-fits-all-requires invariant-loop decreases-loop
-fits-all-requires c κs = let g = c.before.requires.0 in (g.high, g.low)
+fits-all-requires : tie.Need-fits_all-requires invariant-loop decreases-loop
+fits-all-requires c κs = let g = c.requires.0 in (g.high, g.low)
 
-mul-stop : tie.Need-overflow-mul-stop invariant-loop decreases-loop
+mul-stop : tie.Need-offset_bounds-spots-y invariant-loop decreases-loop
 mul-stop c = search rules
 
-element-copy-out-stop : tie.Need-element-copy-out-stop invariant-loop decreases-loop
+element-copy-out-stop : tie.Need-bounds-spots-y invariant-loop decreases-loop
 element-copy-out-stop c = search rules
 
-choose-requires : tie.Need-choose-requires invariant-loop decreases-loop
+choose-requires : tie.Need-choose-start-requires invariant-loop decreases-loop
 choose-requires c κs = search rules
 
-last-open-requires : tie.Need-last-open-requires invariant-loop decreases-loop
+last-open-requires : tie.Need-last_open-last-requires invariant-loop decreases-loop
 last-open-requires c κs =
-    let g = c.before.before.before.before.before.requires.0 in
-    (g.long, omega (arith, g.few), start-low _ _ c.choose.ensures, λ i h. g.nodes i h)
+    let g = c.requires.0 in
+    (g.long, omega (arith, g.few), start-low _ _ c.choose-start.ensures, λ i h. g.nodes i h)
 
-mul-less : tie.Need-overflow-mul-less invariant-loop decreases-loop
-mul-less c = omega (arith, c.before.before.before.before.before.before.requires.0.few)
+mul-less : tie.Need-offset_bounds-before-legs invariant-loop decreases-loop
+mul-less c = omega (arith, c.requires.0.few)
 
-element-copy-out-less : tie.Need-element-copy-out-smaller invariant-loop decreases-loop
-element-copy-out-less c = omega (arith, c.before.before.before.before.before.before.requires.0.few)
+element-copy-out-less : tie.Need-bounds-before-legs invariant-loop decreases-loop
+element-copy-out-less c = omega (arith, c.requires.0.few)
 
-mul-less-2 : tie.Need-overflow-mul-less-2 invariant-loop decreases-loop
+mul-less-2 : tie.Need-offset_bounds-before-last invariant-loop decreases-loop
 mul-less-2 c =
-    omega (arith, c.before.last-open.ensures.1, c.before.before.before.before.before.before.before.requires.0.few)
+    omega (arith, c.last_open-last.ensures.1, c.requires.0.few)
 
-element-copy-out-less-2 : tie.Need-element-copy-out-smaller-2 invariant-loop decreases-loop
+element-copy-out-less-2 : tie.Need-bounds-before-last invariant-loop decreases-loop
 element-copy-out-less-2 c =
-    omega (arith, c.before.last-open.ensures.1, c.before.before.before.before.before.before.before.requires.0.few)
+    omega (arith, c.last_open-last.ensures.1, c.requires.0.few)
 
 less-requires : tie.Need-less-requires invariant-loop decreases-loop
 less-requires c κs = search rules
 
-less-requires-2 : tie.Need-less-requires-2 invariant-loop decreases-loop
+less-requires-2 : tie.Need-less-requires-then-fits_all invariant-loop decreases-loop
 less-requires-2 c κs = search rules
 
-returns-2 : tie.Need-returns-2 invariant-loop decreases-loop
+returns-2 : tie.Need-returns-then-fits_all invariant-loop decreases-loop
 returns-2 c =
-    let m = c.before in
-    let f = m.before.before.before in
-    let s = f.before in
-    let a = s.before.before.before in
-    let o = a.before.before in
-    let r = last-rides o.requires.0 (leb-true _ _ (sym a.fits_all.ensures ∙ s.before.before.if2.true)) o.requires.1 o.args.partner o.requires.2 refl s.choose.ensures f.last-open.ensures in
-    kept_back o.requires.1 f.last-open.ensures.1 _ m.less.ensures c.less2.ensures r
+    let m = c in
+    let f = m in
+    let s = f in
+    let a = s in
+    let o = a in
+    let r = last-rides o.requires.0 (leb-true _ _ (sym a.fits_all.ensures ∙ s.if-fits_all.true)) o.requires.1 o.args.partner o.requires.2 refl s.choose-start.ensures f.last_open-last.ensures in
+    kept_back o.requires.1 f.last_open-last.ensures.1 _ m.less.ensures c.less-then-fits_all.ensures r
 
-loop-holds : tie.Need-loop-init invariant-loop decreases-loop
+loop-holds : tie.Need-loop-i-init invariant-loop decreases-loop
 loop-holds c = (omega arith, back-begin _ _ _ _ _)
 
-mul-k : tie.Need-overflow-mul-k invariant-loop decreases-loop
-mul-k c = omega (arith, c.before.before.before.before.before.requires.0.few)
+mul-k : tie.Need-offset_bounds-route-i invariant-loop decreases-loop
+mul-k c = omega (arith, c.requires.0.few)
 
-element-copy-out-k : tie.Need-element-copy-out-k invariant-loop decreases-loop
-element-copy-out-k c = omega (arith, c.before.before.before.before.before.requires.0.few)
+element-copy-out-k : tie.Need-bounds-route-i invariant-loop decreases-loop
+element-copy-out-k c = omega (arith, c.requires.0.few)
 
-sub-i : tie.Need-overflow-sub-i invariant-loop decreases-loop
+sub-i : tie.Need-overflow_sub-i invariant-loop decreases-loop
 sub-i c = search rules
 
-mul-p : tie.Need-overflow-mul-p invariant-loop decreases-loop
-mul-p c = omega (arith, c.before.before.before.before.before.before.requires.0.few)
+mul-p : tie.Need-offset_bounds-route-i-in-loop-i invariant-loop decreases-loop
+mul-p c = omega (arith, c.requires.0.few)
 
-element-copy-out-p : tie.Need-element-copy-out-p invariant-loop decreases-loop
-element-copy-out-p c = omega (arith, c.before.before.before.before.before.before.requires.0.few)
+element-copy-out-p : tie.Need-bounds-route-i-in-loop-i invariant-loop decreases-loop
+element-copy-out-p c = omega (arith, c.requires.0.few)
 
 holds-requires : tie.Need-holds-requires invariant-loop decreases-loop
-holds-requires c κs = let l = c.before.before.before.before in l.before.before.before.before.requires.0.nodes (l.loop.i - 1) (omega arith)
+holds-requires c κs = let l = c in l.requires.0.nodes (l.loop-i.i - 1) (omega arith)
 
-mul-rides : tie.Need-overflow-mul-rides invariant-loop decreases-loop
+mul-rides : tie.Need-offset_bounds-h-i invariant-loop decreases-loop
 mul-rides c = search rules
 
-element-copy-out-rides : tie.Need-element-copy-out-rides invariant-loop decreases-loop
+element-copy-out-rides : tie.Need-bounds-h-i invariant-loop decreases-loop
 element-copy-out-rides c = search rules
 
-rides-requires : tie.Need-rides-requires invariant-loop decreases-loop
-rides-requires c κs = let l = c.before.before.before.before.before.before in asks-room l.before.before.before.before.requires.0 (l.loop.i - 1) (omega arith)
+rides-requires : tie.Need-rides-on-requires invariant-loop decreases-loop
+rides-requires c κs = let l = c in asks-room l.requires.0 (l.loop-i.i - 1) (omega arith)
 
-strike-requires : tie.Need-strike-requires invariant-loop decreases-loop
-strike-requires c κs = let l = c.before.before.before.before.before.before.before in l.before.before.before.before.requires.0.nodes (l.loop.i - 1) (omega arith)
+strike-requires : tie.Need-strike-w-requires invariant-loop decreases-loop
+strike-requires c κs = let l = c in l.requires.0.nodes (l.loop-i.i - 1) (omega arith)
 
-loop-less : tie.Need-loop-smaller invariant-loop decreases-loop
+loop-less : tie.Need-loop-i-smaller invariant-loop decreases-loop
 loop-less c = search rules
 
-loop-again : tie.Need-loop-preserved invariant-loop decreases-loop
+loop-again : tie.Need-loop-i-preserved invariant-loop decreases-loop
 loop-again c =
-    let r = c.before in
-    let g = r.before.before in
-    let l = g.before.before.before.before.before in
-    let a = l.before.before.before.before.args in
-    let i = l.loop.i - 1 in
-    let z : l.loop.i ≡ suc i = omega arith in (
+    let r = c in
+    let g = r in
+    let l = g in
+    let a = l.args in
+    let i = l.loop-i.i - 1 in
+    let z : l.loop-i.i ≡ suc i = omega arith in (
       omega arith,
-      back-next a.route.now _ _ false _ (rw z at l.loop.invariant.1) (omega arith)
-          (r.rides.ensures ∙ (λ u. fits_at a.h.now a.ride i && ((eqb (get_or a.route.now ((z ∙ sym (add-one i)) u) 0) a.partner.node || g.holds.ensures u) || l.loop.on))) c.strike.ensures,
+      back-next a.route.now _ _ false _ (rw z at l.loop-i.invariant.1) (omega arith)
+          (r.rides-on.ensures ∙ (λ u. fits_at a.h.now a.ride i && ((eqb (get_or a.route.now ((z ∙ sym (add-one i)) u) 0) a.partner.node || g.holds.ensures u) || l.loop-i.on))) c.strike-w.ensures,
     )
 
-returns-3 : tie.Need-returns-3 invariant-loop decreases-loop
+returns-3 : tie.Need-returns invariant-loop decreases-loop
 unfolding rides_down
 returns-3 c =
-    let l = c.before in
-    let e : l.loop.i ≡ 0 = omega arith in
-    rw e at l.loop.invariant.1.kept
+    let l = c in
+    let e : l.loop-i.i ≡ 0 = omega arith in
+    rw e at l.loop-i.invariant.1.kept
 
-pub backward-spec : {M : Type 1} → statement M
-backward-spec =
+pub backward_spec : {M : Type 1} → statement M
+backward_spec =
     tie.close
     (tie.spec
     invariant-loop

@@ -9,51 +9,51 @@ use Rattle.walks.proofs.Meeting.{fails-at}
 use Rattle.walks.proofs.first_open.Statement.{statement}
 use Rattle.walks.proofs.first_open.Tie as tie
 
-abbrev invariant-loop : tie.invariant-loop
+abbrev invariant-loop : tie.invariant-loop-i
 invariant-loop route places end i₀ i = (i ≤ end) × ((k : ℕ) → k < i → has places (get_or route k 0) ≡ false)
 
-abbrev decreases-loop : tie.decreases-loop
+abbrev decreases-loop : tie.decreases-loop-i
 decreases-loop route places end i₀ i = end - i
 
-returns : tie.Need-returns invariant-loop decreases-loop
-returns c = (omega arith, λ i h. ap (λ (w : ℕ). has w (get_or c.before.args.route.now i 0)) c.if1.true ∙ has-none _, λ h. absurd (omega arith))
+returns : tie.Need-returns-then-places-eq0 invariant-loop decreases-loop
+returns c = (omega arith, λ i h. ap (λ (w : ℕ). has w (get_or c.args.route.now i 0)) c.if-places-eq0.true ∙ has-none _, λ h. absurd (omega arith))
 
-loop-holds : tie.Need-loop-init invariant-loop decreases-loop
+loop-holds : tie.Need-loop-i-init invariant-loop decreases-loop
 loop-holds c = (omega arith, λ k h. absurd (omega arith))
 
-mul-p : tie.Need-overflow-mul-p invariant-loop decreases-loop
+mul-p : tie.Need-offset_bounds-route-i invariant-loop decreases-loop
 mul-p c = omega arith
 
-element-copy-out-p : tie.Need-element-copy-out-p invariant-loop decreases-loop
+element-copy-out-p : tie.Need-bounds-route-i invariant-loop decreases-loop
 element-copy-out-p c = omega arith
 
 holds-requires : tie.Need-holds-requires invariant-loop decreases-loop
-holds-requires c κs = c.before.before.before.before.requires.2 c.before.before.loop.i c.before.loop-test.true
+holds-requires c κs = c.requires.2 c.loop-i.i c.loop-i-test.true
 
-returns-2 : tie.Need-returns-2 invariant-loop decreases-loop
+returns-2 : tie.Need-returns-then-holds invariant-loop decreases-loop
 returns-2 c =
-    let l = c.before.before.before.before in (omega arith, l.loop.invariant.1, λ h. sym c.before.holds.ensures ∙ c.if2.true)
+    let l = c in (omega arith, l.loop-i.invariant.1, λ h. sym c.holds.ensures ∙ c.if-holds.true)
 
-add-i : tie.Need-overflow-add-i invariant-loop decreases-loop
+add-i : tie.Need-overflow_add-i invariant-loop decreases-loop
 add-i c = omega arith
 
-loop-less : tie.Need-loop-smaller invariant-loop decreases-loop
+loop-less : tie.Need-loop-i-smaller invariant-loop decreases-loop
 loop-less c = omega arith
 
-loop-again : tie.Need-loop-preserved invariant-loop decreases-loop
+loop-again : tie.Need-loop-i-preserved invariant-loop decreases-loop
 loop-again c =
-    let l = c.before.before.before.before in
-    let a = l.before.before.args in (
+    let l = c in
+    let a = l.args in (
       omega arith,
-      λ k h. fails-at (λ i. has a.places (get_or a.route.now i 0)) l.loop.i k (sym c.before.holds.ensures ∙ c.if2.false) (λ n. l.loop.invariant.1 k (omega arith)),
+      λ k h. fails-at (λ i. has a.places (get_or a.route.now i 0)) l.loop-i.i k (sym c.holds.ensures ∙ c.if-holds.false) (λ n. l.loop-i.invariant.1 k (omega arith)),
     )
 
-returns-3 : tie.Need-returns-3 invariant-loop decreases-loop
+returns-3 : tie.Need-returns invariant-loop decreases-loop
 returns-3 c =
-    let l = c.before in let e : l.loop.i ≡ l.before.before.args.end = omega arith in (omega arith, rw e at l.loop.invariant.1, λ h. absurd (omega arith))
+    let l = c in let e : l.loop-i.i ≡ l.args.end = omega arith in (omega arith, rw e at l.loop-i.invariant.1, λ h. absurd (omega arith))
 
-pub first-open-spec : {M : Type 1} → statement M
-first-open-spec =
+pub first_open_spec : {M : Type 1} → statement M
+first_open_spec =
     tie.close
     (tie.spec
     invariant-loop

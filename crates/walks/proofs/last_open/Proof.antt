@@ -9,54 +9,54 @@ use Rattle.walks.proofs.Meeting.{fails-at}
 use Rattle.walks.proofs.last_open.Statement.{statement}
 use Rattle.walks.proofs.last_open.Tie as tie
 
-abbrev invariant-loop : tie.invariant-loop
+abbrev invariant-loop : tie.invariant-loop-past
 invariant-loop route places start legs past₀ past = (start ≤ past) × (past ≤ legs) × ((k : ℕ) → past ≤ k → k < legs → has places (get_or route k 0) ≡ false)
 
-abbrev decreases-loop : tie.decreases-loop
+abbrev decreases-loop : tie.decreases-loop-past
 decreases-loop route places start legs past₀ past = past
 
-returns : tie.Need-returns invariant-loop decreases-loop
-returns c = (omega arith, omega arith, λ i g h. ap (λ (w : ℕ). has w (get_or c.before.args.route.now i 0)) c.if1.true ∙ has-none _, λ h. absurd (omega arith))
+returns : tie.Need-returns-then-places-eq0 invariant-loop decreases-loop
+returns c = (omega arith, omega arith, λ i g h. ap (λ (w : ℕ). has w (get_or c.args.route.now i 0)) c.if-places-eq0.true ∙ has-none _, λ h. absurd (omega arith))
 
-loop-holds : tie.Need-loop-init invariant-loop decreases-loop
+loop-holds : tie.Need-loop-past-init invariant-loop decreases-loop
 loop-holds c = (omega arith, omega arith, λ k g h. absurd (omega arith))
 
-sub-leg : tie.Need-overflow-sub-leg invariant-loop decreases-loop
+sub-leg : tie.Need-overflow_sub-leg invariant-loop decreases-loop
 sub-leg c = omega arith
 
-mul-p : tie.Need-overflow-mul-p invariant-loop decreases-loop
+mul-p : tie.Need-offset_bounds-route-leg invariant-loop decreases-loop
 mul-p c = omega arith
 
-element-copy-out-p : tie.Need-element-copy-out-p invariant-loop decreases-loop
+element-copy-out-p : tie.Need-bounds-route-leg invariant-loop decreases-loop
 element-copy-out-p c = omega arith
 
 holds-requires : tie.Need-holds-requires invariant-loop decreases-loop
-holds-requires c κs = c.before.before.before.before.requires.3 (c.before.before.loop.past - 1) (omega arith)
+holds-requires c κs = c.requires.3 (c.loop-past.past - 1) (omega arith)
 
-returns-2 : tie.Need-returns-2 invariant-loop decreases-loop
+returns-2 : tie.Need-returns-then-holds invariant-loop decreases-loop
 returns-2 c =
-    let l = c.before.before.before.before in
-    (omega arith, omega arith, l.loop.invariant.2, λ h. sym c.before.holds.ensures ∙ c.if2.true)
+    let l = c in
+    (omega arith, omega arith, l.loop-past.invariant.2, λ h. sym c.holds.ensures ∙ c.if-holds.true)
 
-loop-less : tie.Need-loop-smaller invariant-loop decreases-loop
+loop-less : tie.Need-loop-past-smaller invariant-loop decreases-loop
 loop-less c = omega arith
 
-loop-again : tie.Need-loop-preserved invariant-loop decreases-loop
+loop-again : tie.Need-loop-past-preserved invariant-loop decreases-loop
 loop-again c =
-    let l = c.before.before.before.before in
-    let a = l.before.before.args in (
+    let l = c in
+    let a = l.args in (
       omega arith,
       omega arith,
-      λ k g h. fails-at (λ i. has a.places (get_or a.route.now i 0)) (l.loop.past - 1) k (sym c.before.holds.ensures ∙ c.if2.false) (λ n. l.loop.invariant.2 k (omega arith) h),
+      λ k g h. fails-at (λ i. has a.places (get_or a.route.now i 0)) (l.loop-past.past - 1) k (sym c.holds.ensures ∙ c.if-holds.false) (λ n. l.loop-past.invariant.2 k (omega arith) h),
     )
 
-returns-3 : tie.Need-returns-3 invariant-loop decreases-loop
+returns-3 : tie.Need-returns invariant-loop decreases-loop
 returns-3 c =
-    let l = c.before in
-    let e : l.loop.past ≡ l.before.before.args.start = omega arith in (omega arith, omega arith, rw e at l.loop.invariant.2, λ h. absurd (omega arith))
+    let l = c in
+    let e : l.loop-past.past ≡ l.args.start = omega arith in (omega arith, omega arith, rw e at l.loop-past.invariant.2, λ h. absurd (omega arith))
 
-pub last-open-spec : {M : Type 1} → statement M
-last-open-spec =
+pub last_open_spec : {M : Type 1} → statement M
+last_open_spec =
     tie.close
     (tie.spec
     invariant-loop

@@ -10,5 +10,5 @@ minus-requires c κs = search rules
 returns : tie.Need-returns
 returns c = minus-has (omega arith) (omega arith) c.minus.ensures
 
-pub less-spec : {M : Type 1} → statement M
-less-spec = tie.close (tie.spec minus-requires returns)
+pub less_spec : {M : Type 1} → statement M
+less_spec = tie.close (tie.spec minus-requires returns)

@@ -5,11 +5,11 @@ use Rattle.walks.proofs.strike.Tie as tie
 take-requires : tie.Need-take-requires
 take-requires c κs = search rules
 
-returns : tie.Need-returns
+returns : tie.Need-returns-then-stays
 returns c = search rules
 
-returns-2 : tie.Need-returns-2
-returns-2 c = rw c.before.if1.false c.take.ensures
+returns-2 : tie.Need-returns-else-stays
+returns-2 c = rw c.if-stays.false c.take.ensures
 
-pub strike-spec : {M : Type 1} → statement M
-strike-spec = tie.close (tie.spec take-requires returns returns-2)
+pub strike_spec : {M : Type 1} → statement M
+strike_spec = tie.close (tie.spec take-requires returns returns-2)

@@ -10,64 +10,64 @@ use Rattle.walks.proofs.Riding.{Back, back-begin, back-next, asks-room, end-room
 use Rattle.walks.proofs.to_end.Statement.{statement}
 use Rattle.walks.proofs.to_end.Tie as tie
 
-abbrev invariant-loop : tie.invariant-loop
+abbrev invariant-loop : tie.invariant-loop-i
 invariant-loop word route h ride w₀ on₀ i₀ w on i = (i ≤ ride.legs) × Back route (fits_at h ride) nobody true ride.legs word i w on
 
-abbrev decreases-loop : tie.decreases-loop
+abbrev decreases-loop : tie.decreases-loop-i
 decreases-loop word route h ride w₀ on₀ i₀ w on i = i
 
-returns : tie.Need-returns invariant-loop decreases-loop
-returns c = kept-zero c.if1.true
+returns : tie.Need-returns-then-word-eq0 invariant-loop decreases-loop
+returns c = kept-zero c.if-word-eq0.true
 
-fits-all-requires : tie.Need-fits-all-requires invariant-loop decreases-loop
-fits-all-requires c κs = let g = c.before.requires in (g.high, g.low)
+fits-all-requires : tie.Need-fits_all-requires invariant-loop decreases-loop
+fits-all-requires c κs = let g = c.requires in (g.high, g.low)
 
-returns-2 : tie.Need-returns-2 invariant-loop decreases-loop
-returns-2 c = let o = c.before in kept-pass (λ i a b. end-roomy o.before.before.requires (leb-true _ _ (sym o.fits_all.ensures ∙ c.if2.true)) i b)
+returns-2 : tie.Need-returns-then-fits_all invariant-loop decreases-loop
+returns-2 c = let o = c in kept-pass (λ i a b. end-roomy o.requires (leb-true _ _ (sym o.fits_all.ensures ∙ c.if-fits_all.true)) i b)
 
-loop-holds : tie.Need-loop-init invariant-loop decreases-loop
+loop-holds : tie.Need-loop-i-init invariant-loop decreases-loop
 loop-holds c = (omega arith, back-begin _ _ _ _ _)
 
-sub-i : tie.Need-overflow-sub-i invariant-loop decreases-loop
+sub-i : tie.Need-overflow_sub-i invariant-loop decreases-loop
 sub-i c = search rules
 
-mul-rides : tie.Need-overflow-mul-rides invariant-loop decreases-loop
-mul-rides c = omega (arith, c.before.before.before.before.before.requires.few)
+mul-rides : tie.Need-offset_bounds-h-i invariant-loop decreases-loop
+mul-rides c = omega (arith, c.requires.few)
 
-element-copy-out-rides : tie.Need-element-copy-out-rides invariant-loop decreases-loop
-element-copy-out-rides c = omega (arith, c.before.before.before.before.before.requires.few)
+element-copy-out-rides : tie.Need-bounds-h-i invariant-loop decreases-loop
+element-copy-out-rides c = omega (arith, c.requires.few)
 
-rides-requires : tie.Need-rides-requires invariant-loop decreases-loop
-rides-requires c κs = let l = c.before.before in asks-room l.before.before.before.before.requires (l.loop.i - 1) (omega arith)
+rides-requires : tie.Need-rides-on-requires invariant-loop decreases-loop
+rides-requires c κs = let l = c in asks-room l.requires (l.loop-i.i - 1) (omega arith)
 
-mul-strike : tie.Need-overflow-mul-strike invariant-loop decreases-loop
-mul-strike c = omega (arith, c.before.before.before.before.before.before.before.requires.few)
+mul-strike : tie.Need-offset_bounds-route-i invariant-loop decreases-loop
+mul-strike c = omega (arith, c.requires.few)
 
-element-copy-out-strike : tie.Need-element-copy-out-strike invariant-loop decreases-loop
-element-copy-out-strike c = omega (arith, c.before.before.before.before.before.before.before.requires.few)
+element-copy-out-strike : tie.Need-bounds-route-i invariant-loop decreases-loop
+element-copy-out-strike c = omega (arith, c.requires.few)
 
-strike-requires : tie.Need-strike-requires invariant-loop decreases-loop
-strike-requires c κs = let l = c.before.before.before.before in l.before.before.before.before.requires.nodes (l.loop.i - 1) (omega arith)
+strike-requires : tie.Need-strike-w-requires invariant-loop decreases-loop
+strike-requires c κs = let l = c in l.requires.nodes (l.loop-i.i - 1) (omega arith)
 
-loop-less : tie.Need-loop-smaller invariant-loop decreases-loop
+loop-less : tie.Need-loop-i-smaller invariant-loop decreases-loop
 loop-less c = search rules
 
-loop-again : tie.Need-loop-preserved invariant-loop decreases-loop
+loop-again : tie.Need-loop-i-preserved invariant-loop decreases-loop
 loop-again c =
-    let r = c.before.before in
-    let l = r.before.before.before in
-    let z : l.loop.i ≡ suc (l.loop.i - 1) = omega arith in
-    (omega arith, back-next _ _ _ true _ (rw z at l.loop.invariant.1) (omega arith) r.rides.ensures c.strike.ensures)
+    let r = c in
+    let l = r in
+    let z : l.loop-i.i ≡ suc (l.loop-i.i - 1) = omega arith in
+    (omega arith, back-next _ _ _ true _ (rw z at l.loop-i.invariant.1) (omega arith) r.rides-on.ensures c.strike-w.ensures)
 
-returns-3 : tie.Need-returns-3 invariant-loop decreases-loop
+returns-3 : tie.Need-returns invariant-loop decreases-loop
 unfolding to_end
 returns-3 c =
-    let l = c.before in
-    let e : l.loop.i ≡ 0 = omega arith in
-    rw e at l.loop.invariant.1.kept
+    let l = c in
+    let e : l.loop-i.i ≡ 0 = omega arith in
+    rw e at l.loop-i.invariant.1.kept
 
-pub to-end-spec : {M : Type 1} → statement M
-to-end-spec =
+pub to_end_spec : {M : Type 1} → statement M
+to_end_spec =
     tie.close
     (tie.spec
     invariant-loop

@@ -16,12 +16,12 @@ below_last n x h =
     (λ e. let z = ltb-true x (n - 1) e in e ∙ sym (lt-ltb (x + 1) n (omega arith)))
     (λ e. let z = ltb-false x (n - 1) e in e ∙ sym (le-ltb (x + 1) n (omega arith)))
 
-sub-result : tie.Need-overflow-sub-result
+sub-result : tie.Need-overflow_sub-result
 sub-result c = search rules
 
 returns : tie.Need-returns
 unfolding is_inner
 returns c = ap (◌&&◌ (leb 1 c.args.x)) (below_last c.args.n c.args.x c.requires)
 
-pub is-inner-spec : {M : Type 1} → statement M
-is-inner-spec = tie.close (tie.spec sub-result returns)
+pub is_inner_spec : {M : Type 1} → statement M
+is_inner_spec = tie.close (tie.spec sub-result returns)

@@ -5,5 +5,5 @@ use Rattle.words.proofs.node_ok.Tie as tie
 returns : tie.Need-returns
 returns c = refl
 
-pub node-ok-spec : {M : Type 1} → statement M
-node-ok-spec = tie.close (tie.spec returns)
+pub node_ok_spec : {M : Type 1} → statement M
+node_ok_spec = tie.close (tie.spec returns)

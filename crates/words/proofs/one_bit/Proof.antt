@@ -8,5 +8,5 @@ returns : tie.Need-returns
 unfolding one_bit any_below
 returns c = refl
 
-pub one-bit-spec : {M : Type 1} → statement M
-one-bit-spec = tie.close (tie.spec returns)
+pub one_bit_spec : {M : Type 1} → statement M
+one_bit_spec = tie.close (tie.spec returns)

@@ -13,113 +13,113 @@ use borrow.Author.Rules.{rules}
 use Rattle.board.proofs.form.board_ok.Statement.{statement}
 use Rattle.board.proofs.form.board_ok.Tie as tie
 
-returns : tie.Need-returns
+returns : tie.Need-returns-then-stops-lt2
 unfolding board_ok
-returns c = rw (lt-leb 2 _ c.if1.true)
+returns c = rw (lt-leb 2 _ c.if-stops-lt2.true)
 
-returns-2 : tie.Need-returns-2
+returns-2 : tie.Need-returns-then-n-stops
 unfolding board_ok
-returns-2 c = rw (le-leb 2 _ c.before.if1.false, lt-leb _ _ c.if2.true)
+returns-2 c = rw (le-leb 2 _ c.if-stops-lt2.false, lt-leb _ _ c.if-n-stops.true)
 
-element-copy-out-if3 : tie.Need-element-copy-out-if3
+element-copy-out-if3 : tie.Need-bounds-route-0
 element-copy-out-if3 c = search rules
 
-returns-3 : tie.Need-returns-3
+returns-3 : tie.Need-returns-then-route-ne0
 unfolding board_ok
 returns-3 c =
-    let d = c.before.before in
-    rw (le-leb 2 _ d.before.if1.false, le-leb _ _ d.if2.false, ne_eqb _ 0 c.if3.true)
+    let d = c in
+    rw (le-leb 2 _ d.if-stops-lt2.false, le-leb _ _ d.if-n-stops.false, ne_eqb _ 0 c.if-route-ne0.true)
 
-sub-if4 : tie.Need-overflow-sub-if4
+sub-if4 : tie.Need-overflow_sub-stops
 sub-if4 c = search rules
 
-mul-if4 : tie.Need-overflow-mul-if4
+mul-if4 : tie.Need-offset_bounds-route-stops
 mul-if4 c = search rules
 
-element-copy-out-if4 : tie.Need-element-copy-out-if4
+element-copy-out-if4 : tie.Need-bounds-route-stops
 element-copy-out-if4 c = search rules
 
-sub-if4-2 : tie.Need-overflow-sub-if4-2
+sub-if4-2 : tie.Need-overflow_sub-n
 sub-if4-2 c = search rules
 
-returns-4 : tie.Need-returns-4
+returns-4 : tie.Need-returns-then-route-stops
 unfolding board_ok
 returns-4 c =
-    let d = c.before.before in
-    rw (le-leb 2 _ d.before.before.before.if1.false, le-leb _ _ d.before.before.if2.false, eq-eqb _ 0 d.if3.false, ne_eqb _ _ c.if4.true)
+    let d = c in
+    rw (le-leb 2 _ d.if-stops-lt2.false, le-leb _ _ d.if-n-stops.false, eq-eqb _ 0 d.if-route-ne0.false, ne_eqb _ _ c.if-route-stops.true)
 
-abbrev start : tie.Else4 → tie.Start
-start c = c.before.before.before.before.before.before
+abbrev start : tie.Else-route-stops → tie.Start
+start c = c
 
 -- the board that the numbers make
 abbrev here : tie.Start → Board
 here c = board c.args.route.now c.args.stops c.args.sets.now c.args.marks c.args.must
 
 -- what is left to ask past the tests of the route's ends
-asked : (c : tie.Else4) → let b = here (start c) in let n = (start c).args.n in
+asked : (c : tie.Else-route-stops) → let b = here (start c) in let n = (start c).args.n in
     board_ok n b ≡ ((all_below b.stops (stop_ok n b.stops b.route) && all_below 64 (zero_from b.stops b.route)) && all_below 64 (λ y. set_ok n b y && (mark_ok n b y && must_ok n b y)))
 asked c =
     let s = start c in
-    let d = c.before.before.before.before in
-    board-test s.args.n (here s) s.pre.0 d.before.if1.false d.if2.false c.before.before.if3.false c.if4.false
+    let d = c in
+    board-test s.args.n (here s) s.pre.0 d.if-stops-lt2.false d.if-n-stops.false c.if-route-ne0.false c.if-route-stops.false
 
 -- a set that is not 0: the stops are as they must be, and it is theirs
-seen : (c : tie.Else5) → let b = here (start c.before.before) in let n = (start c.before.before).args.n in
-    (all_below b.stops (stop_ok n b.stops b.route) ≡ true) × (c.before.seen_of.result ≡ word_of b.stops b.route)
+seen : (c : tie.Else-on-eq0) → let b = here (start c.before.before) in let n = (start c.before.before).args.n in
+    (all_below b.stops (stop_ok n b.stops b.route) ≡ true) × (c.seen_of-on.result ≡ word_of b.stops b.route)
 seen c =
     let a = (start c.before.before).args in
-    let e = c.before.seen_of.ensures in
-    let r = seen-some a.n a.stops a.route.now (start c.before.before).requires.0 (omega arith) (λ z. c.if5.false (e ∙ z)) in
+    let e = c.seen_of-on.ensures in
+    let r = seen-some a.n a.stops a.route.now (start c.before.before).requires.0 (omega arith) (λ z. c.if-on-eq0.false (e ∙ z)) in
     (r.0, e ∙ r.1)
 
-seen-of-requires : tie.Need-seen-of-requires
+seen-of-requires : tie.Need-seen_of-on-requires
 seen-of-requires c κs = search rules
 
-returns-5 : tie.Need-returns-5
+returns-5 : tie.Need-returns-then-on-eq0
 returns-5 c =
-    let d = c.before.before in
+    let d = c in
     let a = (start d).args in
-    rw (asked d, seen_none a.n a.stops a.route.now (start d).requires.0 (omega arith) (sym c.before.seen_of.ensures ∙ c.if5.true))
+    rw (asked d, seen_none a.n a.stops a.route.now (start d).requires.0 (omega arith) (sym c.seen_of-on.ensures ∙ c.if-on-eq0.true))
 
-none-from-requires : tie.Need-none-from-requires
+none-from-requires : tie.Need-none_from-requires
 none-from-requires c κs = search rules
 
-returns-6 : tie.Need-returns-6
-returns-6 c = rw (asked c.before.before.before.before, (seen c.before.before).0, sym c.before.none_from.ensures ∙ not-true _ c.if6.true)
+returns-6 : tie.Need-returns-then-not-none_from
+returns-6 c = rw (asked c.before.before.before.before, (seen c.before.before).0, sym c.none_from.ensures ∙ c.if-not-none_from.true)
 
-stops-shut-requires : tie.Need-stops-shut-requires
+stops-shut-requires : tie.Need-stops_shut-requires
 stops-shut-requires c κs =
-    let d = c.before.before in
-    let a = (start d.before.before).args in
+    let d = c in
+    let a = (start d).args in
     (omega arith, λ i h. omega (arith, stop-below a.n a.stops a.route.now i h (below_at a.stops i (stop_ok a.n a.stops a.route.now) (seen d).0 h)))
 
-sets-ok-requires : tie.Need-sets-ok-requires
+sets-ok-requires : tie.Need-sets_ok-requires
 sets-ok-requires c κs = search rules
 
-marks-ok-requires : tie.Need-marks-ok-requires
+marks-ok-requires : tie.Need-marks_ok-requires
 marks-ok-requires c κs = search rules
 
-marks-ok-requires-2 : tie.Need-marks-ok-requires-2
+marks-ok-requires-2 : tie.Need-marks_ok-requires-2
 marks-ok-requires-2 c κs = search rules
 
-returns-7 : tie.Need-returns-7
+returns-7 : tie.Need-returns
 returns-7 c =
-    let e = c.before.before.before.before in
-    let d = e.before.before in
-    let s = start d.before.before in
+    let e = c in
+    let d = e in
+    let s = start d in
     rw (
-      asked d.before.before,
+      asked d,
       (seen d).0,
-      sym e.before.none_from.ensures ∙ not-false _ e.if6.false,
-      c.before.before.before.stops-shut.ensures,
-      c.before.before.sets-ok.ensures,
-      c.before.marks-ok.ensures,
-      c.marks-ok2.ensures,
+      sym e.none_from.ensures ∙ e.if-not-none_from.false,
+      c.stops_shut.ensures,
+      c.sets_ok.ensures,
+      c.marks_ok.ensures,
+      c.marks_ok-2.ensures,
       (seen d).1,
-    ) (nodes-test s.args.n (here s) s.pre.0 (omega arith) (omega arith) d.before.before.if4.false (seen d).0)
+    ) (nodes-test s.args.n (here s) s.pre.0 (omega arith) (omega arith) d.if-route-stops.false (seen d).0)
 
-pub board-ok-spec : {M : Type 1} → statement M
-board-ok-spec =
+pub board_ok_spec : {M : Type 1} → statement M
+board_ok_spec =
     tie.close
     (tie.spec
     returns

@@ -7,16 +7,16 @@ use borrow.Author.Rules.{rules}
 use Rattle.board.proofs.form.leg_node.Statement.{statement}
 use Rattle.board.proofs.form.leg_node.Tie as tie
 
-returns : tie.Need-returns
+returns : tie.Need-returns-then-n-p
 unfolding leg_node
-returns c = let a = c.before.args in rw (le-ltb (a.p + 1) a.n (omega arith))
+returns c = let a = c.args in rw (le-ltb (a.p + 1) a.n (omega arith))
 
-add-result : tie.Need-overflow-add-result
+add-result : tie.Need-overflow_add-result
 add-result c = search rules
 
-returns-2 : tie.Need-returns-2
+returns-2 : tie.Need-returns
 unfolding leg_node
 returns-2 c = refl
 
-pub leg-node-spec : {M : Type 1} → statement M
-leg-node-spec = tie.close (tie.spec returns add-result returns-2)
+pub leg_node_spec : {M : Type 1} → statement M
+leg_node_spec = tie.close (tie.spec returns add-result returns-2)

@@ -12,70 +12,70 @@ use Rattle.board.proofs.TestLaws.{entry_before, rises, before-next, falls, level
 use Rattle.board.proofs.form.levels_ok.Statement.{statement}
 use Rattle.board.proofs.form.levels_ok.Tie as tie
 
-abbrev invariant-loop : tie.invariant-loop
+abbrev invariant-loop : tie.invariant-loop-i
 invariant-loop levels depth records u₀ i₀ u i = (i ≤ depth) × (u ≡ entry_before levels i) × (all_below i (rises levels) ≡ true)
 
-abbrev decreases-loop : tie.decreases-loop
+abbrev decreases-loop : tie.decreases-loop-i
 decreases-loop levels depth records u₀ i₀ u i = depth - i
 
-returns : tie.Need-returns invariant-loop decreases-loop
+returns : tie.Need-returns-then-depth-gt-LEVELS invariant-loop decreases-loop
 unfolding levels_ok
-returns c = rw (lt-leb _ 64 c.if1.true)
+returns c = rw (lt-leb _ 64 c.if-depth-gt-LEVELS.true)
 
-loop-holds : tie.Need-loop-init invariant-loop decreases-loop
+loop-holds : tie.Need-loop-i-init invariant-loop decreases-loop
 unfolding entry_before
 loop-holds c = (omega arith, refl, below_none _)
 
-mul-v : tie.Need-overflow-mul-v invariant-loop decreases-loop
+mul-v : tie.Need-offset_bounds-levels-i invariant-loop decreases-loop
 mul-v c = omega arith
 
-element-copy-out-v : tie.Need-element-copy-out-v invariant-loop decreases-loop
+element-copy-out-v : tie.Need-bounds-levels-i invariant-loop decreases-loop
 element-copy-out-v c = omega arith
 
-returns-2 : tie.Need-returns-2 invariant-loop decreases-loop
+returns-2 : tie.Need-returns-then-v-u invariant-loop decreases-loop
 returns-2 c =
-    let d = c.before.before in
-    let a = d.before.before.before.args in
-    let i = d.before.loop.i in
+    let d = c in
+    let a = d.args in
+    let i = d.loop-i.i in
     rw (
-      levels-test a.depth a.records a.levels.now d.before.before.if1.false,
-      below_fails a.depth i (rises a.levels.now) d.loop-test.true (falls a.levels.now i (rw d.before.loop.invariant.1 at c.if2.true)),
+      levels-test a.depth a.records a.levels.now d.if-depth-gt-LEVELS.false,
+      below_fails a.depth i (rises a.levels.now) d.loop-i-test.true (falls a.levels.now i (rw d.loop-i.invariant.1 at c.if-v-u.true)),
     )
 
-add-i : tie.Need-overflow-add-i invariant-loop decreases-loop
+add-i : tie.Need-overflow_add-i invariant-loop decreases-loop
 add-i c = omega arith
 
-loop-less : tie.Need-loop-smaller invariant-loop decreases-loop
+loop-less : tie.Need-loop-i-smaller invariant-loop decreases-loop
 loop-less c = omega arith
 
-loop-again : tie.Need-loop-preserved invariant-loop decreases-loop
+loop-again : tie.Need-loop-i-preserved invariant-loop decreases-loop
 unfolding rises
 loop-again c =
-    let d = c.before.before.before in
-    let l = d.before.before.args.levels.now in
-    let v = d.loop.invariant in
-    (omega arith, sym (before-next l d.loop.i), below_next d.loop.i (rises l) v.2 (le-leb _ _ (rw v.1 at c.if2.false)))
+    let d = c in
+    let l = d.args.levels.now in
+    let v = d.loop-i.invariant in
+    (omega arith, sym (before-next l d.loop-i.i), below_next d.loop-i.i (rises l) v.2 (le-leb _ _ (rw v.1 at c.if-v-u.false)))
 
 -- past the loop the rising is known: what is left to ask
-asked : (c : tie.After-loop invariant-loop decreases-loop) → let a = c.before.before.before.args in
-    levels_ok a.depth a.records a.levels.now ≡ (leb c.before.loop.u a.records && all_below 64 (zero_from a.depth a.levels.now))
+asked : (c : tie.After-loop-i invariant-loop decreases-loop) → let a = c.args in
+    levels_ok a.depth a.records a.levels.now ≡ (leb c.loop-i.u a.records && all_below 64 (zero_from a.depth a.levels.now))
 asked c =
-    let a = c.before.before.before.args in
-    let v = c.before.loop.invariant in
-    let e : c.before.loop.i ≡ a.depth = omega arith in
-    rw (levels-test a.depth a.records a.levels.now c.before.before.if1.false, ← e, v.2, ← v.1) refl
+    let a = c.args in
+    let v = c.loop-i.invariant in
+    let e : c.loop-i.i ≡ a.depth = omega arith in
+    rw (levels-test a.depth a.records a.levels.now c.if-depth-gt-LEVELS.false, ← e, v.2, ← v.1) refl
 
-returns-3 : tie.Need-returns-3 invariant-loop decreases-loop
-returns-3 c = rw (asked c.before, lt-leb _ _ c.if3.true)
+returns-3 : tie.Need-returns-then-records-u invariant-loop decreases-loop
+returns-3 c = rw (asked c.before, lt-leb _ _ c.if-records-u.true)
 
-none-from-requires : tie.Need-none-from-requires invariant-loop decreases-loop
+none-from-requires : tie.Need-none_from-requires invariant-loop decreases-loop
 none-from-requires c κs = omega arith
 
-returns-4 : tie.Need-returns-4 invariant-loop decreases-loop
-returns-4 c = rw (asked c.before.before, le-leb _ _ c.before.if3.false) c.none_from.ensures
+returns-4 : tie.Need-returns invariant-loop decreases-loop
+returns-4 c = rw (asked c.before.before, le-leb _ _ c.if-records-u.false) c.none_from.ensures
 
-pub levels-ok-spec : {M : Type 1} → statement M
-levels-ok-spec =
+pub levels_ok_spec : {M : Type 1} → statement M
+levels_ok_spec =
     tie.close
     (tie.spec
     invariant-loop

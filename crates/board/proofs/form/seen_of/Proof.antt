@@ -14,76 +14,76 @@ use Rattle.board.proofs.TestLaws.{stop-far, stop-test}
 use Rattle.board.proofs.form.seen_of.Statement.{statement}
 use Rattle.board.proofs.form.seen_of.Tie as tie
 
-abbrev invariant-loop : tie.invariant-loop
+abbrev invariant-loop : tie.invariant-loop-i
 invariant-loop route stops n seen₀ i₀ seen i = (i ≤ stops) × (seen ≡ word_of i route) × (all_below i (stop_ok n stops route) ≡ true)
 
-abbrev decreases-loop : tie.decreases-loop
+abbrev decreases-loop : tie.decreases-loop-i
 decreases-loop route stops n seen₀ i₀ seen i = stops - i
 
-loop-holds : tie.Need-loop-init invariant-loop decreases-loop
+loop-holds : tie.Need-loop-i-init invariant-loop decreases-loop
 loop-holds c = (omega arith, sym (word_none _), below_none _)
 
-mul-e : tie.Need-overflow-mul-e invariant-loop decreases-loop
+mul-e : tie.Need-offset_bounds-route-i invariant-loop decreases-loop
 mul-e c = omega arith
 
-element-copy-out-e : tie.Need-element-copy-out-e invariant-loop decreases-loop
+element-copy-out-e : tie.Need-bounds-route-i invariant-loop decreases-loop
 element-copy-out-e c = omega arith
 
 -- whether the stop at hand was seen tells whether it is as it must be
-tested : (c : tie.After-holds invariant-loop decreases-loop) → let a = c.before.before.before.before.before.args in
-    stop_ok a.n a.stops a.route.now c.before.before.before.before.loop.i ≡ not c.holds.result
+tested : (c : tie.After-holds invariant-loop decreases-loop) → let a = c.args in
+    stop_ok a.n a.stops a.route.now c.loop-i.i ≡ not c.holds.result
 tested c =
-    let d = c.before.before.before in
-    let a = d.before.before.args in
-    let i = d.before.loop.i in
-    stop-test a.n a.stops a.route.now i d.loop-test.true (omega arith) (omega arith) c.before.if1.false
-    ∙ ap not (sym (c.holds.ensures ∙ ap (λ (w : ℕ). has w (get_or a.route.now i 0)) d.before.loop.invariant.1))
+    let d = c in
+    let a = d.args in
+    let i = d.loop-i.i in
+    stop-test a.n a.stops a.route.now i d.loop-i-test.true (omega arith) (omega arith) c.if-n-e.false
+    ∙ ap not (sym (c.holds.ensures ∙ ap (λ (w : ℕ). has w (get_or a.route.now i 0)) d.loop-i.invariant.1))
 
-returns : tie.Need-returns invariant-loop decreases-loop
+returns : tie.Need-returns-then-n-e invariant-loop decreases-loop
 unfolding seen_of
 returns c =
-    let d = c.before.before in
-    let a = d.before.before.args in
-    let i = d.before.loop.i in
-    let l = d.loop-test.true in
+    let d = c in
+    let a = d.args in
+    let i = d.loop-i.i in
+    let l = d.loop-i-test.true in
     let f = stop_ok a.n a.stops a.route.now in
-    rw (below_fails a.stops i f l (stop-far a.n a.stops a.route.now i l c.if1.true))
+    rw (below_fails a.stops i f l (stop-far a.n a.stops a.route.now i l c.if-n-e.true))
 
 holds-requires : tie.Need-holds-requires invariant-loop decreases-loop
 holds-requires c κs = omega arith
 
-returns-2 : tie.Need-returns-2 invariant-loop decreases-loop
+returns-2 : tie.Need-returns-then-holds invariant-loop decreases-loop
 unfolding seen_of
 returns-2 c =
-    let d = c.before.before.before.before in
-    let a = d.before.before.args in
+    let d = c in
+    let a = d.args in
     let f = stop_ok a.n a.stops a.route.now in
-    rw (below_fails a.stops d.before.loop.i f d.loop-test.true (tested c.before ∙ ap not c.if2.true))
+    rw (below_fails a.stops d.loop-i.i f d.loop-i-test.true (tested c.before ∙ ap not c.if-holds.true))
 
-put-requires : tie.Need-put-requires invariant-loop decreases-loop
+put-requires : tie.Need-put-seen-requires invariant-loop decreases-loop
 put-requires c κs = omega arith
 
-add-i : tie.Need-overflow-add-i invariant-loop decreases-loop
+add-i : tie.Need-overflow_add-i invariant-loop decreases-loop
 add-i c = omega arith
 
-loop-less : tie.Need-loop-smaller invariant-loop decreases-loop
+loop-less : tie.Need-loop-i-smaller invariant-loop decreases-loop
 loop-less c = omega arith
 
-loop-again : tie.Need-loop-preserved invariant-loop decreases-loop
+loop-again : tie.Need-loop-i-preserved invariant-loop decreases-loop
 loop-again c =
-    let v = c.before.before.before.before.before.before.loop.invariant in
-    (omega arith, c.put.ensures ∙ rw v.1 (sym (word_more _ _)), below_next _ _ v.2 (tested c.before.before ∙ ap not c.before.if2.false))
+    let v = c.loop-i.invariant in
+    (omega arith, c.put-seen.ensures ∙ rw v.1 (sym (word_more _ _)), below_next _ _ v.2 (tested c.before.before ∙ ap not c.if-holds.false))
 
-returns-3 : tie.Need-returns-3 invariant-loop decreases-loop
+returns-3 : tie.Need-returns invariant-loop decreases-loop
 unfolding seen_of
 returns-3 c =
-    let v = c.before.loop.invariant in
-    let a = c.before.before.args in
-    let e : c.before.loop.i ≡ a.stops = omega arith in
-    rw (sym (below-done _ _ _ v.0 c.loop-test.false v.2)) (v.1 ∙ ap (λ (i : ℕ). word_of i a.route.now) e)
+    let v = c.loop-i.invariant in
+    let a = c.args in
+    let e : c.loop-i.i ≡ a.stops = omega arith in
+    rw (sym (below-done _ _ _ v.0 c.loop-i-test.false v.2)) (v.1 ∙ ap (λ (i : ℕ). word_of i a.route.now) e)
 
-pub seen-of-spec : {M : Type 1} → statement M
-seen-of-spec =
+pub seen_of_spec : {M : Type 1} → statement M
+seen_of_spec =
     tie.close
     (tie.spec
     invariant-loop

@@ -10,45 +10,45 @@ use Rattle.board.proofs.TestLaws.{over-goes}
 use Rattle.board.proofs.form.stops_shut.Statement.{statement}
 use Rattle.board.proofs.form.stops_shut.Tie as tie
 
-abbrev invariant-loop : tie.invariant-loop
+abbrev invariant-loop : tie.invariant-loop-i
 invariant-loop route stops sets places₀ i₀ places i = (i ≤ stops) × (all_below i (stop_shut route sets) ≡ eqb places 0)
 
-abbrev decreases-loop : tie.decreases-loop
+abbrev decreases-loop : tie.decreases-loop-i
 decreases-loop route stops sets places₀ i₀ places i = stops - i
 
-loop-holds : tie.Need-loop-init invariant-loop decreases-loop
+loop-holds : tie.Need-loop-i-init invariant-loop decreases-loop
 loop-holds c = (omega arith, below_none _)
 
-mul-x : tie.Need-overflow-mul-x invariant-loop decreases-loop
+mul-x : tie.Need-offset_bounds-route-i invariant-loop decreases-loop
 mul-x c = omega arith
 
-element-copy-out-x : tie.Need-element-copy-out-x invariant-loop decreases-loop
+element-copy-out-x : tie.Need-bounds-route-i invariant-loop decreases-loop
 element-copy-out-x c = omega arith
 
-mul-places : tie.Need-overflow-mul-places invariant-loop decreases-loop
-mul-places c = omega (arith, c.before.before.before.requires.1 _ c.before.loop-test.true)
+mul-places : tie.Need-offset_bounds-sets-x invariant-loop decreases-loop
+mul-places c = omega (arith, c.requires.1 _ c.loop-i-test.true)
 
-element-copy-out-places : tie.Need-element-copy-out-places invariant-loop decreases-loop
-element-copy-out-places c = omega (arith, c.before.before.before.requires.1 _ c.before.loop-test.true)
+element-copy-out-places : tie.Need-bounds-sets-x invariant-loop decreases-loop
+element-copy-out-places c = omega (arith, c.requires.1 _ c.loop-i-test.true)
 
-add-i : tie.Need-overflow-add-i invariant-loop decreases-loop
+add-i : tie.Need-overflow_add-i invariant-loop decreases-loop
 add-i c = omega arith
 
-loop-less : tie.Need-loop-smaller invariant-loop decreases-loop
+loop-less : tie.Need-loop-i-smaller invariant-loop decreases-loop
 loop-less c = omega arith
 
-loop-again : tie.Need-loop-preserved invariant-loop decreases-loop
+loop-again : tie.Need-loop-i-preserved invariant-loop decreases-loop
 unfolding stop_shut
 loop-again c =
-    let d = c.before.before.before in
-    let a = d.before.args in
-    (omega arith, over-goes d.loop.i (stop_shut a.route.now a.sets.now) true d.loop.places _ d.loop.invariant.1 refl)
+    let d = c in
+    let a = d.args in
+    (omega arith, over-goes d.loop-i.i (stop_shut a.route.now a.sets.now) true d.loop-i.places _ d.loop-i.invariant.1 refl)
 
 returns : tie.Need-returns invariant-loop decreases-loop
-returns c = let v = c.before.loop.invariant in flag-done _ _ _ v.0 c.loop-test.false v.1
+returns c = let v = c.loop-i.invariant in flag-done _ _ _ v.0 c.loop-i-test.false v.1
 
-pub stops-shut-spec : {M : Type 1} → statement M
-stops-shut-spec =
+pub stops_shut_spec : {M : Type 1} → statement M
+stops_shut_spec =
     tie.close
     (tie.spec
     invariant-loop

@@ -10,42 +10,42 @@ use Rattle.board.specs.Board.{places_of}
 use Rattle.board.proofs.places.count.Statement.{statement}
 use Rattle.board.proofs.places.count.Tie as tie
 
-abbrev invariant-loop : tie.invariant-loop
+abbrev invariant-loop : tie.invariant-loop-y
 invariant-loop sets n k₀ y₀ k y = (y ≤ n) × (n ≤ 64) × (k ≤ 64 * y) × (k ≡ sum_below y (λ i. ones (get_or sets i 0)))
 
-abbrev decreases-loop : tie.decreases-loop
+abbrev decreases-loop : tie.decreases-loop-y
 decreases-loop sets n k₀ y₀ k y = n - y
 
-loop-holds : tie.Need-loop-init invariant-loop decreases-loop
+loop-holds : tie.Need-loop-y-init invariant-loop decreases-loop
 loop-holds c = (omega arith, c.requires, omega arith, sym (sum-none _))
 
-mul-count : tie.Need-overflow-mul-count invariant-loop decreases-loop
+mul-count : tie.Need-offset_bounds-sets-y invariant-loop decreases-loop
 mul-count c = omega arith
 
-element-copy-out-count : tie.Need-element-copy-out-count invariant-loop decreases-loop
+element-copy-out-count : tie.Need-bounds-sets-y invariant-loop decreases-loop
 element-copy-out-count c = omega arith
 
-count-requires : tie.Need-count-requires invariant-loop decreases-loop
+count-requires : tie.Need-count-one-requires invariant-loop decreases-loop
 count-requires c κs = search rules
 
-add-k : tie.Need-overflow-add-k invariant-loop decreases-loop
-add-k c = omega (arith, c.count.ensures.1)
+add-k : tie.Need-overflow_add-k invariant-loop decreases-loop
+add-k c = omega (arith, c.count-one.ensures.1)
 
-add-y : tie.Need-overflow-add-y invariant-loop decreases-loop
+add-y : tie.Need-overflow_add-y invariant-loop decreases-loop
 add-y c = omega arith
 
-loop-less : tie.Need-loop-smaller invariant-loop decreases-loop
+loop-less : tie.Need-loop-y-smaller invariant-loop decreases-loop
 loop-less c = omega arith
 
-loop-again : tie.Need-loop-preserved invariant-loop decreases-loop
-loop-again c = let v = c.before.before.before.loop.invariant in (omega arith, v.1, omega (arith, c.count.ensures.1), sum-next _ _ v.3 c.count.ensures.0)
+loop-again : tie.Need-loop-y-preserved invariant-loop decreases-loop
+loop-again c = let v = c.loop-y.invariant in (omega arith, v.1, omega (arith, c.count-one.ensures.1), sum-next _ _ v.3 c.count-one.ensures.0)
 
 returns : tie.Need-returns invariant-loop decreases-loop
 unfolding places_of
 returns c =
-    let v = c.before.loop.invariant in
-    let e : c.before.loop.y ≡ c.before.before.args.n = omega arith in
-    (v.3 ∙ ap (λ (i : ℕ). places_of c.before.before.args.sets.now i) e, omega arith)
+    let v = c.loop-y.invariant in
+    let e : c.loop-y.y ≡ c.args.n = omega arith in
+    (v.3 ∙ ap (λ (i : ℕ). places_of c.args.sets.now i) e, omega arith)
 
 pub count_spec : {M : Type 1} → statement M
 count_spec =

@@ -10,13 +10,13 @@ has-requires c κs = search rules
 with-requires : tie.Need-with-requires
 with-requires c κs = search rules
 
-returns : tie.Need-returns
+returns : tie.Need-returns-then-has
 unfolding heir
-returns c = rw (sym c.before.before.has.ensures ∙ c.before.if1.true) c.with.ensures
+returns c = rw (sym c.has.ensures ∙ c.if-has.true) c.with.ensures
 
-returns-2 : tie.Need-returns-2
+returns-2 : tie.Need-returns-else-has
 unfolding heir
-returns-2 c = rw (sym c.before.has.ensures ∙ c.if1.false)
+returns-2 c = rw (sym c.has.ensures ∙ c.if-has.false)
 
-pub heir-of-spec : {M : Type 1} → statement M
-heir-of-spec = tie.close (tie.spec has-requires with-requires returns returns-2)
+pub heir_of_spec : {M : Type 1} → statement M
+heir_of_spec = tie.close (tie.spec has-requires with-requires returns returns-2)

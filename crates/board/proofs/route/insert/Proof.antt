@@ -7,56 +7,56 @@ use native.Mathlib.Omega.{arith}
 use Rattle.board.proofs.route.insert.Statement.{statement}
 use Rattle.board.proofs.route.insert.Tie as tie
 
-abbrev invariant-loop : tie.invariant-loop
+abbrev invariant-loop : tie.invariant-loop-j
 invariant-loop route₀ at x j₀ route j = (at ≤ j) × (j ≤ 63) × (route ≡ swept (insert_in 63 at x route₀) route₀ (j + 1))
 
-abbrev decreases-loop : tie.decreases-loop
+abbrev decreases-loop : tie.decreases-loop-j
 decreases-loop route₀ at x j₀ route j = j
 
-loop-holds : tie.Need-loop-init invariant-loop decreases-loop
+loop-holds : tie.Need-loop-j-init invariant-loop decreases-loop
 loop-holds c = (omega arith, omega arith, shift-start 63 _ _ _ c.requires.1 (omega arith))
 
-sub-v : tie.Need-overflow-sub-v invariant-loop decreases-loop
+sub-v : tie.Need-overflow_sub-v invariant-loop decreases-loop
 sub-v c = omega arith
 
-mul-v : tie.Need-overflow-mul-v invariant-loop decreases-loop
+mul-v : tie.Need-offset_bounds-route-j invariant-loop decreases-loop
 mul-v c = omega arith
 
-element-copy-out-v : tie.Need-element-copy-out-v invariant-loop decreases-loop
+element-copy-out-v : tie.Need-bounds-route-j invariant-loop decreases-loop
 element-copy-out-v c = omega arith
 
-mul-route : tie.Need-overflow-mul-route invariant-loop decreases-loop
+mul-route : tie.Need-offset_bounds-route-j-in-loop-j invariant-loop decreases-loop
 mul-route c = omega arith
 
-element-write-route : tie.Need-element-write-route invariant-loop decreases-loop
+element-write-route : tie.Need-bounds-route-j-in-loop-j invariant-loop decreases-loop
 element-write-route c = omega arith
 
-sub-j : tie.Need-overflow-sub-j invariant-loop decreases-loop
+sub-j : tie.Need-overflow_sub-j invariant-loop decreases-loop
 sub-j c = omega arith
 
-loop-less : tie.Need-loop-smaller invariant-loop decreases-loop
+loop-less : tie.Need-loop-j-smaller invariant-loop decreases-loop
 loop-less c = omega arith
 
-loop-again : tie.Need-loop-preserved invariant-loop decreases-loop
+loop-again : tie.Need-loop-j-preserved invariant-loop decreases-loop
 loop-again c =
-    let a = c.before.before.before.args in
-    let v = c.before.before.loop.invariant in
-    (omega arith, omega arith, shift-turn 63 a.at a.x a.route.now c.before.before.before.requires.1 (omega arith) c.before.before.loop.j c.before.before.loop.route (omega arith) (omega arith) v.2)
+    let a = c.args in
+    let v = c.loop-j.invariant in
+    (omega arith, omega arith, shift-turn 63 a.at a.x a.route.now c.requires.1 (omega arith) c.loop-j.j c.loop-j.route (omega arith) (omega arith) v.2)
 
-mul-route-2 : tie.Need-overflow-mul-route-2 invariant-loop decreases-loop
+mul-route-2 : tie.Need-offset_bounds-route-at invariant-loop decreases-loop
 mul-route-2 c = omega arith
 
-element-write-route-2 : tie.Need-element-write-route-2 invariant-loop decreases-loop
+element-write-route-2 : tie.Need-bounds-route-at invariant-loop decreases-loop
 element-write-route-2 c = omega arith
 
 returns : tie.Need-returns invariant-loop decreases-loop
 returns c =
-    let a = c.before.before.args in
-    let e : c.before.loop.j ≡ a.at = omega arith in
-    shift-end 63 a.at a.x a.route.now c.before.before.requires.1 (omega arith) c.before.loop.route (rw e at c.before.loop.invariant.2)
+    let a = c.args in
+    let e : c.loop-j.j ≡ a.at = omega arith in
+    shift-end 63 a.at a.x a.route.now c.requires.1 (omega arith) c.loop-j.route (rw e at c.loop-j.invariant.2)
 
-pub insert-spec : {M : Type 1} → statement M
-insert-spec =
+pub insert_spec : {M : Type 1} → statement M
+insert_spec =
     tie.close
     (tie.spec
     invariant-loop

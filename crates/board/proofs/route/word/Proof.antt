@@ -6,41 +6,41 @@ use Rattle.board.proofs.RouteLaws.{word_none, word_more}
 use Rattle.board.proofs.route.word.Statement.{statement}
 use Rattle.board.proofs.route.word.Tie as tie
 
-abbrev invariant-loop : tie.invariant-loop
+abbrev invariant-loop : tie.invariant-loop-i
 invariant-loop route k w₀ i₀ w i = (i ≤ k) × (w ≡ word_of i route)
 
-abbrev decreases-loop : tie.decreases-loop
+abbrev decreases-loop : tie.decreases-loop-i
 decreases-loop route k w₀ i₀ w i = k - i
 
-loop-holds : tie.Need-loop-init invariant-loop decreases-loop
+loop-holds : tie.Need-loop-i-init invariant-loop decreases-loop
 loop-holds c = (omega arith, sym (word_none _))
 
-mul-p : tie.Need-overflow-mul-p invariant-loop decreases-loop
+mul-p : tie.Need-offset_bounds-route-i invariant-loop decreases-loop
 mul-p c = omega arith
 
-element-copy-out-p : tie.Need-element-copy-out-p invariant-loop decreases-loop
+element-copy-out-p : tie.Need-bounds-route-i invariant-loop decreases-loop
 element-copy-out-p c = omega arith
 
-put-requires : tie.Need-put-requires invariant-loop decreases-loop
-put-requires c κs = c.before.before.before.requires.1 c.before.before.loop.i c.before.loop-test.true
+put-requires : tie.Need-put-w-requires invariant-loop decreases-loop
+put-requires c κs = c.requires.1 c.loop-i.i c.loop-i-test.true
 
-add-i : tie.Need-overflow-add-i invariant-loop decreases-loop
+add-i : tie.Need-overflow_add-i invariant-loop decreases-loop
 add-i c = omega arith
 
-loop-less : tie.Need-loop-smaller invariant-loop decreases-loop
+loop-less : tie.Need-loop-i-smaller invariant-loop decreases-loop
 loop-less c = omega arith
 
-loop-again : tie.Need-loop-preserved invariant-loop decreases-loop
-loop-again c = let v = c.before.before.before.loop.invariant in (omega arith, c.put.ensures ∙ rw v.1 (sym (word_more _ _)))
+loop-again : tie.Need-loop-i-preserved invariant-loop decreases-loop
+loop-again c = let v = c.loop-i.invariant in (omega arith, c.put-w.ensures ∙ rw v.1 (sym (word_more _ _)))
 
 returns : tie.Need-returns invariant-loop decreases-loop
 returns c =
-    let a = c.before.before.args in
-    let e : c.before.loop.i ≡ a.k = omega arith in
-    c.before.loop.invariant.1 ∙ ap (λ (i : ℕ). word_of i a.route.now) e
+    let a = c.args in
+    let e : c.loop-i.i ≡ a.k = omega arith in
+    c.loop-i.invariant.1 ∙ ap (λ (i : ℕ). word_of i a.route.now) e
 
-pub word-spec : {M : Type 1} → statement M
-word-spec =
+pub word_spec : {M : Type 1} → statement M
+word_spec =
     tie.close
     (tie.spec
     invariant-loop
