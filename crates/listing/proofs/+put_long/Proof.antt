@@ -23,7 +23,7 @@ abbrev put-long-below : ℕ → In 1 put-long-kinds.ps
 put-long-below t =
     and 1 put-long-kinds.ps (falls 1 put-long-kinds.ps ◌<◌ μ-put-long t) put-long.Pre
 
-put-long-put-short-requires : (t : ℕ) → put-long-lts.Need-put-short-requires (
+put-long-put-short-requires : (t : ℕ) → put-long-lts.Need-put_short-requires (
   put-short-reads.Asked,
   put-short-reads.Learnt,
   put-long-below t,
@@ -31,9 +31,9 @@ put-long-put-short-requires : (t : ℕ) → put-long-lts.Need-put-short-requires
   put-pair-reads.Asked,
   put-pair-reads.Learnt,
 ) (put-long-at t) put-long.Post
-put-long-put-short-requires t c κs = (c.before.if1.true, omega arith)
+put-long-put-short-requires t c κs = (c.if-v-lt100.true, omega arith)
 
-put-long-same-length : (t : ℕ) → put-long-lts.Need-same-length (
+put-long-same-length : (t : ℕ) → put-long-lts.Need-shape_of-out-then-v-lt100 (
   put-short-reads.Asked,
   put-short-reads.Learnt,
   put-long-below t,
@@ -43,7 +43,7 @@ put-long-same-length : (t : ℕ) → put-long-lts.Need-same-length (
 ) (put-long-at t) put-long.Post
 put-long-same-length t c = search rules
 
-put-long-returns : (t : ℕ) → put-long-lts.Need-returns (
+put-long-returns : (t : ℕ) → put-long-lts.Need-returns-then-v-lt100 (
   put-short-reads.Asked,
   put-short-reads.Learnt,
   put-long-below t,
@@ -51,9 +51,9 @@ put-long-returns : (t : ℕ) → put-long-lts.Need-returns (
   put-pair-reads.Asked,
   put-pair-reads.Learnt,
 ) (put-long-at t) put-long.Post
-put-long-returns t c = c.before.before.put-short.ensures
+put-long-returns t c = c.put_short.ensures
 
-put-long-put-long-requires : (t : ℕ) → put-long-lts.Need-put-long-requires (
+put-long-put-long-requires : (t : ℕ) → put-long-lts.Need-put_long-last-requires (
   put-short-reads.Asked,
   put-short-reads.Learnt,
   put-long-below t,
@@ -63,7 +63,7 @@ put-long-put-long-requires : (t : ℕ) → put-long-lts.Need-put-long-requires (
 ) (put-long-at t) put-long.Post
 put-long-put-long-requires t c κs = omega arith
 
-put-long-put-pair-requires : (t : ℕ) → put-long-lts.Need-put-pair-requires (
+put-long-put-pair-requires : (t : ℕ) → put-long-lts.Need-put_pair-requires (
   put-short-reads.Asked,
   put-short-reads.Learnt,
   put-long-below t,
@@ -72,11 +72,10 @@ put-long-put-pair-requires : (t : ℕ) → put-long-lts.Need-put-pair-requires (
   put-pair-reads.Learnt,
 ) (put-long-at t) put-long.Post
 put-long-put-pair-requires t c κs =
-    let start = c.before.before.before.before.before.before.before in
-    let p = c.before.before.before.put-long.ensures in
-    (omega arith, omega (arith, p.next-is, hundredth-short start.args.v start.ranges.v.fits, put-length p))
+    let p = c.put_long-last.ensures in
+    (omega arith, omega (arith, p.next-is, hundredth-short c.args.v c.ranges.v.fits, put-length p))
 
-put-long-same-length-2 : (t : ℕ) → put-long-lts.Need-same-length-2 (
+put-long-same-length-2 : (t : ℕ) → put-long-lts.Need-shape_of-out (
   put-short-reads.Asked,
   put-short-reads.Learnt,
   put-long-below t,
@@ -86,7 +85,7 @@ put-long-same-length-2 : (t : ℕ) → put-long-lts.Need-same-length-2 (
 ) (put-long-at t) put-long.Post
 put-long-same-length-2 t c = search rules
 
-put-long-returns-2 : (t : ℕ) → put-long-lts.Need-returns-2 (
+put-long-returns-2 : (t : ℕ) → put-long-lts.Need-returns (
   put-short-reads.Asked,
   put-short-reads.Learnt,
   put-long-below t,
@@ -95,13 +94,10 @@ put-long-returns-2 : (t : ℕ) → put-long-lts.Need-returns-2 (
   put-pair-reads.Learnt,
 ) (put-long-at t) put-long.Post
 put-long-returns-2 t c =
-    let second = c.before.before in
-    let first = second.before.before.before.before in
-    let start = first.before.before.before.before in
-    put-hundred start.args.v start.ranges.v.fits first.before.before.if1.false first.put-long.ensures second.put-pair.ensures
+    put-hundred c.args.v c.ranges.v.fits c.if-v-lt100.false c.put_long-last.ensures c.put_pair.ensures
 
-pub +put-long-spec : {M : Type 1} → statement M
-+put-long-spec = close μ-put-long λ t. put-long-lts.spec (
+pub +put_long_spec : {M : Type 1} → statement M
++put_long_spec = close μ-put-long λ t. put-long-lts.spec (
   put-short-reads.Asked,
   put-short-reads.Learnt,
   put-long-below t,

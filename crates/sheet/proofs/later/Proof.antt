@@ -13,69 +13,69 @@ use Rattle.sheet.proofs.later.Statement.{statement}
 use Rattle.sheet.proofs.later.Tie as tie
 
 -- each table is the sheet's, and stands where the sheet has it
-seconds-is : (c : tie.After-table) → let s = c.before.before.args.s.now in c.table.result ≡ part_of s (seconds_at s) 1 (table_refusal s (n_of s) (seconds_at s))
-seconds-is c = let p = c.before.before.requires.1.0 in table_is _ p.1.count p.2.end c.table.ensures
+seconds-is : (c : tie.After-table-seconds) → let s = c.args.s.now in c.table-seconds.result ≡ part_of s (seconds_at s) 1 (table_refusal s (n_of s) (seconds_at s))
+seconds-is c = let p = c.requires.1.0 in table_is _ p.1.count p.2.end c.table-seconds.ensures
 
-seconds-stand : (c : tie.Else1) → let s = c.before.before.before.before.args.s.now in
-    let p = c.before.before.table.result in (p.from ≡ seconds_at s + 1) × (p.end ≡ metres_at s)
-seconds-stand c = table-stands _ _ _ (seconds-is c.before.before) c.if1.false
+seconds-stand : (c : tie.Else-seconds-ne0) → let s = c.args.s.now in
+    let p = c.table-seconds.result in (p.from ≡ seconds_at s + 1) × (p.end ≡ metres_at s)
+seconds-stand c = table-stands _ _ _ (seconds-is c.before.before) c.if-seconds-ne0.false
 
-metres-is : (c : tie.After-table2) → let s = c.before.before.before.before.before.args.s.now in
-    c.table2.result ≡ part_of s (metres_at s) 1 (table_refusal s (n_of s) (metres_at s))
-metres-is c = table_is _ c.before.before.before.before.before.requires.1.0.1.count (seconds-stand c.before).1 c.table2.ensures
+metres-is : (c : tie.After-table-metres) → let s = c.args.s.now in
+    c.table-metres.result ≡ part_of s (metres_at s) 1 (table_refusal s (n_of s) (metres_at s))
+metres-is c = table_is _ c.requires.1.0.1.count (seconds-stand c.before).1 c.table-metres.ensures
 
-metres-stand : (c : tie.Else2) → let s = c.before.before.before.before.before.before.before.args.s.now in
-    let p = c.before.before.table2.result in (p.from ≡ metres_at s + 1) × (p.end ≡ steps_at s)
-metres-stand c = table-stands _ _ _ (metres-is c.before.before) c.if2.false
+metres-stand : (c : tie.Else-metres-ne0) → let s = c.args.s.now in
+    let p = c.table-metres.result in (p.from ≡ metres_at s + 1) × (p.end ≡ steps_at s)
+metres-stand c = table-stands _ _ _ (metres-is c.before.before) c.if-metres-ne0.false
 
 -- what the refusal comes to once the seconds, and the metres, are passed
-past-seconds : (c : tie.Else1) → let s = c.before.before.before.before.args.s.now in
+past-seconds : (c : tie.Else-seconds-ne0) → let s = c.args.s.now in
     read_refusal s ≡ or_else (table_refusal s (n_of s) (metres_at s)) (steps_refusal s)
 unfolding later_refusal
-past-seconds c = c.before.before.before.before.requires.1.1 ∙ or-else-next _ _ (sym (part-answer _ _ _ _ (seconds-is c.before.before)) ∙ c.if1.false)
+past-seconds c = c.requires.1.1 ∙ or-else-next _ _ (sym (part-answer _ _ _ _ (seconds-is c.before.before)) ∙ c.if-seconds-ne0.false)
 
-past-metres : (c : tie.Else2) → let s = c.before.before.before.before.before.before.before.args.s.now in read_refusal s ≡ steps_refusal s
-past-metres c = past-seconds c.before.before.before ∙ or-else-next _ _ (sym (part-answer _ _ _ _ (metres-is c.before.before)) ∙ c.if2.false)
+past-metres : (c : tie.Else-metres-ne0) → let s = c.args.s.now in read_refusal s ≡ steps_refusal s
+past-metres c = past-seconds c.before.before.before ∙ or-else-next _ _ (sym (part-answer _ _ _ _ (metres-is c.before.before)) ∙ c.if-metres-ne0.false)
 
-table-requires : tie.Need-table-requires
-table-requires c κs = let q = c.before.requires.1 in let p = c.before.requires.0 in let v = limits-zero _ p.0 in let n = nodes-zero _ p.1 in let j = jobs-zero _ p.2 in omega arith
+table-requires : tie.Need-table-seconds-requires
+table-requires c κs = let q = c.requires.1 in let p = c.requires.0 in let v = limits-zero _ p.0 in let n = nodes-zero _ p.1 in let j = jobs-zero _ p.2 in omega arith
 
 refused-requires : tie.Need-refused-requires
 refused-requires c κs = search rules
 
-returns : tie.Need-returns
+returns : tie.Need-returns-then-seconds-ne0
 unfolding later_refusal
-returns c = found-refused _ c.refused.ensures (first_stops _ (part-answer _ _ _ _ (seconds-is c.before.before.before)) c.before.if1.true ∙ sym c.before.before.before.before.before.requires.1.1) c.before.if1.true
+returns c = found-refused _ c.refused.ensures (first_stops _ (part-answer _ _ _ _ (seconds-is c.before.before.before)) c.if-seconds-ne0.true ∙ sym c.requires.1.1) c.if-seconds-ne0.true
 
-table-requires-2 : tie.Need-table-requires-2
-table-requires-2 c κs = let q = c.before.before.before.before.requires.1 in let p = c.before.before.before.before.requires.0 in let v = limits-zero _ p.0 in let n = nodes-zero _ p.1 in let j = jobs-zero _ p.2 in let t = seconds-stand c in omega (arith, mul-le-mul n.high n.high)
+table-requires-2 : tie.Need-table-metres-requires
+table-requires-2 c κs = let q = c.requires.1 in let p = c.requires.0 in let v = limits-zero _ p.0 in let n = nodes-zero _ p.1 in let j = jobs-zero _ p.2 in let t = seconds-stand c in omega (arith, mul-le-mul n.high n.high)
 
-refused-requires-2 : tie.Need-refused-requires-2
+refused-requires-2 : tie.Need-refused-requires-then-metres-ne0
 refused-requires-2 c κs = search rules
 
-returns-2 : tie.Need-returns-2
-returns-2 c = found-refused _ c.refused2.ensures (first_stops _ (part-answer _ _ _ _ (metres-is c.before.before.before)) c.before.if2.true ∙ sym (past-seconds c.before.before.before.before)) c.before.if2.true
+returns-2 : tie.Need-returns-then-metres-ne0
+returns-2 c = found-refused _ c.refused-then-metres-ne0.ensures (first_stops _ (part-answer _ _ _ _ (metres-is c.before.before.before)) c.if-metres-ne0.true ∙ sym (past-seconds c.before.before.before.before)) c.if-metres-ne0.true
 
-steps-requires : tie.Need-steps-requires
-steps-requires c κs = let p = c.before.before.before.before.before.before.before.requires.0 in let v = limits-zero _ p.0 in let n = nodes-zero _ p.1 in let j = jobs-zero _ p.2 in let t = metres-stand c in (t.1, omega (arith, mul-le-mul n.high n.high))
+steps-requires : tie.Need-steps-steps-requires
+steps-requires c κs = let p = c.requires.0 in let v = limits-zero _ p.0 in let n = nodes-zero _ p.1 in let j = jobs-zero _ p.2 in let t = metres-stand c in (t.1, omega (arith, mul-le-mul n.high n.high))
 
-refused-requires-3 : tie.Need-refused-requires-3
+refused-requires-3 : tie.Need-refused-requires-then-steps-ne0
 refused-requires-3 c κs = search rules
 
-returns-3 : tie.Need-returns-3
-returns-3 c = found-refused _ c.refused3.ensures (part-answer _ _ _ _ c.before.before.before.steps.ensures ∙ sym (past-metres c.before.before.before.before)) c.before.if3.true
+returns-3 : tie.Need-returns-then-steps-ne0
+returns-3 c = found-refused _ c.refused-then-steps-ne0.ensures (part-answer _ _ _ _ c.steps-steps.ensures ∙ sym (past-metres c.before.before.before.before)) c.if-steps-ne0.true
 
-returns-4 : tie.Need-returns-4
+returns-4 : tie.Need-returns
 returns-4 c =
-    let d = c.before in
-    let p = d.before.before.before.before.before.before.before.before.before.before.requires in
+    let d = c in
+    let p = d.requires in
     let v = p.1.0.0 in
     let n = p.1.0.1 in
     let j = p.1.0.2 in
-    let e = d.before.before.steps.ensures in
-    let k = part-stands _ _ _ _ e d.if3.false in
-    let t = seconds-stand d.before.before.before.before.before.before in
-    let m = metres-stand d.before.before.before in
+    let e = d.steps-steps.ensures in
+    let k = part-stands _ _ _ _ e d.if-steps-ne0.false in
+    let t = seconds-stand c.before.before.before.before.before.before.before in
+    let m = metres-stand c.before.before.before.before in
     found-whole _
     (λ i. record {
       vans = v.count i / size.van;
@@ -89,10 +89,10 @@ returns-4 c =
       metres = m.0 i;
       step = k.from i;
     })
-    (past-metres d.before.before.before ∙ sym (part-answer _ _ _ _ e) ∙ d.if3.false)
+    (past-metres c.before.before.before.before ∙ sym (part-answer _ _ _ _ e) ∙ d.if-steps-ne0.false)
 
-pub later-spec : {M : Type 1} → statement M
-later-spec =
+pub later_spec : {M : Type 1} → statement M
+later_spec =
     tie.close
     (tie.spec
     table-requires

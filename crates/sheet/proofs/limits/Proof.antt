@@ -14,91 +14,91 @@ use Rattle.sheet.proofs.limits.Statement.{statement}
 use Rattle.sheet.proofs.limits.Tie as tie
 
 -- the count is there, and it is the word that was read
-counted : (c : tie.After-word) → vans_at < words c.before.before.before.args.s.now
-counted c = omega (arith, c.before.if1.false)
+counted : (c : tie.After-word) → vans_at < words c.args.s.now
+counted c = omega (arith, c.if-s-lt4.false)
 
 -- what the refusal comes to once the count is there and leaves one word over
-past-count : (c : tie.Else2) → let s = c.before.before.before.before.args.s.now in
+past-count : (c : tie.Else-word-ne1) → let s = c.args.s.now in
     or_else (head_refusal s vans_at (size.van + 1) (size.van * most_vans + 1) 1) (unless (limits_values s) refusal.VALUE) ≡ limits_refusal s
-past-count c = limits-left _ (lt-ltb _ _ (counted c.before)) (eq-eqb _ _ (rw c.before.word.ensures.is at c.if2.false))
+past-count c = limits-left _ (lt-ltb _ _ (counted c.before)) (eq-eqb _ _ (rw c.word.ensures.is at c.if-word-ne1.false))
 
 -- the section that was read, and is not refused so far
-headed : (c : tie.Else3) → let s = c.before.before.before.before.before.before.before.args.s.now in
-    Stands s vans_at 1 c.before.before.head.result × Headed s vans_at (size.van + 1) (size.van * most_vans + 1) 1
-headed c = part-head _ _ _ _ _ c.before.before.head.ensures c.if3.false
+headed : (c : tie.Else-p-ne0) → let s = c.args.s.now in
+    Stands s vans_at 1 c.head-p.result × Headed s vans_at (size.van + 1) (size.van * most_vans + 1) 1
+headed c = part-head _ _ _ _ _ c.head-p.ensures c.if-p-ne0.false
 
 -- its vans, and the number behind them, are all of its words
-whole : (c : tie.Else3) → let s = c.before.before.before.before.before.before.before.args.s.now in word_at s vans_at ≡ size.van * vans_of s + 1
-whole c = let e = c.before.before.before in let r = rw e.before.word.ensures.is at e.if2.false in omega arith
+whole : (c : tie.Else-p-ne0) → let s = c.args.s.now in word_at s vans_at ≡ size.van * vans_of s + 1
+whole c = let e = c in let r = rw e.word.ensures.is at e.if-word-ne1.false in omega arith
 
 refused-requires : tie.Need-refused-requires
 refused-requires c κs = search rules
 
-returns : tie.Need-returns
+returns : tie.Need-returns-then-s-lt4
 unfolding part_of limits_refusal or_else
 returns c =
-    let s = c.before.before.before.args.s.now in
-    let h : words s ≤ vans_at = omega (arith, c.before.if1.true) in rw c.refused.ensures (simp (le-ltb _ _ h))
+    let s = c.args.s.now in
+    let h : words s ≤ vans_at = omega (arith, c.if-s-lt4.true) in rw c.refused.ensures (simp (le-ltb _ _ h))
 
 word-requires : tie.Need-word-requires
 word-requires c κs = search rules
 
-cast-if2 : tie.Need-overflow-cast-if2
+cast-if2 : tie.Need-overflow_cast-word
 cast-if2 c = search rules
 
-refused-requires-2 : tie.Need-refused-requires-2
+refused-requires-2 : tie.Need-refused-requires-then-word-ne1
 refused-requires-2 c κs = search rules
 
-returns-2 : tie.Need-returns-2
+returns-2 : tie.Need-returns-then-word-ne1
 unfolding part_of limits_refusal or_else
 returns-2 c =
-    let w = c.before.before in
-    rw c.refused2.ensures (simp (lt-ltb _ _ (counted w), ← w.word.ensures.is, ne_eqb _ _ c.before.if2.true))
+    let w = c in
+    rw c.refused-then-word-ne1.ensures (simp (lt-ltb _ _ (counted c.before.before), ← w.word.ensures.is, ne_eqb _ _ c.if-word-ne1.true))
 
-add-head : tie.Need-overflow-add-head
+add-head : tie.Need-overflow_add-head
 add-head c = search rules
 
-mul-head : tie.Need-overflow-mul-head
+mul-head : tie.Need-overflow_mul-head
 mul-head c = search rules
 
-add-head-2 : tie.Need-overflow-add-head-2
+add-head-2 : tie.Need-overflow_add-head-2
 add-head-2 c = search rules
 
-head-requires : tie.Need-head-requires
+head-requires : tie.Need-head-p-requires
 head-requires c κs = search rules
 
-returns-3 : tie.Need-returns-3
+returns-3 : tie.Need-returns-then-p-ne0
 returns-3 c =
-    let h = c.before.before in part-stops _ _ _ _ h.head.ensures _ c.if3.true ∙ ap (part_of _ _ _) (past-count h.before)
+    let h = c in part-stops _ _ _ _ h.head-p.ensures _ c.if-p-ne0.true ∙ ap (part_of _ _ _) (past-count c.before.before.before)
 
-mul-word : tie.Need-overflow-mul-word
+mul-word : tie.Need-overflow_mul-v
 mul-word c = let h = headed c.before in omega arith
 
-add-word : tie.Need-overflow-add-word
+add-word : tie.Need-overflow_add-p
 add-word c = let h = headed c.before.before in omega arith
 
-word-requires-2 : tie.Need-word-requires-2
+word-requires-2 : tie.Need-word-profile-requires
 word-requires-2 c κs = let h = headed c.before.before in omega (arith, whole c.before.before)
 
-all-limits-ok-requires : tie.Need-all-limits-ok-requires
+all-limits-ok-requires : tie.Need-all_limits_ok-ok-requires
 all-limits-ok-requires c κs = let h = headed c.before.before.before in omega (arith, whole c.before.before.before)
 
 judged-requires : tie.Need-judged-requires
 judged-requires c κs = search rules
 
-returns-4 : tie.Need-returns-4
+returns-4 : tie.Need-returns
 returns-4 c =
-    let o = c.before in
-    let w = o.before in
-    let e = w.before.before.before in
-    let h = e.before.before in
-    let p = headed e in
-    part-judged _ _ _ _ h.head.ensures _ e.if3.false c.judged.ensures
-    (λ i. (rw (p.0.count, p.0.from) at o.all-limits-ok.ensures) i && profile_ok ((rw (p.0.count, p.0.from) at w.word2.ensures.is) i))
-    ∙ ap (part_of _ _ _) (past-count h.before)
+    let o = c in
+    let w = o in
+    let e = w in
+    let h = e in
+    let p = headed c.before.before.before.before.before in
+    part-judged _ _ _ _ h.head-p.ensures _ e.if-p-ne0.false c.judged.ensures
+    (λ i. (rw (p.0.count, p.0.from) at o.all_limits_ok-ok.ensures) i && profile_ok ((rw (p.0.count, p.0.from) at w.word-profile.ensures.is) i))
+    ∙ ap (part_of _ _ _) (past-count c.before.before.before.before.before.before.before.before)
 
-pub limits-spec : {M : Type 1} → statement M
-limits-spec =
+pub limits_spec : {M : Type 1} → statement M
+limits_spec =
     tie.close
     (tie.spec
     refused-requires

@@ -5,22 +5,22 @@ use borrow.Author.Rules.{rules}
 use Rattle.sheet.proofs.nodes.Statement.{statement}
 use Rattle.sheet.proofs.nodes.Tie as tie
 
-head-requires : tie.Need-head-requires
+head-requires : tie.Need-head-p-requires
 head-requires c κs = search rules
 
-returns : tie.Need-returns
+returns : tie.Need-returns-then-p-ne0
 unfolding nodes_refusal
-returns c = let q = c.before.before.before.before.requires in part-stops _ _ _ _ (rw q.0 at c.before.before.head.ensures) _ c.if1.true
+returns c = let q = c.requires in part-stops _ _ _ _ (rw q.0 at c.head-p.ensures) _ c.if-p-ne0.true
 
-nodes-ok-requires : tie.Need-nodes-ok-requires
-nodes-ok-requires c κs = let h = part-head _ _ _ _ _ c.before.before.head.ensures c.if1.false in omega arith
+nodes-ok-requires : tie.Need-nodes_ok-ok-requires
+nodes-ok-requires c κs = let h = part-head _ _ _ _ _ c.head-p.ensures c.if-p-ne0.false in omega arith
 
 judged-requires : tie.Need-judged-requires
 judged-requires c κs = search rules
 
-returns-2 : tie.Need-returns-2
+returns-2 : tie.Need-returns
 unfolding nodes_refusal
-returns-2 c = let q = c.before.before.before.before.before.before.requires in let h = part-head _ _ _ _ _ c.before.before.before.before.head.ensures c.before.before.if1.false in part-judged _ _ _ _ (rw q.0 at c.before.before.before.before.head.ensures) _ c.before.before.if1.false c.judged.ensures (rw (h.0.count, h.0.from, q.0) at c.before.nodes-ok.ensures)
+returns-2 c = let q = c.requires in let h = part-head _ _ _ _ _ c.head-p.ensures c.if-p-ne0.false in part-judged _ _ _ _ (rw q.0 at c.head-p.ensures) _ c.if-p-ne0.false c.judged.ensures (rw (h.0.count, h.0.from, q.0) at c.nodes_ok-ok.ensures)
 
-pub nodes-spec : {M : Type 1} → statement M
-nodes-spec = tie.close (tie.spec head-requires returns nodes-ok-requires judged-requires returns-2)
+pub nodes_spec : {M : Type 1} → statement M
+nodes_spec = tie.close (tie.spec head-requires returns nodes-ok-requires judged-requires returns-2)

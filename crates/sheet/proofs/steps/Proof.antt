@@ -6,19 +6,19 @@ use borrow.Author.Rules.{rules}
 use Rattle.sheet.proofs.steps.Statement.{statement}
 use Rattle.sheet.proofs.steps.Tie as tie
 
-head-requires : tie.Need-head-requires
+head-requires : tie.Need-head-p-requires
 head-requires c κs = search rules
 
-returns : tie.Need-returns
+returns : tie.Need-returns-then-p-ne0
 unfolding steps_refusal
-returns c = let q = c.before.before.before.before.requires in part-stops _ _ _ _ (rw q.0 at c.before.before.head.ensures) _ c.if1.true
+returns c = let q = c.requires in part-stops _ _ _ _ (rw q.0 at c.head-p.ensures) _ c.if-p-ne0.true
 
 judged-requires : tie.Need-judged-requires
 judged-requires c κs = search rules
 
-returns-2 : tie.Need-returns-2
+returns-2 : tie.Need-returns
 unfolding steps_refusal
-returns-2 c = let q = c.before.before.before.before.before.before.requires in let h = part-head _ _ _ _ _ c.before.before.before.before.head.ensures c.before.before.if1.false in part-judged _ _ _ _ (rw q.0 at c.before.before.before.before.head.ensures) _ c.before.before.if1.false c.judged.ensures (ap (eqb _) (rw q.0 at h.0.end))
+returns-2 c = let q = c.requires in let h = part-head _ _ _ _ _ c.head-p.ensures c.if-p-ne0.false in part-judged _ _ _ _ (rw q.0 at c.head-p.ensures) _ c.if-p-ne0.false c.judged.ensures (ap (eqb _) (rw q.0 at h.0.end))
 
-pub steps-spec : {M : Type 1} → statement M
-steps-spec = tie.close (tie.spec head-requires returns judged-requires returns-2)
+pub steps_spec : {M : Type 1} → statement M
+steps_spec = tie.close (tie.spec head-requires returns judged-requires returns-2)

@@ -49,7 +49,7 @@ loop-again c =
     let o = l in
     let p = get_or o.args.route.now v.i 0 in (
       omega arith,
-      sym (get_or-set_same v (v.i + 1) _ 0 (omega (arith, v.invariant.2.long))),
+      sym (get_or-set_same v.before (v.i + 1) _ 0 (omega (arith, v.invariant.2.long))),
       before_more (o.requires.2 v.i c.loop-i-test.true) (omega arith) (c.put-w.ensures ∙ ap (λ (w : ℕ). with w p) v.invariant.1) v.invariant.2,
     )
 

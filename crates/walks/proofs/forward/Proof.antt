@@ -59,7 +59,7 @@ returns-2 c =
     let a = s in
     let o = a in
     let r = first-rides o.requires.0 (leb-true _ _ (sym a.fits_all.ensures ∙ s.if-fits_all.true)) o.requires.1 o.args.partner o.requires.2 refl s.choose-end.ensures f.first_open-first.ensures in
-    kept-front o.requires.1 (omega (arith, ends s, f.first_open-first.ensures.0)) c.less.ensures r
+    kept-front o.requires.1 (omega (arith, ends c.before.before.before.before, f.first_open-first.ensures.0)) c.less.ensures r
 
 loop-holds : tie.Need-loop-i-init invariant-loop decreases-loop
 loop-holds c = (omega arith, forth-begin _ _ _ _)

@@ -49,7 +49,7 @@ returns-4 c =
     rw (le-leb 2 _ d.if-stops-lt2.false, le-leb _ _ d.if-n-stops.false, eq-eqb _ 0 d.if-route-ne0.false, ne_eqb _ _ c.if-route-stops.true)
 
 abbrev start : tie.Else-route-stops → tie.Start
-start c = c
+start c = c.before.before.before.before.before.before.before
 
 -- the board that the numbers make
 abbrev here : tie.Start → Board
@@ -78,8 +78,8 @@ seen-of-requires c κs = search rules
 returns-5 : tie.Need-returns-then-on-eq0
 returns-5 c =
     let d = c in
-    let a = (start d).args in
-    rw (asked d, seen_none a.n a.stops a.route.now (start d).requires.0 (omega arith) (sym c.seen_of-on.ensures ∙ c.if-on-eq0.true))
+    let a = (start c.before.before).args in
+    rw (asked c.before.before, seen_none a.n a.stops a.route.now (start c.before.before).requires.0 (omega arith) (sym c.seen_of-on.ensures ∙ c.if-on-eq0.true))
 
 none-from-requires : tie.Need-none_from-requires
 none-from-requires c κs = search rules
@@ -90,8 +90,8 @@ returns-6 c = rw (asked c.before.before.before.before, (seen c.before.before).0,
 stops-shut-requires : tie.Need-stops_shut-requires
 stops-shut-requires c κs =
     let d = c in
-    let a = (start d).args in
-    (omega arith, λ i h. omega (arith, stop-below a.n a.stops a.route.now i h (below_at a.stops i (stop_ok a.n a.stops a.route.now) (seen d).0 h)))
+    let a = (start c.before.before.before.before).args in
+    (omega arith, λ i h. omega (arith, stop-below a.n a.stops a.route.now i h (below_at a.stops i (stop_ok a.n a.stops a.route.now) (seen c.before.before).0 h)))
 
 sets-ok-requires : tie.Need-sets_ok-requires
 sets-ok-requires c κs = search rules
@@ -106,17 +106,17 @@ returns-7 : tie.Need-returns
 returns-7 c =
     let e = c in
     let d = e in
-    let s = start d in
+    let s = start c.before.before.before.before.before.before.before.before in
     rw (
-      asked d,
-      (seen d).0,
+      asked c.before.before.before.before.before.before.before.before,
+      (seen c.before.before.before.before.before.before).0,
       sym e.none_from.ensures ∙ e.if-not-none_from.false,
       c.stops_shut.ensures,
       c.sets_ok.ensures,
       c.marks_ok.ensures,
       c.marks_ok-2.ensures,
-      (seen d).1,
-    ) (nodes-test s.args.n (here s) s.pre.0 (omega arith) (omega arith) d.if-route-stops.false (seen d).0)
+      (seen c.before.before.before.before.before.before).1,
+    ) (nodes-test s.args.n (here s) s.pre.0 (omega arith) (omega arith) d.if-route-stops.false (seen c.before.before.before.before.before.before).0)
 
 pub board_ok_spec : {M : Type 1} → statement M
 board_ok_spec =

@@ -1,11 +1,11 @@
 use Rattle.sheet.proofs.Found.judged.Statement.{statement}
 use Rattle.sheet.proofs.Found.judged.Tie as tie
 
-returns : tie.Need-returns
-returns c = rw c.if1.true
+returns : tie.Need-returns-then-ok
+returns c = rw c.if-ok.true
 
-returns-2 : tie.Need-returns-2
-returns-2 c = rw c.before.if1.false
+returns-2 : tie.Need-returns
+returns-2 c = rw c.if-ok.false
 
-pub judged-spec : {M : Type 1} → statement M
-judged-spec = tie.close (tie.spec returns returns-2)
+pub judged_spec : {M : Type 1} → statement M
+judged_spec = tie.close (tie.spec returns returns-2)
