@@ -6,7 +6,7 @@ use native.Mathlib.Omega.{arith}
 use lib.ListN.{length, length-map, get_or}
 use denote.Shadow.{shadow}
 use denote.Array.{each}
-use denote.Struct.Field.{u64-field}
+use denote.Builtin.{u64}
 use mir.Val.{Val}
 use denote.Laws.{Is}
 use denote.Struct.Declared.{row}
@@ -16,22 +16,18 @@ use Rattle.board.specs.declared.State.{State}
 use Rattle.board.specs.contracts.State.{the_type}
 
 -- each entry of an array fits its type
-each_fits : (xs : List ℕ) (us : List Val) → shadow (each ℕ u64-field.row.own_val xs us) → (i : ℕ) → i < length xs → get_or xs i 0 < 2 ^ 64
+each_fits : (xs : List ℕ) (us : List Val) → shadow (each ℕ u64.own_val xs us) → (i : ℕ) → i < length xs → get_or xs i 0 < 2 ^ 64
 each_fits [] us p i h = absurd (omega arith)
 each_fits (x ∷ xs) [] p i h = absurd p
 each_fits (x ∷ xs) (u ∷ us) p zero h = p.0.1
 each_fits (x ∷ xs) (u ∷ us) p (suc i) h = each_fits xs us p.1 i (omega arith)
-
-map_same : (l : List ℕ) → map (λ v. v) l ≡ l
-map_same [] = refl
-map_same (x ∷ l) = ap (λ (t : List ℕ). x ∷ t) (map_same l)
 
 pub is_held : (s : State) (vs : List Val) → Is (row the_type) s vs → Held s
 unfolding set_of
 is_held s vs g =
     let a = g.1.1.1.1.0 in
     record {
-      wide = record { route = sym (length-map s.route (λ v. v)) ∙ g.1.1.0.1.0.1; sets = sym (length-map s.sets (λ v. v)) ∙ a.1.0.1 };
-      levels = sym (length-map s.levels (λ v. v)) ∙ g.1.1.1.1.1.1.1.0.1.0.1;
-      words = record { fits = λ y h. rw map_same at (each_fits (map (λ v. v) s.sets) a.0 a.1.1 y (omega (arith, a.1.0.1))); marks = g.1.1.1.1.1.0.1; must = g.1.1.1.1.1.1.0.1 };
+      wide = record { route = g.1.1.0.1.0.1; sets = a.1.0.1 };
+      levels = g.1.1.1.1.1.1.1.0.1.0.1;
+      words = record { fits = λ y h. each_fits s.sets a.0 a.1.1 y (omega (arith, a.1.0.1)); marks = g.1.1.1.1.1.0.1; must = g.1.1.1.1.1.1.0.1 };
     }

@@ -11,63 +11,63 @@ use Rattle.tables.proofs.SquareLaws.{copy-long, rows_none, rows-read, rows-done}
 use Rattle.tables.proofs.read_rows.Statement.{statement}
 use Rattle.tables.proofs.read_rows.Tie as tie
 
-abbrev invariant-loop : tie.invariant-loop
+abbrev invariant-loop : tie.invariant-loop-i
 invariant-loop s from n wide square₀ at₀ to₀ i₀ square at to i = (i ≤ n) × (length square ≡ length square₀) × (at ≡ from + i * n) × (to ≡ i * wide) × Squared n wide (cell s from n) i square
 
-abbrev decreases-loop : tie.decreases-loop
+abbrev decreases-loop : tie.decreases-loop-i
 decreases-loop s from n wide square₀ at₀ to₀ i₀ square at to i = n - i
 
-loop-holds : tie.Need-loop-init invariant-loop decreases-loop
-loop-holds c = (search rules, refl, search rules, search rules, rows_none _ _ _ c.before.before.requires.3)
+loop-holds : tie.Need-loop-i-init invariant-loop decreases-loop
+loop-holds c = (search rules, refl, search rules, search rules, rows_none _ _ _ c.requires.3)
 
-read-row-requires : tie.Need-read-row-requires invariant-loop decreases-loop
+read-row-requires : tie.Need-read_row-requires invariant-loop decreases-loop
 read-row-requires c κs =
-    let b = c.before.before.before.before.before in
-    let h = c.before.loop-test.true in
+    let b = c in
+    let h = c.loop-i-test.true in
     let x = row_before b.args.n h in
     let y = row_before b.args.wide h in
     (omega (arith, b.requires.0.room), omega arith)
 
-add-square : tie.Need-overflow-add-square invariant-loop decreases-loop
-add-square c = let e = row_before c.before.before.before.before.before.before.before.before.args.wide c.before.before.before.before.loop-test.true in omega arith
+add-square : tie.Need-overflow_add-square invariant-loop decreases-loop
+add-square c = let e = row_before c.args.wide c.loop-i-test.true in omega arith
 
-mul-square : tie.Need-overflow-mul-square invariant-loop decreases-loop
-mul-square c = let e = row_before c.before.before.before.before.before.before.before.before.args.wide c.before.before.before.before.loop-test.true in omega arith
+mul-square : tie.Need-offset_bounds-square-to invariant-loop decreases-loop
+mul-square c = let e = row_before c.args.wide c.loop-i-test.true in omega arith
 
-slice-write-square : tie.Need-slice-write-square invariant-loop decreases-loop
-slice-write-square c = let e = row_before c.before.before.before.before.before.before.before.before.args.wide c.before.before.before.before.loop-test.true in omega (arith, c.before.before.read-row.ensures.long)
+slice-write-square : tie.Need-bounds-square-to invariant-loop decreases-loop
+slice-write-square c = let e = row_before c.args.wide c.loop-i-test.true in omega (arith, c.read_row.ensures.long)
 
-add_at : tie.Need-overflow-add-at invariant-loop decreases-loop
-add_at c = let e = row_before c.before.before.before.before.before.before.before.before.args.n c.before.before.before.before.loop-test.true in omega (arith, c.before.before.before.before.before.before.before.before.requires.0.room)
+add_at : tie.Need-overflow_add-at invariant-loop decreases-loop
+add_at c = let e = row_before c.args.n c.loop-i-test.true in omega (arith, c.requires.0.room)
 
-add-to : tie.Need-overflow-add-to invariant-loop decreases-loop
-add-to c = let e = row_before c.before.before.before.before.before.before.before.before.args.wide c.before.before.before.before.loop-test.true in omega arith
+add-to : tie.Need-overflow_add-to invariant-loop decreases-loop
+add-to c = let e = row_before c.args.wide c.loop-i-test.true in omega arith
 
-add-i : tie.Need-overflow-add-i invariant-loop decreases-loop
+add-i : tie.Need-overflow_add-i invariant-loop decreases-loop
 add-i c = search rules
 
-loop-less : tie.Need-loop-smaller invariant-loop decreases-loop
+loop-less : tie.Need-loop-i-smaller invariant-loop decreases-loop
 loop-less c = search rules
 
-loop-again : tie.Need-loop-preserved invariant-loop decreases-loop
+loop-again : tie.Need-loop-i-preserved invariant-loop decreases-loop
 loop-again c =
-    let b = c.before.before.before.before.before.before.before.before in
-    let l = c.before.before.before.before.before.loop in
-    let h = c.before.before.before.before.loop-test.true in
-    let p = c.before.before.read-row.ensures in
+    let b = c in
+    let l = c.loop-i in
+    let h = c.loop-i-test.true in
+    let p = c.read_row.ensures in
     let g = rows-read b.requires.0 l.invariant.4 h b.requires.1 (omega arith) l.invariant.2 l.invariant.3 p in
     let x = suc-mul l.i b.args.n in
     let y = suc-mul l.i b.args.wide in
     (omega arith, copy-long p (l.to + l.i) _ ∙ l.invariant.1, omega arith, omega arith, g)
 
-same_length : tie.Need-same-length invariant-loop decreases-loop
-same_length c = c.before.loop.invariant.1
+same_length : tie.Need-shape_of-square invariant-loop decreases-loop
+same_length c = c.loop-i.invariant.1
 
 returns : tie.Need-returns invariant-loop decreases-loop
-returns c = let l = c.before.loop in (rows-done l.invariant.4 l.invariant.0 c.loop-test.false, l.invariant.1)
+returns c = let l = c.loop-i in (rows-done l.invariant.4 l.invariant.0 c.loop-i-test.false, l.invariant.1)
 
-pub read-rows-spec : {M : Type 1} → statement M
-read-rows-spec =
+pub read_rows_spec : {M : Type 1} → statement M
+read_rows_spec =
     tie.close
     (tie.spec
     invariant-loop

@@ -16,68 +16,68 @@ use Rattle.tables.proofs.Signed.{sign-more}
 use Rattle.tables.proofs.strip_left.Statement.{statement}
 use Rattle.tables.proofs.strip_left.Tie as tie
 
-abbrev invariant-loop : tie.invariant-loop
+abbrev invariant-loop : tie.invariant-loop-j
 invariant-loop square wide i k width a left₀ b₀ j₀ left b j = (j ≤ i) × (b ≡ j * wide) × (b ≤ i * wide) × (all_below j (strip_ok square wide i k width) ≡ le_z (pos 0) (to_z w32 left))
 
-abbrev decreases-loop : tie.decreases-loop
+abbrev decreases-loop : tie.decreases-loop-j
 decreases-loop square wide i k width a left₀ b₀ j₀ left b j = i - j
 
-mul-a : tie.Need-overflow-mul-a invariant-loop decreases-loop
+mul-a : tie.Need-overflow_mul-a invariant-loop decreases-loop
 mul-a c = search rules
 
-loop-holds : tie.Need-loop-init invariant-loop decreases-loop
+loop-holds : tie.Need-loop-j-init invariant-loop decreases-loop
 loop-holds c = (search rules, search rules, search rules, below_none _)
 
-add-there : tie.Need-overflow-add-there invariant-loop decreases-loop
+add-there : tie.Need-overflow_add-there invariant-loop decreases-loop
 add-there c = search rules
 
-mul-there : tie.Need-overflow-mul-there invariant-loop decreases-loop
+mul-there : tie.Need-offset_bounds-square-a invariant-loop decreases-loop
 mul-there c = search rules
 
-shared-slice-read-there : tie.Need-shared-slice-read-there invariant-loop decreases-loop
+shared-slice-read-there : tie.Need-bounds-square-a invariant-loop decreases-loop
 shared-slice-read-there c = search rules
 
-add_back : tie.Need-overflow-add-back invariant-loop decreases-loop
+add_back : tie.Need-overflow_add-back invariant-loop decreases-loop
 add_back c = search rules
 
-mul-back : tie.Need-overflow-mul-back invariant-loop decreases-loop
+mul-back : tie.Need-offset_bounds-square-b invariant-loop decreases-loop
 mul-back c = search rules
 
-shared-slice-read-back : tie.Need-shared-slice-read-back invariant-loop decreases-loop
+shared-slice-read-back : tie.Need-bounds-square-b invariant-loop decreases-loop
 shared-slice-read-back c = search rules
 
-add-line-left : tie.Need-overflow-add-line-left invariant-loop decreases-loop
+add-line-left : tie.Need-overflow_add-a invariant-loop decreases-loop
 add-line-left c = search rules
 
-add-line-left-2 : tie.Need-overflow-add-line-left-2 invariant-loop decreases-loop
+add-line-left-2 : tie.Need-overflow_add-b invariant-loop decreases-loop
 add-line-left-2 c = search rules
 
-line-left-requires : tie.Need-line-left-requires invariant-loop decreases-loop
-line-left-requires c κs = let low = c.before.before.before.before.before.requires.3 in (omega arith, omega arith, low, low.low _, low.low _)
+line-left-requires : tie.Need-line_left-line-requires invariant-loop decreases-loop
+line-left-requires c κs = let low = c.requires.3 in (omega arith, omega arith, low, low.low _, low.low _)
 
-add-b : tie.Need-overflow-add-b invariant-loop decreases-loop
+add-b : tie.Need-overflow_add-b-in-loop-j invariant-loop decreases-loop
 add-b c = search rules
 
-add-j : tie.Need-overflow-add-j invariant-loop decreases-loop
+add-j : tie.Need-overflow_add-j invariant-loop decreases-loop
 add-j c = search rules
 
-loop-less : tie.Need-loop-smaller invariant-loop decreases-loop
+loop-less : tie.Need-loop-j-smaller invariant-loop decreases-loop
 loop-less c = search rules
 
-loop-again : tie.Need-loop-preserved invariant-loop decreases-loop
+loop-again : tie.Need-loop-j-preserved invariant-loop decreases-loop
 loop-again c =
-    let b = c.before.before.before.before.before.before in
-    let l = c.before.before.before.before.loop in
-    let r = strip-is b.args.square.now _ _ _ _ _ l.invariant.1 c.line-left.ensures in
+    let b = c in
+    let l = c.loop-j in
+    let r = strip-is b.args.square.now _ _ _ _ _ l.invariant.1 c.line_left-line.ensures in
     let e = suc-mul l.j b.args.wide in
-    let x = row_before b.args.wide c.before.before.before.loop-test.true in
-    (omega arith, omega arith, omega arith, flag-goes _ _ l.invariant.3 r ∙ sym (sign-more l.left c.line-left.result c.line-left.type-inv))
+    let x = row_before b.args.wide c.loop-j-test.true in
+    (omega arith, omega arith, omega arith, flag-goes _ _ l.invariant.3 r ∙ sym (sign-more l.left c.line_left-line.result c.line_left-line.type-inv))
 
 returns : tie.Need-returns invariant-loop decreases-loop
-returns c = flag-done _ _ _ c.before.loop.invariant.0 c.loop-test.false c.before.loop.invariant.3
+returns c = flag-done _ _ _ c.loop-j.invariant.0 c.loop-j-test.false c.loop-j.invariant.3
 
-pub strip-left-spec : {M : Type 1} → statement M
-strip-left-spec =
+pub strip_left_spec : {M : Type 1} → statement M
+strip_left_spec =
     tie.close
     (tie.spec
     invariant-loop

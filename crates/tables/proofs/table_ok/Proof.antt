@@ -1,3 +1,4 @@
+use Rattle.std.proofs.lemmas.Bool.{not_from_false, not_from_true}
 use borrow.Author.Rules.{rules}
 use native.Mathlib.Omega.{arith}
 use mathlib.Core.Path.{◌≡◌, ◌∙◌}
@@ -12,58 +13,58 @@ use Rattle.tables.proofs.RuleLaws.{rows-rule}
 use Rattle.tables.proofs.table_ok.Statement.{statement}
 use Rattle.tables.proofs.table_ok.Tie as tie
 
-abbrev invariant-loop : tie.invariant-loop
+abbrev invariant-loop : tie.invariant-loop-i
 invariant-loop s from n room wide i₀ i = (i ≤ n) × (all_below i (row_ok room wide) ≡ true)
 
-abbrev decreases-loop : tie.decreases-loop
+abbrev decreases-loop : tie.decreases-loop-i
 decreases-loop s from n room wide i₀ i = n - i
 
-add_wide : tie.Need-overflow-add-wide invariant-loop decreases-loop
-add_wide c = omega (arith, c.before.before.requires.0.rows)
+add_wide : tie.Need-overflow_add-wide invariant-loop decreases-loop
+add_wide c = omega (arith, c.requires.0.rows)
 
-mul_wide : tie.Need-overflow-mul-wide invariant-loop decreases-loop
-mul_wide c = omega (arith, c.before.before.requires.0.rows)
+mul_wide : tie.Need-overflow_mul-wide invariant-loop decreases-loop
+mul_wide c = omega (arith, c.requires.0.rows)
 
-read-rows-requires : tie.Need-read-rows-requires invariant-loop decreases-loop
-read-rows-requires c κs = let p = c.before.before.before.requires in (p.0, wide-holds _, p.1, p.2)
+read-rows-requires : tie.Need-read_rows-requires invariant-loop decreases-loop
+read-rows-requires c κs = let p = c.requires in (p.0, wide-holds _, p.1, p.2)
 
-loop-holds : tie.Need-loop-init invariant-loop decreases-loop
+loop-holds : tie.Need-loop-i-init invariant-loop decreases-loop
 loop-holds c = (search rules, below_none _)
 
-row-ok-requires : tie.Need-row-ok-requires invariant-loop decreases-loop
+row-ok-requires : tie.Need-row_ok-requires invariant-loop decreases-loop
 row-ok-requires c κs =
-    let b = c.before.before.before.before.before.before.before.before.before in
-    let h = c.before.loop-test.true in
-    let r = c.before.before.before.before.before.read-rows.ensures in
+    let b = c in
+    let h = c.loop-i-test.true in
+    let r = c.read_rows.ensures in
     let e = row_before (wide_of b.args.n) h in
     (omega (arith, wide-holds b.args.n), omega (arith, r.1), r.0.low)
 
-same_length : tie.Need-same-length invariant-loop decreases-loop
-same_length c = c.before.before.before.before.before.before.before.read-rows.ensures.1
+same_length : tie.Need-shape_of-room-then-not-row_ok invariant-loop decreases-loop
+same_length c = c.read_rows.ensures.1
 
-returns : tie.Need-returns invariant-loop decreases-loop
+returns : tie.Need-returns-then-not-row_ok invariant-loop decreases-loop
 returns c =
-    let r = c.before.before.before.before.before.before.before.read-rows.ensures.0 in
-    below-stops _ _ _ c.before.before.before.loop-test.true c.before.row_ok.ensures c.if1.true ∙ rows-rule r (wide-holds _)
+    let r = c.read_rows.ensures.0 in
+    below-stops _ _ _ c.loop-i-test.true c.row_ok.ensures (not_from_false _ c.if-not-row_ok.true) ∙ rows-rule r (wide-holds _)
 
-add-i : tie.Need-overflow-add-i invariant-loop decreases-loop
+add-i : tie.Need-overflow_add-i invariant-loop decreases-loop
 add-i c = search rules
 
-loop-less : tie.Need-loop-smaller invariant-loop decreases-loop
+loop-less : tie.Need-loop-i-smaller invariant-loop decreases-loop
 loop-less c = search rules
 
-loop-again : tie.Need-loop-preserved invariant-loop decreases-loop
-loop-again c = (omega arith, below-goes _ _ c.before.before.before.before.loop.invariant.1 c.before.row_ok.ensures c.if1.false)
+loop-again : tie.Need-loop-i-preserved invariant-loop decreases-loop
+loop-again c = (omega arith, below-goes _ _ c.loop-i.invariant.1 c.row_ok.ensures (not_from_true _ c.if-not-row_ok.false))
 
-same-length-2 : tie.Need-same-length-2 invariant-loop decreases-loop
-same-length-2 c = c.before.before.before.before.read-rows.ensures.1
+same-length-2 : tie.Need-shape_of-room invariant-loop decreases-loop
+same-length-2 c = c.read_rows.ensures.1
 
-returns-2 : tie.Need-returns-2 invariant-loop decreases-loop
+returns-2 : tie.Need-returns invariant-loop decreases-loop
 returns-2 c =
-    let l = c.before.loop in below-done _ _ _ l.invariant.0 c.loop-test.false l.invariant.1 ∙ rows-rule c.before.before.before.before.read-rows.ensures.0 (wide-holds _)
+    let l = c.loop-i in below-done _ _ _ l.invariant.0 c.loop-i-test.false l.invariant.1 ∙ rows-rule c.read_rows.ensures.0 (wide-holds _)
 
-pub table-ok-spec : {M : Type 1} → statement M
-table-ok-spec =
+pub table_ok_spec : {M : Type 1} → statement M
+table_ok_spec =
     tie.close
     (tie.spec
     invariant-loop

@@ -61,7 +61,7 @@ asked : (c : tie.Else-route-stops) → let b = here (start c) in let n = (start 
 asked c =
     let s = start c in
     let d = c in
-    board-test s.args.n (here s) s.pre.0 d.if-stops-lt2.false d.if-n-stops.false c.if-route-ne0.false c.if-route-stops.false
+    board-test s.args.n (here s) s.requires.0 d.if-stops-lt2.false d.if-n-stops.false c.if-route-ne0.false c.if-route-stops.false
 
 -- a set that is not 0: the stops are as they must be, and it is theirs
 seen : (c : tie.Else-on-eq0) → let b = here (start c.before.before) in let n = (start c.before.before).args.n in
@@ -116,7 +116,7 @@ returns-7 c =
       c.marks_ok.ensures,
       c.marks_ok-2.ensures,
       (seen c.before.before.before.before.before.before).1,
-    ) (nodes-test s.args.n (here s) s.pre.0 (omega arith) (omega arith) d.if-route-stops.false (seen c.before.before.before.before.before.before).0)
+    ) (nodes-test s.args.n (here s) s.requires.0 (omega arith) (omega arith) d.if-route-stops.false (seen c.before.before.before.before.before.before).0)
 
 pub board_ok_spec : {M : Type 1} → statement M
 board_ok_spec =
