@@ -73,7 +73,7 @@ loop-again : tie.Need-loop-k-preserved invariant-loop decreases-loop
 loop-again c =
     let l = c.loop-k in
     let p = c.requires in
-    (omega arith, flag-goes _ _ l.invariant.1 refl ∙ sym (left-goes (p.2.low _) (p.2.low _) p.3 p.4 l.left))
+    (omega arith, flag-goes _ _ l.invariant.1 refl ∙ sym (left-goes (p.2.low _) (p.2.low _) p.3 p.4 l.left-bits))
 
 returns : tie.Need-returns invariant-loop decreases-loop
 returns c = flag-done _ _ _ c.loop-k.invariant.0 c.loop-k-test.false c.loop-k.invariant.1

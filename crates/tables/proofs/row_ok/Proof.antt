@@ -37,7 +37,7 @@ loop-less c = search rules
 loop-again : tie.Need-loop-k-preserved invariant-loop decreases-loop
 loop-again c =
     let l = c.loop-k in
-    (omega arith, strips-more _ _ _ _ 32 l.invariant.1 c.strip_left-strip.ensures ∙ sym (sign-more l.left c.strip_left-strip.result c.strip_left-strip.type-inv))
+    (omega arith, strips-more _ _ _ _ 32 l.invariant.1 c.strip_left-strip.ensures ∙ sym (sign-more l.left-bits c.strip_left-strip.result c.strip_left-strip.type_inv))
 
 sub-strip-left : tie.Need-overflow_sub-wide-2 invariant-loop decreases-loop
 sub-strip-left c = search rules
@@ -48,7 +48,7 @@ strip-left-requires-2 c κs = search rules
 returns : tie.Need-returns invariant-loop decreases-loop
 returns c =
     let l = c.loop-k in
-    sign-more l.left c.strip_left-rest.result c.strip_left-rest.type-inv ∙ strips-done _ _ _ _ l.invariant.0 l.invariant.1 c.strip_left-rest.ensures
+    sign-more l.left-bits c.strip_left-rest.result c.strip_left-rest.type_inv ∙ strips-done _ _ _ _ l.invariant.0 l.invariant.1 c.strip_left-rest.ensures
 
 pub row_ok_spec : {M : Type 1} → statement M
 row_ok_spec =

@@ -71,7 +71,7 @@ loop-again c =
     let r = strip-is b.args.square.now _ _ _ _ _ l.invariant.1 c.line_left-line.ensures in
     let e = suc-mul l.j b.args.wide in
     let x = row_before b.args.wide c.loop-j-test.true in
-    (omega arith, omega arith, omega arith, flag-goes _ _ l.invariant.3 r ∙ sym (sign-more l.left c.line_left-line.result c.line_left-line.type-inv))
+    (omega arith, omega arith, omega arith, flag-goes _ _ l.invariant.3 r ∙ sym (sign-more l.left-bits c.line_left-line.result c.line_left-line.type_inv))
 
 returns : tie.Need-returns invariant-loop decreases-loop
 returns c = flag-done _ _ _ c.loop-j.invariant.0 c.loop-j-test.false c.loop-j.invariant.3
