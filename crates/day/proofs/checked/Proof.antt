@@ -27,72 +27,72 @@ then-class : (s : List ℕ) → call_refusal s ≡ or_else (light_refusal s) (un
 unfolding call_refusal
 then-class s = or-else-assoc _ _ _ ∙ or-else-assoc _ _ _
 
-read-laid : (c : tie.Else1) → Laid c.before.before.before.before.args.s.now c.before.before.sections.result.layout
-read-laid c = found-laid read_refusal _ (λ z. z) c.before.before.sections.ensures c.if1.false
+read-laid : (c : tie.Else-read-ne0) → Laid c.args.s.now c.sections-read.result.layout
+read-laid c = found-laid read_refusal _ (λ z. z) c.sections-read.ensures c.if-read-ne0.false
 
-found-apart : (c : tie.After-judged) → c.judged.result ≡ found apart_refusal c.before.before.before.before.before.before.args.s.now
+found-apart : (c : tie.After-judged-apart) → c.judged-apart.result ≡ found apart_refusal c.args.s.now
 found-apart c =
-    let j = c.before in
-    let e = j.before in
-    found-judged read_refusal apart_refusal _ _ e.before.before.sections.ensures e.if1.false c.judged.ensures
-    (rw (read-laid e).jobs at j.look-over.ensures.apart) refl
+    let j = c in
+    let e = j in
+    found-judged read_refusal apart_refusal _ _ e.sections-read.ensures e.if-read-ne0.false c.judged-apart.ensures
+    (rw (read-laid c.before.before.before).jobs at j.look_over-jobs.ensures.apart) refl
 
-apart-laid : (c : tie.Else2) → Laid c.before.before.before.before.before.before.before.before.args.s.now c.before.before.judged.result.layout
-apart-laid c = found-laid apart_refusal _ (λ z. (or-else-zero _ _ z).0) (found-apart c.before.before) c.if2.false
+apart-laid : (c : tie.Else-apart-ne0) → Laid c.args.s.now c.judged-apart.result.layout
+apart-laid c = found-laid apart_refusal _ (λ z. (or-else-zero _ _ z).0) (found-apart c.before.before) c.if-apart-ne0.false
 
-found-light : (c : tie.After-judged2) → c.judged2.result ≡ found light_refusal c.before.before.before.before.before.before.before.before.before.before.before.args.s.now
+found-light : (c : tie.After-judged-light) → c.judged-light.result ≡ found light_refusal c.args.s.now
 unfolding can_ride
 found-light c =
-    let m = c.before.before in
-    let a = m.before.before.before in
-    let j = a.before in
-    let heaviest = rw (read-laid j.before).jobs at j.look-over.ensures.heaviest in
-    found-judged apart_refusal _ _ _ (found-apart a) m.before.if2.false c.judged2.ensures
-    (ap₂ leb heaviest m.largest.ensures ∙ peak-within _ _ _) refl
+    let m = c in
+    let a = m in
+    let j = a in
+    let heaviest = rw (read-laid c.before.before.before.before.before.before.before.before.before).jobs at j.look_over-jobs.ensures.heaviest in
+    found-judged apart_refusal _ _ _ (found-apart c.before.before.before.before.before.before) m.if-apart-ne0.false c.judged-light.ensures
+    (ap₂ leb heaviest m.largest-most.ensures ∙ peak-within _ _ _) refl
 
-light-laid : (c : tie.Else3) → Laid c.before.before.before.before.before.before.before.before.before.before.before.before.before.args.s.now c.before.before.judged2.result.layout
-light-laid c = found-laid light_refusal _ (λ z. (or-else-zero _ _ (or-else-zero _ _ z).0).0) (found-light c.before.before) c.if3.false
+light-laid : (c : tie.Else-light-ne0) → Laid c.args.s.now c.judged-light.result.layout
+light-laid c = found-laid light_refusal _ (λ z. (or-else-zero _ _ (or-else-zero _ _ z).0).0) (found-light c.before.before) c.if-light-ne0.false
 
-sections-requires : tie.Need-sections-requires
+sections-requires : tie.Need-sections-read-requires
 sections-requires c κs = search rules
 
-returns : tie.Need-returns
+returns : tie.Need-returns-then-read-ne0
 unfolding call_refusal
-returns c = found-stops _ _ _ _ c.before.before.sections.ensures c.if1.true refl
+returns c = found-stops _ _ _ _ c.sections-read.ensures c.if-read-ne0.true refl
 
-look-over-requires : tie.Need-look-over-requires
-look-over-requires c κs = read-laid c
+look-over-requires : tie.Need-look_over-jobs-requires
+look-over-requires c κs = read-laid c.before
 
-judged-requires : tie.Need-judged-requires
+judged-requires : tie.Need-judged-apart-requires
 judged-requires c κs = search rules
 
-returns-2 : tie.Need-returns-2
+returns-2 : tie.Need-returns-then-apart-ne0
 unfolding call_refusal
-returns-2 c = found-stops apart_refusal _ _ _ (found-apart c.before.before) c.if2.true (or-else-assoc _ _ _)
+returns-2 c = found-stops apart_refusal _ _ _ (found-apart c.before.before) c.if-apart-ne0.true (or-else-assoc _ _ _)
 
-largest-requires : tie.Need-largest-requires
-largest-requires c κs = apart-laid c
+largest-requires : tie.Need-largest-most-requires
+largest-requires c κs = apart-laid c.before
 
-judged-requires-2 : tie.Need-judged-requires-2
+judged-requires-2 : tie.Need-judged-light-requires
 judged-requires-2 c κs = search rules
 
-returns-3 : tie.Need-returns-3
-returns-3 c = found-stops light_refusal _ _ _ (found-light c.before.before) c.if3.true (then-class _)
+returns-3 : tie.Need-returns-then-light-ne0
+returns-3 c = found-stops light_refusal _ _ _ (found-light c.before.before) c.if-light-ne0.true (then-class _)
 
-ends-admit-requires : tie.Need-ends-admit-requires
-ends-admit-requires c κs = light-laid c
+ends-admit-requires : tie.Need-ends_admit-ends-requires
+ends-admit-requires c κs = light-laid c.before
 
-judged-requires-3 : tie.Need-judged-requires-3
+judged-requires-3 : tie.Need-judged-requires
 judged-requires-3 c κs = search rules
 
-returns-4 : tie.Need-returns-4
+returns-4 : tie.Need-returns
 returns-4 c =
-    let e = c.before in
-    let l = e.before in
-    found-judged light_refusal _ _ _ (found-light l.before.before) l.if3.false c.judged3.ensures e.ends-admit.ensures (then-class _)
+    let e = c in
+    let l = e in
+    found-judged light_refusal _ _ _ (found-light c.before.before.before.before.before) l.if-light-ne0.false c.judged.ensures e.ends_admit-ends.ensures (then-class _)
 
-pub checked-spec : {M : Type 1} → statement M
-checked-spec =
+pub checked_spec : {M : Type 1} → statement M
+checked_spec =
     tie.close
     (tie.spec
     sections-requires

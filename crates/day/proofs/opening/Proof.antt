@@ -8,28 +8,28 @@ use borrow.Author.Rules.{rules}
 use Rattle.day.proofs.opening.Statement.{statement}
 use Rattle.day.proofs.opening.Tie as tie
 
-checked-requires : tie.Need-checked-requires
+checked-requires : tie.Need-checked-call-requires
 checked-requires c κs = search rules
 
-returns : tie.Need-returns
+returns : tie.Need-returns-then-call-ne0
 unfolding open_refusal
-returns c = found-stops _ _ _ _ c.before.before.checked.ensures c.if1.true refl
+returns c = found-stops _ _ _ _ c.checked-call.ensures c.if-call-ne0.true refl
 
-triangle-ok-requires : tie.Need-triangle-ok-requires
-triangle-ok-requires c κs = seconds-table (call-laid _ c.before.before.before.checked.ensures c.before.if1.false)
+triangle-ok-requires : tie.Need-triangle_ok-seconds-requires
+triangle-ok-requires c κs = seconds-table (call-laid _ c.checked-call.ensures c.if-call-ne0.false)
 
-triangle-ok-requires-2 : tie.Need-triangle-ok-requires-2
-triangle-ok-requires-2 c κs = metres-table (call-laid _ c.before.before.before.before.checked.ensures c.before.before.if1.false)
+triangle-ok-requires-2 : tie.Need-triangle_ok-metres-requires
+triangle-ok-requires-2 c κs = metres-table (call-laid _ c.checked-call.ensures c.if-call-ne0.false)
 
 judged-requires : tie.Need-judged-requires
 judged-requires c κs = search rules
 
-returns-2 : tie.Need-returns-2
+returns-2 : tie.Need-returns
 unfolding open_refusal
-returns-2 c = let e = c.before.before.before.before.before.before.checked.ensures in let z = c.before.before.before.before.if1.false in let l = call-laid _ e z in found-judged _ _ _ _ e z c.judged.ensures (ap₂ ◌&&◌ (rw (l.seconds, l.nodes) at c.before.before.triangle-ok.ensures) (rw (l.metres, l.nodes) at c.before.triangle-ok2.ensures)) refl
+returns-2 c = let e = c.checked-call.ensures in let z = c.if-call-ne0.false in let l = call-laid _ e z in found-judged _ _ _ _ e z c.judged.ensures (ap₂ ◌&&◌ (rw (l.seconds, l.nodes) at c.triangle_ok-seconds.ensures) (rw (l.metres, l.nodes) at c.triangle_ok-metres.ensures)) refl
 
-pub opening-spec : {M : Type 1} → statement M
-opening-spec =
+pub opening_spec : {M : Type 1} → statement M
+opening_spec =
     tie.close
     (tie.spec
     checked-requires

@@ -7,5 +7,5 @@ returns : tie.Need-returns
 unfolding cut
 returns c = (refl, c.ranges.w.fits)
 
-pub cut-set-spec : {M : Type 1} → statement M
-cut-set-spec = tie.close (tie.spec returns)
+pub cut_set_spec : {M : Type 1} → statement M
+cut_set_spec = tie.close (tie.spec returns)

@@ -14,7 +14,7 @@ within-requires-3 c κs = search rules
 
 returns : tie.Need-returns
 unfolding strictly
-returns c = rw (c.within3.ensures, c.before.within2.ensures, c.before.before.within.ensures)
+returns c = rw (c.within-3.ensures, c.within-2.ensures, c.within.ensures)
 
-pub grows-spec : {M : Type 1} → statement M
-grows-spec = tie.close (tie.spec within-requires within-requires-2 within-requires-3 returns)
+pub grows_spec : {M : Type 1} → statement M
+grows_spec = tie.close (tie.spec within-requires within-requires-2 within-requires-3 returns)

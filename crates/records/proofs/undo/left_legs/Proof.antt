@@ -12,7 +12,7 @@ has-requires : tie.Need-has-requires
 has-requires c κs = search rules
 
 returns : tie.Need-returns
-returns c = rw (c.has.ensures, c.before.within.ensures, c.before.before.without.ensures)
+returns c = rw (c.has.ensures, c.within.ensures, c.without.ensures)
 
-pub left-legs-spec : {M : Type 1} → statement M
-left-legs-spec = tie.close (tie.spec without-requires within-requires has-requires returns)
+pub left_legs_spec : {M : Type 1} → statement M
+left_legs_spec = tie.close (tie.spec without-requires within-requires has-requires returns)

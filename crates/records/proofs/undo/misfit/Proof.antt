@@ -6,5 +6,5 @@ use Rattle.records.proofs.undo.misfit.Tie as tie
 returns : tie.Need-returns
 returns c = λ n b next last sets h. (refl, undoing-misfit n b _ next last sets h)
 
-pub misfit-spec : {M : Type 1} → statement M
-misfit-spec = tie.close (tie.spec returns)
+pub misfit_spec : {M : Type 1} → statement M
+misfit_spec = tie.close (tie.spec returns)

@@ -9,49 +9,49 @@ use Rattle.records.proofs.UndoingLaws.{told, undoing-none, ended}
 use Rattle.records.proofs.undo.undo_many.Statement.{statement}
 use Rattle.records.proofs.undo.undo_many.Tie as tie
 
-begun : (c : tie.After-undo-from-arg) → let d = c.before.before.before.before.before.before.before.before.before.before in let a = d.args in
-    Undoing a.n (board a.route.now a.f.stops a.sets.now a.f.marks a.f.must) (told true a.f.stops a.f.marks a.f.must c.before.before.before.word.result)
-    c.before.before.before.before.before.neighbours.new.0 c.before.before.before.before.before.neighbours.new.1.0 a.sets.now
+begun : (c : tie.After-undo_from-arg-1) → let d = c in let a = d.args in
+    Undoing a.n (board a.route.now a.f.stops a.sets.now a.f.marks a.f.must) (told true a.f.stops a.f.marks a.f.must c.word.result)
+    c.neighbours.new.next c.neighbours.new.last a.sets.now
 unfolding legs_of
 begun c =
-    let w = c.before.before.before in
-    let g = w.before.before in
-    undoing-none _ _ _ _ _ g.before.before.before.before.before.requires.0 g.neighbours.ensures refl refl refl (sym w.word.ensures)
+    let w = c in
+    let g = w in
+    undoing-none _ _ _ _ _ g.requires.0 g.neighbours.ensures refl refl refl (sym w.word.ensures)
 
 neighbours-requires : tie.Need-neighbours-requires
 neighbours-requires c κs = search rules
 
-sub_word : tie.Need-overflow-sub-word
+sub_word : tie.Need-overflow_sub-stops
 sub_word c = search rules
 
 word-requires : tie.Need-word-requires
-word-requires c κs = let r = readable _ _ c.before.before.before.before.before.before.requires.0 in (omega (arith, r.1), λ i h. r.3 i (omega arith))
+word-requires c κs = let r = readable _ _ c.requires.0 in (omega (arith, r.1), λ i h. r.3 i (omega arith))
 
-undo-from-requires : tie.Need-undo-from-requires
-undo-from-requires c κs = let p = c.before.before.before.before.before.before.before.before.before.before.requires in (((_, begun c), refl), (p.1, p.2))
+undo-from-requires : tie.Need-undo_from-u-requires
+undo-from-requires c κs = let p = c.requires in (((_, begun c), refl), (p.1, p.2))
 
-cut-sets-requires : tie.Need-cut-sets-requires
+cut-sets-requires : tie.Need-cut_sets-requires
 cut-sets-requires c κs =
-    let u = c.before in
-    let g = (u.undo-from.ensures _ (begun u.before)).1 in
+    let u = c in
+    let g = (u.undo_from-u.ensures _ (begun c.before.before)).1 in
     (g.long, g.sound.small, g.past)
 
 walk-requires : tie.Need-walk-requires
 walk-requires c κs =
-    let u = c.before.before.before.before in
-    let s = u.before.before.before.before.before.before.before.before.before.before.before.requires.0 in
-    let g = (u.undo-from.ensures _ (begun u.before)).1 in
+    let u = c in
+    let s = u.requires.0 in
+    let g = (u.undo_from-u.ensures _ (begun c.before.before.before.before.before)).1 in
     ((s.wide.route, (readable _ _ s).1, s.form.route.past), (_, _, _, g.sound, g.stops, g.beside))
 
 returns : tie.Need-returns
 returns c =
-    let u = c.before.before.before.before.before in
-    let g = u.undo-from.ensures _ (begun u.before) in
-    let k = c.before.before.before.cut-sets.ensures in
+    let u = c in
+    let g = u.undo_from-u.ensures _ (begun c.before.before.before.before.before.before) in
+    let k = c.cut_sets.ensures in
     ended _ _ _ _ _ _ g k.1 (c.walk.ensures _ _ _ g.1.sound g.1.stops g.1.beside) k.0
 
-pub undo-many-spec : {M : Type 1} → statement M
-undo-many-spec =
+pub undo_many_spec : {M : Type 1} → statement M
+undo_many_spec =
     tie.close
     (tie.spec
     neighbours-requires

@@ -13,9 +13,9 @@ use Rattle.records.proofs.UndoingLaws.{undoing-marked, test-marked, follows_by}
 use Rattle.records.proofs.undo.undo_marked.Statement.{statement}
 use Rattle.records.proofs.undo.undo_marked.Tie as tie
 
-fits-is : (c : tie.After-has2) (n : ℕ) (b : Board) (next last sets : List ℕ) → let a = c.before.before.args in
-    Undoing n b a.u next last sets → fits_marked b a.x a.w ≡ not c.before.has.result && (c.has2.result && eqb a.w 0)
-fits-is c n b next last sets h = test-marked n b _ next last sets h _ _ ∙ rw (c.has2.ensures, c.before.has.ensures) refl
+fits-is : (c : tie.After-has-2) (n : ℕ) (b : Board) (next last sets : List ℕ) → let a = c.args in
+    Undoing n b a.u next last sets → fits_marked b a.x a.w ≡ not c.has.result && (c.has-2.result && eqb a.w 0)
+fits-is c n b next last sets h = test-marked n b _ next last sets h _ _ ∙ rw (c.has-2.ensures, c.has.ensures) refl
 
 has-requires : tie.Need-has-requires
 has-requires c κs = search rules
@@ -26,22 +26,22 @@ has-requires-2 c κs = search rules
 misfit-requires : tie.Need-misfit-requires
 misfit-requires c κs = search rules
 
-returns : tie.Need-returns
+returns : tie.Need-returns-then-not-fits
 returns c =
-    let t = c.before in
+    let t = c in
     λ n b next last sets h.
-    follows_by n _ next last sets (undone-no _ _ (fits-is t.before n b next last sets h ∙ not-true _ t.if1.true)) (c.misfit.ensures n b next last sets h)
+    follows_by n _ next last sets (undone-no _ _ (fits-is c.before.before n b next last sets h ∙ t.if-not-fits.true)) (c.misfit.ensures n b next last sets h)
 
 without-requires : tie.Need-without-requires
 without-requires c κs = search rules
 
-returns-2 : tie.Need-returns-2
+returns-2 : tie.Need-returns
 returns-2 c =
     λ n b next last sets h.
     rw c.without.ensures
-    (follows_by n _ next last sets (undone-yes _ _ (fits-is c.before.before n b next last sets h ∙ not-false _ c.before.if1.false)) (refl, undoing-marked n b _ next last sets h _))
+    (follows_by n _ next last sets (undone-yes _ _ (fits-is c.before.before n b next last sets h ∙ c.if-not-fits.false)) (refl, undoing-marked n b _ next last sets h _))
 
-pub undo-marked-spec : {M : Type 1} → statement M
-undo-marked-spec =
+pub undo_marked_spec : {M : Type 1} → statement M
+undo_marked_spec =
     tie.close
     (tie.spec has-requires has-requires-2 misfit-requires returns without-requires returns-2)

@@ -13,7 +13,7 @@ use Rattle.records.proofs.UndoingLaws.{undoing-obliged, test-obliged, follows_by
 use Rattle.records.proofs.undo.undo_obliged.Statement.{statement}
 use Rattle.records.proofs.undo.undo_obliged.Tie as tie
 
-fits-is : (c : tie.After-has) (n : ℕ) (b : Board) (next last sets : List ℕ) → let a = c.before.args in
+fits-is : (c : tie.After-has) (n : ℕ) (b : Board) (next last sets : List ℕ) → let a = c.args in
     Undoing n b a.u next last sets → fits_obliged b a.x a.w ≡ c.has.result && eqb a.w 0
 fits-is c n b next last sets h = test-obliged n b _ next last sets h _ _ ∙ rw c.has.ensures refl
 
@@ -23,21 +23,21 @@ has-requires c κs = search rules
 misfit-requires : tie.Need-misfit-requires
 misfit-requires c κs = search rules
 
-returns : tie.Need-returns
+returns : tie.Need-returns-then-not-fits
 returns c =
-    let t = c.before in
+    let t = c in
     λ n b next last sets h.
-    follows_by n _ next last sets (undone-no _ _ (fits-is t.before n b next last sets h ∙ not-true _ t.if1.true)) (c.misfit.ensures n b next last sets h)
+    follows_by n _ next last sets (undone-no _ _ (fits-is c.before.before n b next last sets h ∙ t.if-not-fits.true)) (c.misfit.ensures n b next last sets h)
 
 without-requires : tie.Need-without-requires
 without-requires c κs = search rules
 
-returns-2 : tie.Need-returns-2
+returns-2 : tie.Need-returns
 returns-2 c =
     λ n b next last sets h.
     rw c.without.ensures
-    (follows_by n _ next last sets (undone-yes _ _ (fits-is c.before.before n b next last sets h ∙ not-false _ c.before.if1.false)) (refl, undoing-obliged n b _ next last sets h _))
+    (follows_by n _ next last sets (undone-yes _ _ (fits-is c.before.before n b next last sets h ∙ c.if-not-fits.false)) (refl, undoing-obliged n b _ next last sets h _))
 
-pub undo-obliged-spec : {M : Type 1} → statement M
-undo-obliged-spec =
+pub undo_obliged_spec : {M : Type 1} → statement M
+undo_obliged_spec =
     tie.close (tie.spec has-requires misfit-requires returns without-requires returns-2)

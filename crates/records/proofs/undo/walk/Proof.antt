@@ -12,21 +12,21 @@ use Rattle.records.proofs.UndoingLaws.{swept-on, swept-past}
 use Rattle.records.proofs.undo.walk.Statement.{statement}
 use Rattle.records.proofs.undo.walk.Tie as tie
 
-abbrev invariant-loop : tie.invariant-loop
+abbrev invariant-loop : tie.invariant-loop-i
 invariant-loop route₀ next stops was p₀ i₀ route p i =
     (i ≤ stops) × (length route ≡ 64)
     × ((n : ℕ) (b : Board) (last : List ℕ) → Sound n b → b.stops ≡ stops → Beside b.stops b.route next last
     → (route ≡ swept route₀ b.route i) × (i < stops → p ≡ get_or b.route i 0))
 
-abbrev decreases-loop : tie.decreases-loop
+abbrev decreases-loop : tie.decreases-loop-i
 decreases-loop route₀ next stops was p₀ i₀ route p i = stops - i
 
-abbrev invariant-loop2 : tie.invariant-loop2
+abbrev invariant-loop2 : tie.invariant-loop-i-2
 invariant-loop2 route₀ next stops was p i₀ route i =
     (stops ≤ i) × (i ≤ 64)
     × ((n : ℕ) (b : Board) (last : List ℕ) → Sound n b → b.stops ≡ stops → Beside b.stops b.route next last → route ≡ swept route₀ b.route i)
 
-abbrev decreases-loop2 : tie.decreases-loop2
+abbrev decreases-loop2 : tie.decreases-loop-i-2
 decreases-loop2 route₀ next stops was p i₀ route i = was - i
 
 -- the stops are places of the array
@@ -34,95 +34,95 @@ most : (c : tie.Start invariant-loop decreases-loop invariant-loop2 decreases-lo
 most c = let q = c.requires.1 in omega (arith, q.3.small, q.3.form.route.most, q.4)
 
 -- the stop met next is a node, and so a place of the array
-low : (c : tie.In-loop invariant-loop decreases-loop invariant-loop2 decreases-loop2) → c.before.loop.p < 64
+low : (c : tie.In-loop-i invariant-loop decreases-loop invariant-loop2 decreases-loop2) → c.loop-i.p < 64
 low c =
-    let d = c.before.before in
+    let d = c in
     let q = d.requires.1 in
     let s = q.3 in
-    let w = (c.before.loop.invariant.2 q.0 q.1 q.2 s q.4 q.5).1 c.loop-test.true in
-    omega (arith, s.small, w, s.form.route.below c.before.loop.i (omega (arith, q.4, c.loop-test.true)))
+    let w = (c.loop-i.invariant.2 q.0 q.1 q.2 s q.4 q.5).1 c.loop-i-test.true in
+    omega (arith, s.small, w, s.form.route.below c.loop-i.i (omega (arith, q.4, c.loop-i-test.true)))
 
-loop-holds : tie.Need-loop-init invariant-loop decreases-loop invariant-loop2 decreases-loop2
+loop-holds : tie.Need-loop-i-init invariant-loop decreases-loop invariant-loop2 decreases-loop2
 loop-holds c = (omega arith, c.requires.0.0, λ n b last s e h. (sym (swept-start _ _), λ l. sym s.form.route.start))
 
-mul-route : tie.Need-overflow-mul-route invariant-loop decreases-loop invariant-loop2 decreases-loop2
+mul-route : tie.Need-offset_bounds-route-i invariant-loop decreases-loop invariant-loop2 decreases-loop2
 mul-route c = omega (arith, most c.before.before)
 
-element-write-route : tie.Need-element-write-route invariant-loop decreases-loop invariant-loop2 decreases-loop2
-element-write-route c = omega (arith, most c.before.before)
+element-write-route : tie.Need-bounds-route-i invariant-loop decreases-loop invariant-loop2 decreases-loop2
+element-write-route c = omega (arith, most c.before.before.before)
 
-element-copy-out-v : tie.Need-element-copy-out-v invariant-loop decreases-loop invariant-loop2 decreases-loop2
-element-copy-out-v c = low c
+element-copy-out-v : tie.Need-bounds-next-p invariant-loop decreases-loop invariant-loop2 decreases-loop2
+element-copy-out-v c = low c.before.before
 
-node-of-requires : tie.Need-node-of-requires invariant-loop decreases-loop invariant-loop2 decreases-loop2
+node-of-requires : tie.Need-node_of-p-requires invariant-loop decreases-loop invariant-loop2 decreases-loop2
 node-of-requires c κs = search rules
 
-add-i : tie.Need-overflow-add-i invariant-loop decreases-loop invariant-loop2 decreases-loop2
-add-i c = omega (arith, most c.before.before.before.before)
+add-i : tie.Need-overflow_add-i invariant-loop decreases-loop invariant-loop2 decreases-loop2
+add-i c = omega (arith, most c.before.before.before.before.before.before)
 
-loop-less : tie.Need-loop-smaller invariant-loop decreases-loop invariant-loop2 decreases-loop2
+loop-less : tie.Need-loop-i-smaller invariant-loop decreases-loop invariant-loop2 decreases-loop2
 loop-less c = omega arith
 
-loop-again : tie.Need-loop-preserved invariant-loop decreases-loop invariant-loop2 decreases-loop2
+loop-again : tie.Need-loop-i-preserved invariant-loop decreases-loop invariant-loop2 decreases-loop2
 loop-again c =
-    let l = c.before.before.before in
-    let v = l.loop.invariant in (
+    let l = c in
+    let v = l.loop-i.invariant in (
       omega arith,
-      length-set l.loop.route l.loop.i l.loop.p ∙ v.1,
+      length-set l.loop-i.route l.loop-i.i l.loop-i.p ∙ v.1,
       λ n b last s e h.
           let w = v.2 n b last s e h in
-          let q = c.before.before.loop-test.true in (
-            sweep-up _ _ _ (s.wide.route ∙ sym l.before.requires.0.0) (omega (arith, most l.before, l.before.requires.0.0)) w.0 (w.1 q),
-            λ g. c.node_of.ensures ∙ ap (λ (k : ℕ). get_or l.before.args.next.now k 0) (w.1 q) ∙ h.ahead _ (omega (arith, e)),
+          let q = c.loop-i-test.true in (
+            sweep-up _ _ _ (s.wide.route ∙ sym l.requires.0.0) (omega (arith, most c.before.before.before.before.before.before, l.requires.0.0)) w.0 (w.1 q),
+            λ g. c.node_of-p.ensures ∙ ap (λ (k : ℕ). get_or l.args.next.now k 0) (w.1 q) ∙ h.ahead _ (omega (arith, e)),
           ),
     )
 
-loop2-holds : tie.Need-loop2-init invariant-loop decreases-loop invariant-loop2 decreases-loop2
+loop2-holds : tie.Need-loop-i-2-init invariant-loop decreases-loop invariant-loop2 decreases-loop2
 loop2-holds c =
-    let l = c.before.loop in
-    let e : l.i ≡ c.before.before.args.stops = omega arith in
-    (omega arith, omega (arith, most c.before.before), λ n b last s q h. swept-on _ _ _ (s.wide.route ∙ sym c.before.before.requires.0.0) (l.invariant.2 n b last s q h).0)
+    let l = c.loop-i in
+    let e : l.i ≡ c.args.stops = omega arith in
+    (omega arith, omega (arith, most c.before.before), λ n b last s q h. swept-on _ _ _ (s.wide.route ∙ sym c.requires.0.0) (l.invariant.2 n b last s q h).0)
 
-mul-route-2 : tie.Need-overflow-mul-route-2 invariant-loop decreases-loop invariant-loop2 decreases-loop2
-mul-route-2 c = omega (arith, c.before.before.before.before.requires.0.1)
+mul-route-2 : tie.Need-offset_bounds-route-i-in-loop-i-2 invariant-loop decreases-loop invariant-loop2 decreases-loop2
+mul-route-2 c = omega (arith, c.requires.0.1)
 
-element-write-route-2 : tie.Need-element-write-route-2 invariant-loop decreases-loop invariant-loop2 decreases-loop2
-element-write-route-2 c = omega (arith, c.before.before.before.before.requires.0.1)
+element-write-route-2 : tie.Need-bounds-route-i-in-loop-i-2 invariant-loop decreases-loop invariant-loop2 decreases-loop2
+element-write-route-2 c = omega (arith, c.requires.0.1)
 
-add-i-2 : tie.Need-overflow-add-i-2 invariant-loop decreases-loop invariant-loop2 decreases-loop2
-add-i-2 c = omega (arith, c.before.before.before.before.requires.0.1)
+add-i-2 : tie.Need-overflow_add-i-in-loop-i-2 invariant-loop decreases-loop invariant-loop2 decreases-loop2
+add-i-2 c = omega (arith, c.requires.0.1)
 
-loop2-less : tie.Need-loop2-smaller invariant-loop decreases-loop invariant-loop2 decreases-loop2
+loop2-less : tie.Need-loop-i-2-smaller invariant-loop decreases-loop invariant-loop2 decreases-loop2
 loop2-less c = omega arith
 
-loop2-again : tie.Need-loop2-preserved invariant-loop decreases-loop invariant-loop2 decreases-loop2
+loop2-again : tie.Need-loop-i-2-preserved invariant-loop decreases-loop invariant-loop2 decreases-loop2
 loop2-again c =
-    let l = c.before in
-    let a = l.before.before in
-    let d = a.before in
-    let v = l.loop2.invariant in (
+    let l = c in
+    let a = l in
+    let d = a in
+    let v = l.loop-i-2.invariant in (
       omega arith,
       omega arith,
       λ n b last s e h.
-          sweep-up _ _ _ (s.wide.route ∙ sym a.loop.invariant.1) (omega (arith, d.requires.0.1, a.loop.invariant.1)) (v.2 n b last s e h)
+          sweep-up _ _ _ (s.wide.route ∙ sym a.loop-i.invariant.1) (omega (arith, d.requires.0.1, a.loop-i.invariant.1)) (v.2 n b last s e h)
           (sym (s.form.route.past _ (omega (arith, e)) (omega (arith, d.requires.0.1)))),
     )
 
 returns : tie.Need-returns invariant-loop decreases-loop invariant-loop2 decreases-loop2
 returns c =
-    let l = c.before in
-    let a = l.before.before in
-    let d = a.before in
+    let l = c in
+    let a = l in
+    let d = a in
     λ n b last s e h.
     let long = s.wide.route ∙ sym d.requires.0.0 in
-    l.loop2.invariant.2 n b last s e h
-    ∙ swept-past _ _ _ (s.wide.route ∙ sym a.loop.invariant.1) (λ k g f.
-    let m : k < 64 = omega (arith, a.loop.invariant.1) in
-    ap (λ (t : List ℕ). get_or t k 0) (a.loop.invariant.2 n b last s e h).0 ∙ swept-ahead _ _ _ k long (omega (arith, g, l.loop2.invariant.0, a.loop.invariant.0))
-    ∙ d.requires.0.2 k (omega (arith, g, c.loop2-test.false)) m ∙ sym (s.form.route.past k (omega (arith, e, g, l.loop2.invariant.0)) m))
+    l.loop-i-2.invariant.2 n b last s e h
+    ∙ swept-past _ _ _ (s.wide.route ∙ sym a.loop-i.invariant.1) (λ k g f.
+    let m : k < 64 = omega (arith, a.loop-i.invariant.1) in
+    ap (λ (t : List ℕ). get_or t k 0) (a.loop-i.invariant.2 n b last s e h).0 ∙ swept-ahead _ _ _ k long (omega (arith, g, l.loop-i-2.invariant.0, a.loop-i.invariant.0))
+    ∙ d.requires.0.2 k (omega (arith, g, c.loop-i-2-test.false)) m ∙ sym (s.form.route.past k (omega (arith, e, g, l.loop-i-2.invariant.0)) m))
 
-pub walk-spec : {M : Type 1} → statement M
-walk-spec =
+pub walk_spec : {M : Type 1} → statement M
+walk_spec =
     tie.close
     (tie.spec
     invariant-loop

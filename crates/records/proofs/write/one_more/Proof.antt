@@ -4,14 +4,14 @@ use native.Mathlib.Omega.{arith}
 use Rattle.records.proofs.write.one_more.Statement.{statement}
 use Rattle.records.proofs.write.one_more.Tie as tie
 
-add-result : tie.Need-overflow-add-result
+add-result : tie.Need-overflow_add-result
 add-result c = search rules
 
-returns : tie.Need-returns
-returns c = rw (eq-eqb _ _ c.if1.true) (omega arith, omega arith)
+returns : tie.Need-returns-then-w-v
+returns c = rw (eq-eqb _ _ c.if-w-v.true) (omega arith, omega arith)
 
-returns-2 : tie.Need-returns-2
-returns-2 c = rw (ne_eqb _ _ c.if1.false) (omega arith, omega arith)
+returns-2 : tie.Need-returns-else-w-v
+returns-2 c = rw (ne_eqb _ _ c.if-w-v.false) (omega arith, omega arith)
 
-pub one-more-spec : {M : Type 1} → statement M
-one-more-spec = tie.close (tie.spec add-result returns returns-2)
+pub one_more_spec : {M : Type 1} → statement M
+one_more_spec = tie.close (tie.spec add-result returns returns-2)

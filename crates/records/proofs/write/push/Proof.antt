@@ -6,31 +6,31 @@ use native.Mathlib.Omega.{arith}
 use Rattle.records.proofs.write.push.Statement.{statement}
 use Rattle.records.proofs.write.push.Tie as tie
 
-mul_at : tie.Need-overflow-mul-at
+mul_at : tie.Need-overflow_mul-at
 unfolding room_of
 mul_at c = omega arith
 
-mul-trail : tie.Need-overflow-mul-trail
+mul-trail : tie.Need-offset_bounds-trail-at
 unfolding room_of
 mul-trail c = omega arith
 
-slice-write-trail : tie.Need-slice-write-trail
+slice-write-trail : tie.Need-bounds-trail-at
 unfolding room_of
 slice-write-trail c = omega arith
 
-add-trail : tie.Need-overflow-add-trail
+add-trail : tie.Need-overflow_add-trail
 unfolding room_of
 add-trail c = omega arith
 
-mul-trail-2 : tie.Need-overflow-mul-trail-2
+mul-trail-2 : tie.Need-offset_bounds-trail-at-2
 unfolding room_of
 mul-trail-2 c = omega arith
 
-slice-write-trail-2 : tie.Need-slice-write-trail-2
+slice-write-trail-2 : tie.Need-bounds-trail-at-2
 unfolding room_of
 slice-write-trail-2 c = simp length-set (omega arith)
 
-same_length : tie.Need-same-length
+same_length : tie.Need-shape_of-trail
 same_length c = search rules
 
 returns : tie.Need-returns
