@@ -44,7 +44,7 @@ mag-min a b k p q = go (le_z a b)
 
 -- what is written of a number near 0 is read back
 pub back-64 : (z : ℤ) → mag z < 9223372036854775808 → to_z w64 (of_z w64 z) ≡ z
-back-64 z h = to_z-of_z (record { sfits = h })
+back-64 z h = to_z-of_z {w = w64} (record { sfits = h })
 
 pub ahead : (n : ℕ) → n < 9223372036854775808 → to_z w64 n ≡ pos n
 ahead n h = to_z_pos w64 h

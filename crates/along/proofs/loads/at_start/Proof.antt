@@ -9,55 +9,55 @@ use Rattle.along.proofs.Walking.{near, low, start-next, empty-load}
 use Rattle.along.proofs.loads.at_start.Statement.{statement}
 use Rattle.along.proofs.loads.at_start.Tie as tie
 
-abbrev invariant-loop : tie.invariant-loop
+abbrev invariant-loop : tie.invariant-loop-i
 invariant-loop s t route stops sum₀ i₀ sum i =
     (i ≤ stops) × (sum ≤ 4398046511104 * i) × (sum + load (day_of s) [] (drop i (take stops route)) ≡ load (day_of s) [] (take stops route))
 
-abbrev decreases-loop : tie.decreases-loop
+abbrev decreases-loop : tie.decreases-loop-i
 decreases-loop s t route stops sum₀ i₀ sum i = stops - i
 
-loop-holds : tie.Need-loop-init invariant-loop decreases-loop
+loop-holds : tie.Need-loop-i-init invariant-loop decreases-loop
 loop-holds c = (omega arith, omega arith, omega arith)
 
-mul-x : tie.Need-overflow-mul-x invariant-loop decreases-loop
+mul-x : tie.Need-offset_bounds-route-i invariant-loop decreases-loop
 mul-x c = omega arith
 
-element-copy-out-x : tie.Need-element-copy-out-x invariant-loop decreases-loop
-element-copy-out-x c = omega (arith, c.before.before.requires.route.long, c.before.before.requires.route.most)
+element-copy-out-x : tie.Need-bounds-route-i invariant-loop decreases-loop
+element-copy-out-x c = omega (arith, c.requires.route.long, c.requires.route.most)
 
-mul-sum : tie.Need-overflow-mul-sum invariant-loop decreases-loop
-mul-sum c = let o = c.before.before.before in let l = c.before.before.loop in omega (arith, near o.requires l.i (omega arith))
+mul-sum : tie.Need-offset_bounds-t-x invariant-loop decreases-loop
+mul-sum c = let o = c in let l = c.loop-i in omega (arith, near o.requires l.i (omega arith))
 
-element-copy-out-sum : tie.Need-element-copy-out-sum invariant-loop decreases-loop
-element-copy-out-sum c = let o = c.before.before.before in let l = c.before.before.loop in omega (arith, near o.requires l.i (omega arith), o.requires.jobs.long)
+element-copy-out-sum : tie.Need-bounds-t-x invariant-loop decreases-loop
+element-copy-out-sum c = let o = c in let l = c.loop-i in omega (arith, near o.requires l.i (omega arith), o.requires.jobs.long)
 
-cast-sum : tie.Need-overflow-cast-sum invariant-loop decreases-loop
-cast-sum c = let o = c.before.before.before.before in let l = c.before.before.before.loop in omega (arith, low o.requires (get_or o.args.route.now l.i 0))
+cast-sum : tie.Need-overflow_cast-sum invariant-loop decreases-loop
+cast-sum c = let o = c in let l = c.loop-i in omega (arith, low o.requires (get_or o.args.route.now l.i 0))
 
-add-sum : tie.Need-overflow-add-sum invariant-loop decreases-loop
-add-sum c = let o = c.before.before.before.before in let l = c.before.before.before.loop in omega (arith, l.invariant.1, low o.requires (get_or o.args.route.now l.i 0), o.requires.route.most)
+add-sum : tie.Need-overflow_add-sum invariant-loop decreases-loop
+add-sum c = let o = c in let l = c.loop-i in omega (arith, l.invariant.1, low o.requires (get_or o.args.route.now l.i 0), o.requires.route.most)
 
-add-i : tie.Need-overflow-add-i invariant-loop decreases-loop
+add-i : tie.Need-overflow_add-i invariant-loop decreases-loop
 add-i c = omega arith
 
-loop-less : tie.Need-loop-smaller invariant-loop decreases-loop
+loop-less : tie.Need-loop-i-smaller invariant-loop decreases-loop
 loop-less c = omega arith
 
-loop-again : tie.Need-loop-preserved invariant-loop decreases-loop
+loop-again : tie.Need-loop-i-preserved invariant-loop decreases-loop
 loop-again c =
-    let o = c.before.before.before.before in
-    let l = c.before.before.before.loop in
+    let o = c in
+    let l = c.loop-i in
     (omega arith, omega (arith, l.invariant.1, low o.requires (get_or o.args.route.now l.i 0)), omega (arith, l.invariant.2, start-next o.requires l.i (omega arith)))
 
 returns : tie.Need-returns invariant-loop decreases-loop
 returns c =
-    let o = c.before.before in
-    let l = c.before.loop in
+    let o = c in
+    let l = c.loop-i in
     let e : l.i ≡ o.args.stops = omega arith in
     (omega (arith, l.invariant.2, empty-load o.requires l.i e), omega (arith, l.invariant.1, o.requires.route.most))
 
-pub at-start-spec : {M : Type 1} → statement M
-at-start-spec =
+pub at_start_spec : {M : Type 1} → statement M
+at_start_spec =
     tie.close
     (tie.spec
     invariant-loop

@@ -11,72 +11,72 @@ use Rattle.along.proofs.ReadyLaws.{jobs-are}
 use Rattle.along.proofs.NodeLaws.{nodes-none, nodes-next}
 use Rattle.along.proofs.nodes.by_node.Statement.{statement}
 use Rattle.along.proofs.nodes.by_node.Tie as tie
-
-abbrev invariant-loop : tie.invariant-loop
+use Rattle.along.proofs.nodes.by_node.Lts.{then-most-load, else-most-load}
+abbrev invariant-loop : tie.invariant-loop-j
 invariant-loop s at t₀ m j₀ t j = (j ≤ m) × ByNode (job_in s) j t
 
-abbrev decreases-loop : tie.decreases-loop
+abbrev decreases-loop : tie.decreases-loop-j
 decreases-loop s at t₀ m j₀ t j = m - j
 
-loop-holds : tie.Need-loop-init invariant-loop decreases-loop
-loop-holds c = (omega arith, rw c.before.requires.1 (nodes-none _))
+loop-holds : tie.Need-loop-j-init invariant-loop decreases-loop
+loop-holds c = (omega arith, rw c.requires.1 (nodes-none _))
 
-job-requires : tie.Need-job-requires invariant-loop decreases-loop
-job-requires c κs = (c.before.before.before.requires.0, omega arith)
+job-requires : tie.Need-job-job-requires invariant-loop decreases-loop
+job-requires c κs = (c.requires.0, omega arith)
 
 enter-requires : tie.Need-enter-requires invariant-loop decreases-loop
 enter-requires c κs =
-    let l = c.before.before.before.loop in
-    let o = c.before.before.before.before.before in
-    let q = c.before.job in (
+    let l = c.loop-j in
+    let o = c in
+    let q = c.job-job in (
       placed-read o.requires.0 l.j (omega arith) q.ensures,
       omega (arith, ap load_of q.ensures, (job-load o.requires.0 l.j (omega arith)).1),
       l.invariant.1.long,
       λ i. omega (arith, l.invariant.1.low i, jobs-are o.requires.0, o.requires.0.fine.m-high),
     )
 
-load-requires : tie.Need-load-requires invariant-loop decreases-loop
+load-requires : tie.Need-load-load-requires invariant-loop decreases-loop
 load-requires c κs = tt
 
-cast-load : tie.Need-overflow-cast-load invariant-loop decreases-loop
+cast-load : tie.Need-overflow_cast-load invariant-loop decreases-loop
 cast-load c =
-    let e = c.before in
-    let q = e.before.before.job in
-    let l = e.before.before.before.before.loop in
-    let o = e.before.before.before.before.before.before in omega (arith, c.load.ensures, ap load_of q.ensures, (job-load o.requires.0 l.j (omega arith)).1)
+    let e = c in
+    let q = e.job-job in
+    let l = e.loop-j in
+    let o = e in omega (arith, c.load-load.ensures, ap load_of q.ensures, (job-load o.requires.0 l.j (omega arith)).1)
 
-element-copy-out-most : tie.Need-element-copy-out-most invariant-loop decreases-loop
-element-copy-out-most c = omega (arith, c.before.enter.ensures.long)
+element-copy-out-most : tie.Need-bounds-t-320 invariant-loop decreases-loop
+element-copy-out-most c = omega (arith, c.enter.ensures.long)
 
-element-write-t : tie.Need-element-write-t invariant-loop decreases-loop
-element-write-t c = omega (arith, c.before.before.before.enter.ensures.long)
+element-write-t : tie.Need-bounds-t-320-in-loop-j invariant-loop decreases-loop
+element-write-t c = omega (arith, c.enter.ensures.long)
 
-add-j : tie.Need-overflow-add-j invariant-loop decreases-loop
+add-j : tie.Need-overflow_add-j invariant-loop decreases-loop
 add-j c = omega arith
 
-loop-less : tie.Need-loop-smaller invariant-loop decreases-loop
+loop-less : tie.Need-loop-j-smaller invariant-loop decreases-loop
 loop-less c = omega arith
 
-loop-again : tie.Need-loop-preserved invariant-loop decreases-loop
+loop-again : tie.Need-loop-j-preserved invariant-loop decreases-loop
 loop-again c =
-    let e = c.before.before.before in
-    let q = e.before.before.job in
-    let l = e.before.before.before.before.loop in
-    let o = e.before.before.before.before.before.before in
+    let e = c in
+    let q = e.job-job in
+    let l = e.loop-j in
+    let o = e in
     let light : load_of q.result ≤ 1000 = omega (arith, ap load_of q.ensures, (job-load o.requires.0 l.j (omega arith)).1) in
-    let w = c.before.before.load.ensures in (
+    let w = c.load-load.ensures in (
       omega arith,
       nodes-next q.ensures (placed-read o.requires.0 l.j (omega arith) q.ensures) light
-          (⊎_elim (λ t. omega (arith, w)) (λ t. omega (arith, w)) c.if1.branch) e.enter.ensures l.invariant.1,
+          (elim c.if-most-load.branch [ then-most-load t ↦ omega (arith, w) | else-most-load t ↦ omega (arith, w) ]) e.enter.ensures l.invariant.1,
     )
 
 returns : tie.Need-returns invariant-loop decreases-loop
 returns c =
-    let l = c.before.loop in
-    let e : l.j ≡ c.before.before.before.args.at.jobs = omega arith in rw e at l.invariant.1
+    let l = c.loop-j in
+    let e : l.j ≡ c.args.at.jobs = omega arith in rw e at l.invariant.1
 
-pub by-node-spec : {M : Type 1} → statement M
-by-node-spec =
+pub by_node_spec : {M : Type 1} → statement M
+by_node_spec =
     tie.close
     (tie.spec
     invariant-loop

@@ -13,49 +13,49 @@ use Rattle.along.proofs.SpotLaws.{behind-on}
 use Rattle.along.proofs.spots.word.Statement.{statement}
 use Rattle.along.proofs.spots.word.Tie as tie
 
-abbrev invariant-loop : tie.invariant-loop
+abbrev invariant-loop : tie.invariant-loop-i
 invariant-loop route stops w₀ i₀ w i = (i ≤ stops) × ((x : ℕ) → has w x ≡ mem x (behind route i))
 
-abbrev decreases-loop : tie.decreases-loop
+abbrev decreases-loop : tie.decreases-loop-i
 decreases-loop route stops w₀ i₀ w i = stops - i
 
-loop-holds : tie.Need-loop-init invariant-loop decreases-loop
+loop-holds : tie.Need-loop-i-init invariant-loop decreases-loop
 loop-holds c = (omega arith, λ x. has-none x)
 
-mul-x : tie.Need-overflow-mul-x invariant-loop decreases-loop
+mul-x : tie.Need-offset_bounds-route-i invariant-loop decreases-loop
 mul-x c = omega arith
 
-element-copy-out-x : tie.Need-element-copy-out-x invariant-loop decreases-loop
+element-copy-out-x : tie.Need-bounds-route-i invariant-loop decreases-loop
 element-copy-out-x c = omega arith
 
-put-requires : tie.Need-put-requires invariant-loop decreases-loop
-put-requires c κs = c.before.before.before.requires.2 c.before.before.loop.i c.before.loop-test.true
+put-requires : tie.Need-put-w-requires invariant-loop decreases-loop
+put-requires c κs = c.requires.2 c.loop-i.i c.loop-i-test.true
 
-add-i : tie.Need-overflow-add-i invariant-loop decreases-loop
+add-i : tie.Need-overflow_add-i invariant-loop decreases-loop
 add-i c = omega arith
 
-loop-less : tie.Need-loop-smaller invariant-loop decreases-loop
+loop-less : tie.Need-loop-i-smaller invariant-loop decreases-loop
 loop-less c = omega arith
 
-loop-again : tie.Need-loop-preserved invariant-loop decreases-loop
+loop-again : tie.Need-loop-i-preserved invariant-loop decreases-loop
 loop-again c =
-    let v = c.before.before.before.loop in
-    let o = c.before.before.before.before in
+    let v = c.loop-i in
+    let o = c in
     let p = get_or o.args.route.now v.i 0 in (
       omega arith,
-      λ x. ap (λ (k : ℕ). has k x) c.put.ensures ∙ has-with v.w p x (o.requires.2 v.i c.before.before.loop-test.true)
+      λ x. ap (λ (k : ℕ). has k x) c.put-w.ensures ∙ has-with v.w p x (o.requires.2 v.i c.loop-i-test.true)
           ∙ ap (λ (b : Bool). eqb p x || b) (v.invariant.1 x) ∙ ap (λ (k : ℕ). mem x (behind o.args.route.now k)) (sym (add-one v.i)),
     )
 
 returns : tie.Need-returns invariant-loop decreases-loop
 returns c = λ x.
-    let o = c.before.before in
-    let e : c.before.loop.i ≡ o.args.stops = omega arith in
-    c.before.loop.invariant.1 x ∙ ap (λ (k : ℕ). mem x (behind o.args.route.now k)) e
+    let o = c in
+    let e : c.loop-i.i ≡ o.args.stops = omega arith in
+    c.loop-i.invariant.1 x ∙ ap (λ (k : ℕ). mem x (behind o.args.route.now k)) e
     ∙ behind-on o.args.route.now o.args.stops (omega (arith, o.requires.0, o.requires.1)) x
 
-pub word-spec : {M : Type 1} → statement M
-word-spec =
+pub word_spec : {M : Type 1} → statement M
+word_spec =
     tie.close
     (tie.spec
     invariant-loop

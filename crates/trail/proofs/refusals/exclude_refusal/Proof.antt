@@ -14,69 +14,69 @@ use native.Mathlib.Omega.{arith}
 use Rattle.trail.proofs.refusals.exclude_refusal.Statement.{statement}
 use Rattle.trail.proofs.refusals.exclude_refusal.Tie as tie
 
-node : (c : tie.Else1) → is_inner c.before.before.args.n c.before.before.args.x ≡ true
-node c = sym c.before.inner.ensures ∙ not-false _ c.if1.false
+node : (c : tie.Else-not-inner) → is_inner c.args.n c.args.x ≡ true
+node c = sym c.inner.ensures ∙ c.if-not-inner.false
 
-low : (c : tie.Else1) → c.before.before.args.x < 64
-low c = omega (arith, (is-inner _ _ (node c)).1, c.before.before.requires)
+low : (c : tie.Else-not-inner) → c.args.x < 64
+low c = omega (arith, (is-inner _ _ (node c)).1, c.requires)
 
-on-x : (c : tie.After-has) → let a = c.before.before.before.before.args in on_route (board a.route.now a.f.stops a.sets.now a.f.marks a.f.must) a.x ≡ c.has.result
+on-x : (c : tie.After-has) → let a = c.args in on_route (board a.route.now a.f.stops a.sets.now a.f.marks a.f.must) a.x ≡ c.has.result
 on-x c =
-    let d = c.before.before.before.before in
+    let d = c in
     let a = d.args in
     sym (on_word (board a.route.now a.f.stops a.sets.now a.f.marks a.f.must) a.x (low c.before.before) (omega (arith, d.requires)))
-    ∙ ap (λ (w : ℕ). has w a.x) (sym c.before.word.ensures) ∙ sym c.has.ensures
+    ∙ ap (λ (w : ℕ). has w a.x) (sym c.word-on.ensures) ∙ sym c.has.ensures
 
 inner-requires : tie.Need-inner-requires
 inner-requires c κs = search rules
 
-returns : tie.Need-returns
+returns : tie.Need-returns-then-not-inner
 unfolding exclude_refusal or_else
-returns c = rw (sym c.before.inner.ensures ∙ not-true _ c.if1.true)
+returns c = rw (sym c.inner.ensures ∙ c.if-not-inner.true)
 
-word-requires : tie.Need-word-requires
+word-requires : tie.Need-word-on-requires
 word-requires c κs = search rules
 
 has-requires : tie.Need-has-requires
 has-requires c κs = search rules
 
-returns-2 : tie.Need-returns-2
+returns-2 : tie.Need-returns-then-has
 unfolding exclude_refusal or_else
-returns-2 c = rw (node c.before.before.before, on-x c.before ∙ c.if2.true)
+returns-2 c = rw (node c.before.before.before, on-x c.before ∙ c.if-has.true)
 
-returns-3 : tie.Need-returns-3
+returns-3 : tie.Need-returns-then-owed
 unfolding exclude_refusal or_else
-returns-3 c = let h = c.before.before in rw (node h.before.before, on-x h ∙ c.before.if2.false, c.if3.true)
+returns-3 c = let h = c in rw (node c.before.before.before.before, on-x c.before.before ∙ c.if-has.false, c.if-owed.true)
 
-mul-if4 : tie.Need-overflow-mul-if4
+mul-if4 : tie.Need-offset_bounds-sets-x
 mul-if4 c = omega (arith, low c.before.before.before.before)
 
-element-copy-out-if4 : tie.Need-element-copy-out-if4
-element-copy-out-if4 c = low c.before.before.before.before
+element-copy-out-if4 : tie.Need-bounds-sets-x
+element-copy-out-if4 c = low c.before.before.before.before.before
 
-returns-4 : tie.Need-returns-4
+returns-4 : tie.Need-returns-then-sets-x-eq0
 unfolding exclude_refusal or_else set_of
 returns-4 c =
-    let e = c.before.before in
-    let h = e.before.before in
-    rw (node h.before.before, on-x h ∙ e.before.if2.false, e.if3.false, eq-eqb _ 0 c.if4.true)
+    let e = c in
+    let h = e in
+    rw (node c.before.before.before.before.before.before.before, on-x c.before.before.before.before.before ∙ e.if-has.false, e.if-owed.false, eq-eqb _ 0 c.if-sets-x-eq0.true)
 
-returns-5 : tie.Need-returns-5
+returns-5 : tie.Need-returns-then-f-room
 unfolding exclude_refusal or_else set_of
 returns-5 c =
-    let e = c.before.before.before.before in
-    let h = e.before.before in
-    rw (node h.before.before, on-x h ∙ e.before.if2.false, e.if3.false, ne_eqb _ 0 c.before.before.if4.false, lt-ltb _ _ c.if5.true)
+    let e = c in
+    let h = e in
+    rw (node c.before.before.before.before.before.before.before.before.before, on-x c.before.before.before.before.before.before.before ∙ e.if-has.false, e.if-owed.false, ne_eqb _ 0 c.if-sets-x-eq0.false, lt-ltb _ _ c.if-f-room.true)
 
-returns-6 : tie.Need-returns-6
+returns-6 : tie.Need-returns-else-f-room
 unfolding exclude_refusal or_else set_of
 returns-6 c =
-    let e = c.before.before.before.before in
-    let h = e.before.before in
-    rw (node h.before.before, on-x h ∙ e.before.if2.false, e.if3.false, ne_eqb _ 0 c.before.before.if4.false, le-ltb _ _ c.if5.false)
+    let e = c in
+    let h = e in
+    rw (node c.before.before.before.before.before.before.before.before.before, on-x c.before.before.before.before.before.before.before ∙ e.if-has.false, e.if-owed.false, ne_eqb _ 0 c.if-sets-x-eq0.false, le-ltb _ _ c.if-f-room.false)
 
-pub exclude-refusal-spec : {M : Type 1} → statement M
-exclude-refusal-spec =
+pub exclude_refusal_spec : {M : Type 1} → statement M
+exclude_refusal_spec =
     tie.close
     (tie.spec
     inner-requires

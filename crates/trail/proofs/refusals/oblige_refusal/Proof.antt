@@ -8,35 +8,35 @@ use borrow.Author.Rules.{rules}
 use Rattle.trail.proofs.refusals.oblige_refusal.Statement.{statement}
 use Rattle.trail.proofs.refusals.oblige_refusal.Tie as tie
 
-node : (c : tie.Else1) → is_inner c.before.before.args.n c.before.before.args.x ≡ true
-node c = sym c.before.inner.ensures ∙ not-false _ c.if1.false
+node : (c : tie.Else-not-inner) → is_inner c.args.n c.args.x ≡ true
+node c = sym c.inner.ensures ∙ c.if-not-inner.false
 
 inner-requires : tie.Need-inner-requires
 inner-requires c κs = search rules
 
-returns : tie.Need-returns
+returns : tie.Need-returns-then-not-inner
 unfolding oblige_refusal or_else
-returns c = λ route sets. rw (sym c.before.inner.ensures ∙ not-true _ c.if1.true)
+returns c = λ route sets. rw (sym c.inner.ensures ∙ c.if-not-inner.true)
 
 has-requires : tie.Need-has-requires
 has-requires c κs = search rules
 
-returns-2 : tie.Need-returns-2
+returns-2 : tie.Need-returns-then-has
 unfolding oblige_refusal or_else
-returns-2 c = λ route sets. rw (node c.before.before, sym c.before.has.ensures ∙ c.if2.true)
+returns-2 c = λ route sets. rw (node c.before.before, sym c.has.ensures ∙ c.if-has.true)
 
-returns-3 : tie.Need-returns-3
+returns-3 : tie.Need-returns-then-f-room
 unfolding oblige_refusal or_else
 returns-3 c = λ route sets.
-    let e = c.before.before in
-    rw (node e.before.before, sym e.before.has.ensures ∙ e.if2.false, lt-ltb _ _ c.if3.true)
+    let e = c in
+    rw (node c.before.before.before.before, sym e.has.ensures ∙ e.if-has.false, lt-ltb _ _ c.if-f-room.true)
 
-returns-4 : tie.Need-returns-4
+returns-4 : tie.Need-returns-else-f-room
 unfolding oblige_refusal or_else
 returns-4 c = λ route sets.
-    let e = c.before.before in
-    rw (node e.before.before, sym e.before.has.ensures ∙ e.if2.false, le-ltb _ _ c.if3.false)
+    let e = c in
+    rw (node c.before.before.before.before, sym e.has.ensures ∙ e.if-has.false, le-ltb _ _ c.if-f-room.false)
 
-pub oblige-refusal-spec : {M : Type 1} → statement M
-oblige-refusal-spec =
+pub oblige_refusal_spec : {M : Type 1} → statement M
+oblige_refusal_spec =
     tie.close (tie.spec inner-requires returns has-requires returns-2 returns-3 returns-4)

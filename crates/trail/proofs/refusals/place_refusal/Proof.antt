@@ -7,19 +7,19 @@ use borrow.Author.Rules.{rules}
 use Rattle.trail.proofs.refusals.place_refusal.Statement.{statement}
 use Rattle.trail.proofs.refusals.place_refusal.Tie as tie
 
-place-shut-requires : tie.Need-place-shut-requires
+place-shut-requires : tie.Need-place_shut-shut-requires
 place-shut-requires c κs = search rules
 
-returns : tie.Need-returns
-returns c = let e = c.before.place-shut.ensures in e ∙ sym (place-shut _ _ _ _ _ _ (λ z. c.if1.true (e ∙ z)))
+returns : tie.Need-returns-then-shut-ne0
+returns c = let e = c.place_shut-shut.ensures in e ∙ sym (place-shut _ _ _ _ _ _ (λ z. c.if-shut-ne0.true (e ∙ z)))
 
-returns-2 : tie.Need-returns-2
+returns-2 : tie.Need-returns-then-f-room
 unfolding place_refusal or_else
-returns-2 c = let d = c.before.before in rw (sym d.before.place-shut.ensures ∙ d.if1.false, lt-ltb _ _ c.if2.true)
+returns-2 c = let d = c in rw (sym d.place_shut-shut.ensures ∙ d.if-shut-ne0.false, lt-ltb _ _ c.if-f-room.true)
 
-returns-3 : tie.Need-returns-3
+returns-3 : tie.Need-returns-else-f-room
 unfolding place_refusal or_else
-returns-3 c = let d = c.before.before in rw (sym d.before.place-shut.ensures ∙ d.if1.false, le-ltb _ _ c.if2.false)
+returns-3 c = let d = c in rw (sym d.place_shut-shut.ensures ∙ d.if-shut-ne0.false, le-ltb _ _ c.if-f-room.false)
 
-pub place-refusal-spec : {M : Type 1} → statement M
-place-refusal-spec = tie.close (tie.spec place-shut-requires returns returns-2 returns-3)
+pub place_refusal_spec : {M : Type 1} → statement M
+place_refusal_spec = tie.close (tie.spec place-shut-requires returns returns-2 returns-3)

@@ -15,50 +15,50 @@ use Rattle.trail.specs.Refusals.{require_refusal}
 use Rattle.trail.proofs.refusals.require_refusal.Statement.{statement}
 use Rattle.trail.proofs.refusals.require_refusal.Tie as tie
 
-node : (c : tie.Else1) → is_inner c.before.before.args.n c.before.before.args.x ≡ true
-node c = sym c.before.inner.ensures ∙ not-false _ c.if1.false
+node : (c : tie.Else-not-inner) → is_inner c.args.n c.args.x ≡ true
+node c = sym c.inner.ensures ∙ c.if-not-inner.false
 
-on-x : (c : tie.After-has) (l : List ℕ) → let a = c.before.before.before.before.args in on_route (board a.route.now a.f.stops l a.f.marks a.f.must) a.x ≡ c.has.result
+on-x : (c : tie.After-has) (l : List ℕ) → let a = c.args in on_route (board a.route.now a.f.stops l a.f.marks a.f.must) a.x ≡ c.has.result
 on-x c l =
-    let d = c.before.before.before.before in
+    let d = c in
     let a = d.args in
     sym (on_word (board a.route.now a.f.stops l a.f.marks a.f.must) a.x (omega (arith, (is-inner _ _ (node c.before.before)).1, d.requires)) (omega (arith, d.requires)))
-    ∙ ap (λ (w : ℕ). has w a.x) (sym c.before.word.ensures) ∙ sym c.has.ensures
+    ∙ ap (λ (w : ℕ). has w a.x) (sym c.word-on.ensures) ∙ sym c.has.ensures
 
 inner-requires : tie.Need-inner-requires
 inner-requires c κs = search rules
 
-returns : tie.Need-returns
+returns : tie.Need-returns-then-not-inner
 unfolding require_refusal or_else
-returns c = λ l. rw (sym c.before.inner.ensures ∙ not-true _ c.if1.true)
+returns c = λ l. rw (sym c.inner.ensures ∙ c.if-not-inner.true)
 
-word-requires : tie.Need-word-requires
+word-requires : tie.Need-word-on-requires
 word-requires c κs = search rules
 
 has-requires : tie.Need-has-requires
 has-requires c κs = search rules
 
-returns-2 : tie.Need-returns-2
+returns-2 : tie.Need-returns-then-has
 unfolding require_refusal or_else
-returns-2 c = λ l. rw (node c.before.before.before, on-x c.before l ∙ c.if2.true)
+returns-2 c = λ l. rw (node c.before.before.before, on-x c.before l ∙ c.if-has.true)
 
 has-requires-2 : tie.Need-has-requires-2
 has-requires-2 c κs = search rules
 
-returns-3 : tie.Need-returns-3
+returns-3 : tie.Need-returns-then-has-2
 unfolding require_refusal or_else
-returns-3 c = let h = c.before.before.before in λ l. rw (node h.before.before, on-x h l ∙ c.before.before.if2.false, sym c.before.has2.ensures ∙ c.if3.true)
+returns-3 c = let h = c in λ l. rw (node c.before.before.before.before.before, on-x c.before.before.before l ∙ c.if-has.false, sym c.has-2.ensures ∙ c.if-has-2.true)
 
-returns-4 : tie.Need-returns-4
+returns-4 : tie.Need-returns-then-f-room
 unfolding require_refusal or_else
-returns-4 c = let h = c.before.before.before.before.before in λ l. rw (node h.before.before, on-x h l ∙ c.before.before.before.before.if2.false, sym c.before.before.before.has2.ensures ∙ c.before.before.if3.false, lt-ltb _ _ c.if4.true)
+returns-4 c = let h = c in λ l. rw (node c.before.before.before.before.before.before.before, on-x c.before.before.before.before.before l ∙ c.if-has.false, sym c.has-2.ensures ∙ c.if-has-2.false, lt-ltb _ _ c.if-f-room.true)
 
-returns-5 : tie.Need-returns-5
+returns-5 : tie.Need-returns-else-f-room
 unfolding require_refusal or_else
-returns-5 c = let h = c.before.before.before.before.before in λ l. rw (node h.before.before, on-x h l ∙ c.before.before.before.before.if2.false, sym c.before.before.before.has2.ensures ∙ c.before.before.if3.false, le-ltb _ _ c.if4.false)
+returns-5 c = let h = c in λ l. rw (node c.before.before.before.before.before.before.before, on-x c.before.before.before.before.before l ∙ c.if-has.false, sym c.has-2.ensures ∙ c.if-has-2.false, le-ltb _ _ c.if-f-room.false)
 
-pub require-refusal-spec : {M : Type 1} → statement M
-require-refusal-spec =
+pub require_refusal_spec : {M : Type 1} → statement M
+require_refusal_spec =
     tie.close
     (tie.spec
     inner-requires

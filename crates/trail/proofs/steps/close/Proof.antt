@@ -12,53 +12,53 @@ use borrow.Author.Rules.{rules}
 use Rattle.trail.proofs.steps.close.Statement.{statement}
 use Rattle.trail.proofs.steps.close.Tie as tie
 
-code : (c : tie.Else1) → let a = c.before.before.before.before.args in
+code : (c : tie.Else-code-ne0) → let a = c.args in
     place_refusal a.n (board a.route.now a.f.stops a.sets.now a.f.marks a.f.must) a.f.records (room_of a.trail.now) a.p a.x ≡ 0
 unfolding room_of
-code c = sym c.before.place-refusal.ensures ∙ c.if1.false
+code c = sym c.place_refusal-code.ensures ∙ c.if-code-ne0.false
 
-ok : (c : tie.Else1) → let a = c.before.before.before.before.args in
+ok : (c : tie.Else-code-ne0) → let a = c.args in
     Placeable a.n (board a.route.now a.f.stops a.sets.now a.f.marks a.f.must) a.f.records (room_of a.trail.now) a.p a.x
 ok c = placeable _ _ _ _ _ _ (code c)
 
-low : (c : tie.Else1) → c.before.before.before.before.args.x < 64
-low c = omega (arith, (is-inner _ _ (ok c).split.node).1, c.before.before.before.before.requires.small)
+low : (c : tie.Else-code-ne0) → c.args.x < 64
+low c = omega (arith, (is-inner _ _ (ok c).split.node).1, c.requires.small)
 
-place-refusal-requires : tie.Need-place-refusal-requires
-place-refusal-requires c κs = readable _ _ c.before.before.requires
+place-refusal-requires : tie.Need-place_refusal-code-requires
+place-refusal-requires c κs = readable _ _ c.requires
 
 same-requires : tie.Need-same-requires
 same-requires c κs = search rules
 
-returns : tie.Need-returns
+returns : tie.Need-returns-then-code-ne0
 unfolding close_step room_of
 returns c =
-    let d = c.before.before in
-    λ levels. rw (c.same.ensures, d.place-refusal.ensures)
-    (step-no _ _ _ _ (λ e. c.before.if1.true (d.place-refusal.ensures ∙ e)))
+    let d = c in
+    λ levels. rw (c.same.ensures, d.place_refusal-code.ensures)
+    (step-no _ _ _ _ (λ e. c.if-code-ne0.true (d.place_refusal-code.ensures ∙ e)))
 
-mul-w : tie.Need-overflow-mul-w
+mul-w : tie.Need-offset_bounds-sets-x
 mul-w c = omega (arith, low c)
 
-element-copy-out-w : tie.Need-element-copy-out-w
-element-copy-out-w c = low c
+element-copy-out-w : tie.Need-bounds-sets-x
+element-copy-out-w c = low c.before
 
 without-requires : tie.Need-without-requires
 without-requires c κs = search rules
 
 shrink-requires : tie.Need-shrink-requires
-shrink-requires c κs = let e = c.before.before.before.before in (low e, (ok e).left)
+shrink-requires c κs = let e = c in (low c.before.before.before.before.before, (ok c.before.before.before.before.before).left)
 
-same_length : tie.Need-same-length
+same_length : tie.Need-shape_of-trail
 same_length c = search rules
 
-returns-2 : tie.Need-returns-2
+returns-2 : tie.Need-returns
 unfolding close_step set_of
 returns-2 c =
-    let k = c.before.before in
-    let w = k.before.before in
-    let e = w.before.before.before in
-    λ levels. step-yes _ _ _ _ (code e) ∙ rw w.without.ensures at (k.shrink.ensures e.before.before.before.before.args.route.now levels)
+    let k = c in
+    let w = k in
+    let e = w in
+    λ levels. step-yes _ _ _ _ (code c.before.before.before.before.before.before.before.before) ∙ rw w.without.ensures at (k.shrink.ensures e.args.route.now levels)
 
 pub close_spec : {M : Type 1} → statement M
 close_spec =

@@ -9,41 +9,41 @@ use borrow.Author.Rules.{rules}
 use Rattle.trail.proofs.steps.exclude.Statement.{statement}
 use Rattle.trail.proofs.steps.exclude.Tie as tie
 
-code : (c : tie.Else1) → let a = c.before.before.before.before.args in
+code : (c : tie.Else-code-ne0) → let a = c.args in
     exclude_refusal a.n (board a.route.now a.f.stops a.sets.now a.f.marks a.f.must) a.f.records (room_of a.trail.now) a.owed a.x ≡ 0
 unfolding room_of
-code c = sym c.before.exclude-refusal.ensures ∙ c.if1.false
+code c = sym c.exclude_refusal-code.ensures ∙ c.if-code-ne0.false
 
-exclude-refusal-requires : tie.Need-exclude-refusal-requires
-exclude-refusal-requires c κs = readable _ _ c.before.before.requires
+exclude-refusal-requires : tie.Need-exclude_refusal-code-requires
+exclude-refusal-requires c κs = readable _ _ c.requires
 
 same-requires : tie.Need-same-requires
 same-requires c κs = search rules
 
-returns : tie.Need-returns
+returns : tie.Need-returns-then-code-ne0
 unfolding exclude_step room_of
 returns c =
-    let d = c.before.before in
-    λ levels. rw (c.same.ensures, d.exclude-refusal.ensures)
-    (step-no _ _ _ _ (λ e. c.before.if1.true (d.exclude-refusal.ensures ∙ e)))
+    let d = c in
+    λ levels. rw (c.same.ensures, d.exclude_refusal-code.ensures)
+    (step-no _ _ _ _ (λ e. c.if-code-ne0.true (d.exclude_refusal-code.ensures ∙ e)))
 
-shut-out-requires : tie.Need-shut-out-requires
+shut-out-requires : tie.Need-shut_out-requires
 shut-out-requires c κs =
-    let e = c.before.before in
-    shut-out-asks _ _ _ _ _ _ e.before.before.before.before.requires.small (code e)
+    let e = c in
+    shut-out-asks _ _ _ _ _ _ e.requires.small (code c.before.before)
 
-same_length : tie.Need-same-length
+same_length : tie.Need-shape_of-trail
 same_length c = search rules
 
-returns-2 : tie.Need-returns-2
+returns-2 : tie.Need-returns
 returns-2 c =
-    let k = c.before.before in
-    let e = k.before.before.before in
-    let o = not-owed _ _ _ _ _ _ (code e) in
-    λ levels. rw o (k.shut_out.ensures _ _ levels (rw o at (code e)))
+    let k = c in
+    let e = k in
+    let o = not-owed _ _ _ _ _ _ (code c.before.before.before.before.before) in
+    λ levels. rw o (k.shut_out.ensures _ _ levels (rw o at (code c.before.before.before.before.before)))
 
-pub exclude-spec : {M : Type 1} → statement M
-exclude-spec =
+pub exclude_spec : {M : Type 1} → statement M
+exclude_spec =
     tie.close
     (tie.spec
     exclude-refusal-requires

@@ -13,44 +13,44 @@ use borrow.Author.Rules.{rules}
 use Rattle.trail.proofs.steps.oblige.Statement.{statement}
 use Rattle.trail.proofs.steps.oblige.Tie as tie
 
-code : (c : tie.Else1) (r l : List ℕ) → let a = c.before.before.before.args in
+code : (c : tie.Else-code-ne0) (r l : List ℕ) → let a = c.args in
     oblige_refusal a.n (board r a.f.stops l a.f.marks a.f.must) a.f.records (room_of a.trail.now) a.x ≡ 0
 unfolding room_of
-code c r l = sym (c.before.oblige-refusal.ensures r l) ∙ c.if1.false
+code c r l = sym (c.oblige_refusal-code.ensures r l) ∙ c.if-code-ne0.false
 
-low : (c : tie.Else1) → c.before.before.before.args.x < 64
-low c = omega (arith, (is-inner _ _ (obligeable _ _ _ _ _ (code c [] [])).0).1, c.before.before.before.requires)
+low : (c : tie.Else-code-ne0) → c.args.x < 64
+low c = omega (arith, (is-inner _ _ (obligeable _ _ _ _ _ (code c [] [])).0).1, c.requires)
 
-room : (c : tie.Else2) → let a = c.before.before.before.before.before.args in a.f.records < room_of a.trail.now
-room c = (obligeable _ _ _ _ _ (code c.before.before [] [])).1 (sym c.before.has.ensures ∙ c.if2.false)
+room : (c : tie.Else-has) → let a = c.args in a.f.records < room_of a.trail.now
+room c = (obligeable _ _ _ _ _ (code c.before.before [] [])).1 (sym c.has.ensures ∙ c.if-has.false)
 
-oblige-refusal-requires : tie.Need-oblige-refusal-requires
+oblige-refusal-requires : tie.Need-oblige_refusal-code-requires
 oblige-refusal-requires c κs = search rules
 
 same-requires : tie.Need-same-requires
 same-requires c κs = search rules
 
-returns : tie.Need-returns
+returns : tie.Need-returns-then-code-ne0
 unfolding oblige_step room_of
 returns c =
-    let d = c.before.before in
-    λ route sets levels. rw (c.same.ensures, d.oblige-refusal.ensures route sets)
-    (step-no _ _ _ _ (λ e. c.before.if1.true (d.oblige-refusal.ensures route sets ∙ e)))
+    let d = c in
+    λ route sets levels. rw (c.same.ensures, d.oblige_refusal-code.ensures route sets)
+    (step-no _ _ _ _ (λ e. c.if-code-ne0.true (d.oblige_refusal-code.ensures route sets ∙ e)))
 
 has-requires : tie.Need-has-requires
 has-requires c κs = search rules
 
-same-requires-2 : tie.Need-same-requires-2
+same-requires-2 : tie.Need-same-requires-then-has
 same-requires-2 c κs = search rules
 
-returns-2 : tie.Need-returns-2
+returns-2 : tie.Need-returns-then-has
 unfolding oblige_step
 returns-2 c =
-    let t = c.before in
-    λ route sets levels. rw (c.same2.ensures, sym t.before.has.ensures ∙ t.if2.true)
-    (step-yes _ _ _ _ (code t.before.before route sets))
+    let t = c in
+    λ route sets levels. rw (c.same-then-has.ensures, sym t.has.ensures ∙ t.if-has.true)
+    (step-yes _ _ _ _ (code c.before.before.before route sets))
 
-first-word-requires : tie.Need-first-word-requires
+first-word-requires : tie.Need-first_word-requires
 first-word-requires c κs = (omega arith, low c.before.before.before)
 
 push-requires : tie.Need-push-requires
@@ -59,24 +59,24 @@ push-requires c κs = room c.before.before
 with-requires : tie.Need-with-requires
 with-requires c κs = search rules
 
-add-t9 : tie.Need-overflow-add-t9
+add-t9 : tie.Need-overflow_add-result
 unfolding room_of
 add-t9 c =
-    let e = c.before.before.before.before.before.before in
-    omega (arith, room e, e.before.before.before.before.before.well-formed)
+    let e = c in
+    omega (arith, room c.before.before.before.before.before.before, e.well_formed)
 
-same_length : tie.Need-same-length
+same_length : tie.Need-shape_of-trail
 same_length c = search rules
 
-returns-3 : tie.Need-returns-3
+returns-3 : tie.Need-returns
 unfolding oblige_step recorded obliged
 returns-3 c =
-    let p = c.before.before.before in
-    let e = p.before.before.before in
-    λ route sets levels. rw (c.with.ensures, p.push.ensures, p.before.first_word.ensures, sym e.before.has.ensures ∙ e.if2.false) (step-yes _ _ _ _ (code e.before.before route sets))
+    let p = c in
+    let e = p in
+    λ route sets levels. rw (c.with.ensures, p.push.ensures, p.first_word.ensures, sym e.has.ensures ∙ e.if-has.false) (step-yes _ _ _ _ (code c.before.before.before.before.before.before.before.before route sets))
 
-pub oblige-spec : {M : Type 1} → statement M
-oblige-spec =
+pub oblige_spec : {M : Type 1} → statement M
+oblige_spec =
     tie.close
     (tie.spec
     oblige-refusal-requires

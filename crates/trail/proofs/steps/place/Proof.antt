@@ -17,45 +17,45 @@ ok c = placeable _ _ _ _ _ _ c.requires.1
 low : (c : tie.Start) → c.args.x < 64
 low c = omega (arith, (is-inner _ _ (ok c).split.node).1, c.requires.0.small)
 
-first-word-requires : tie.Need-first-word-requires
+first-word-requires : tie.Need-first_word-requires
 first-word-requires c κs = (omega arith, low c.before.before)
 
-mul-push : tie.Need-overflow-mul-push
+mul-push : tie.Need-offset_bounds-sets-x
 mul-push c = omega (arith, low c.before.before.before)
 
-element-copy-out-push : tie.Need-element-copy-out-push
-element-copy-out-push c = low c.before.before.before
+element-copy-out-push : tie.Need-bounds-sets-x
+element-copy-out-push c = low c.before.before.before.before
 
 push-requires : tie.Need-push-requires
-push-requires c κs = (ok c.before.before.before.before).left
+push-requires c κs = (ok c.before.before.before.before.before).left
 
 place-requires : tie.Need-place-requires
 place-requires c κs =
-    let d = c.before.before.before.before.before.before.before.before.before in
-    (_, _, d.requires.0, (ok d).split)
+    let d = c in
+    (_, _, d.requires.0, (ok c.before.before.before.before.before.before.before.before.before.before).split)
 
-add-t14 : tie.Need-overflow-add-t14
+add-t14 : tie.Need-overflow_add-result
 add-t14 c = search rules
 
-add-t20 : tie.Need-overflow-add-t20
+add-t20 : tie.Need-overflow_add-result-2
 unfolding room_of
 add-t20 c =
-    let d = c.before.before.before.before.before.before.before.before.before.before in
-    omega (arith, (ok d).left, d.well-formed)
+    let d = c in
+    omega (arith, (ok c.before.before.before.before.before.before.before.before.before.before.before).left, d.well_formed)
 
-same_length : tie.Need-same-length
+same_length : tie.Need-shape_of-trail
 same_length c = search rules
 
 returns : tie.Need-returns
 unfolding place_step recorded set_of
 returns c =
-    let p = c.before.before.before.before.before in
-    let w = p.before.before in
-    let d = w.before.before.before in
+    let p = c in
+    let w = p in
+    let d = w in
     λ levels. step-yes _ _ _ _ d.requires.1 ∙ rw (c.place.ensures d.args.f.marks d.args.f.must, p.push.ensures, w.first_word.ensures) refl
 
-pub place-spec : {M : Type 1} → statement M
-place-spec =
+pub place_spec : {M : Type 1} → statement M
+place_spec =
     tie.close
     (tie.spec
     first-word-requires

@@ -13,44 +13,44 @@ use borrow.Author.Rules.{rules}
 use Rattle.trail.proofs.steps.require.Statement.{statement}
 use Rattle.trail.proofs.steps.require.Tie as tie
 
-code : (c : tie.Else1) (l : List ℕ) → let a = c.before.before.before.args in
+code : (c : tie.Else-code-ne0) (l : List ℕ) → let a = c.args in
     require_refusal a.n (board a.route.now a.f.stops l a.f.marks a.f.must) a.f.records (room_of a.trail.now) a.x ≡ 0
 unfolding room_of
-code c l = sym (c.before.require-refusal.ensures l) ∙ c.if1.false
+code c l = sym (c.require_refusal-code.ensures l) ∙ c.if-code-ne0.false
 
-low : (c : tie.Else1) → c.before.before.before.args.x < 64
-low c = omega (arith, (is-inner _ _ (requirable _ _ _ _ _ (code c [])).0.node).1, c.before.before.before.requires.0)
+low : (c : tie.Else-code-ne0) → c.args.x < 64
+low c = omega (arith, (is-inner _ _ (requirable _ _ _ _ _ (code c [])).0.node).1, c.requires.0)
 
-room : (c : tie.Else2) → let a = c.before.before.before.before.before.args in a.f.records < room_of a.trail.now
-room c = (requirable _ _ _ _ _ (code c.before.before [])).1 (sym c.before.has.ensures ∙ c.if2.false)
+room : (c : tie.Else-has) → let a = c.args in a.f.records < room_of a.trail.now
+room c = (requirable _ _ _ _ _ (code c.before.before [])).1 (sym c.has.ensures ∙ c.if-has.false)
 
-require-refusal-requires : tie.Need-require-refusal-requires
+require-refusal-requires : tie.Need-require_refusal-code-requires
 require-refusal-requires c κs = search rules
 
 same-requires : tie.Need-same-requires
 same-requires c κs = search rules
 
-returns : tie.Need-returns
+returns : tie.Need-returns-then-code-ne0
 unfolding require_step room_of
 returns c =
-    let d = c.before.before in
-    λ sets levels. rw (c.same.ensures, d.require-refusal.ensures sets)
-    (step-no _ _ _ _ (λ e. c.before.if1.true (d.require-refusal.ensures sets ∙ e)))
+    let d = c in
+    λ sets levels. rw (c.same.ensures, d.require_refusal-code.ensures sets)
+    (step-no _ _ _ _ (λ e. c.if-code-ne0.true (d.require_refusal-code.ensures sets ∙ e)))
 
 has-requires : tie.Need-has-requires
 has-requires c κs = search rules
 
-same-requires-2 : tie.Need-same-requires-2
+same-requires-2 : tie.Need-same-requires-then-has
 same-requires-2 c κs = search rules
 
-returns-2 : tie.Need-returns-2
+returns-2 : tie.Need-returns-then-has
 unfolding require_step
 returns-2 c =
-    let t = c.before in
-    λ sets levels. rw (c.same2.ensures, sym t.before.has.ensures ∙ t.if2.true)
-    (step-yes _ _ _ _ (code t.before.before sets))
+    let t = c in
+    λ sets levels. rw (c.same-then-has.ensures, sym t.has.ensures ∙ t.if-has.true)
+    (step-yes _ _ _ _ (code c.before.before.before sets))
 
-first-word-requires : tie.Need-first-word-requires
+first-word-requires : tie.Need-first_word-requires
 first-word-requires c κs = (omega arith, low c.before.before.before)
 
 push-requires : tie.Need-push-requires
@@ -59,24 +59,24 @@ push-requires c κs = room c.before.before
 with-requires : tie.Need-with-requires
 with-requires c κs = search rules
 
-add-t10 : tie.Need-overflow-add-t10
+add-t10 : tie.Need-overflow_add-result
 unfolding room_of
 add-t10 c =
-    let e = c.before.before.before.before.before.before in
-    omega (arith, room e, e.before.before.before.before.before.well-formed)
+    let e = c in
+    omega (arith, room c.before.before.before.before.before.before, e.well_formed)
 
-same_length : tie.Need-same-length
+same_length : tie.Need-shape_of-trail
 same_length c = search rules
 
-returns-3 : tie.Need-returns-3
+returns-3 : tie.Need-returns
 unfolding require_step recorded marked
 returns-3 c =
-    let p = c.before.before.before in
-    let e = p.before.before.before in
-    λ sets levels. rw (c.with.ensures, p.push.ensures, p.before.first_word.ensures, sym e.before.has.ensures ∙ e.if2.false) (step-yes _ _ _ _ (code e.before.before sets))
+    let p = c in
+    let e = p in
+    λ sets levels. rw (c.with.ensures, p.push.ensures, p.first_word.ensures, sym e.has.ensures ∙ e.if-has.false) (step-yes _ _ _ _ (code c.before.before.before.before.before.before.before.before sets))
 
-pub require-spec : {M : Type 1} → statement M
-require-spec =
+pub require_spec : {M : Type 1} → statement M
+require_spec =
     tie.close
     (tie.spec
     require-refusal-requires

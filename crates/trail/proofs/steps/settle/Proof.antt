@@ -17,57 +17,57 @@ use Rattle.trail.proofs.steps.settle.Tie as tie
 same-requires : tie.Need-same-requires
 same-requires c κs = search rules
 
-returns : tie.Need-returns
+returns : tie.Need-returns-then-rounds-eq0
 returns c =
-    let e = c.before in
-    let d = e.before.before in
-    λ route levels. rw (c.same.ensures, e.if1.true, d.requires.1.1 e.if1.true) (settle-still _ _ d.requires.1.0)
+    let e = c in
+    let d = e in
+    λ route levels. rw (c.same.ensures, e.if-rounds-eq0.true, d.requires.1.1 e.if-rounds-eq0.true) (settle-still _ _ d.requires.1.0)
 
-needed-requires : tie.Need-needed-requires
-needed-requires c κs = let p = c.before.before.before.requires.0 in (p.2, p.3)
+needed-requires : tie.Need-needed-more-requires
+needed-requires c κs = let p = c.requires.0 in (p.2, p.3)
 
-add-if2 : tie.Need-overflow-add-if2
+add-if2 : tie.Need-overflow_add-i
 unfolding room_of
-add-if2 c = let d = c.before.before.before.before in omega (arith, d.requires.1.0, c.needed.ensures.1, d.well-formed)
+add-if2 c = let d = c in omega (arith, d.requires.1.0, c.needed-more.ensures.1, d.well_formed)
 
-same-requires-2 : tie.Need-same-requires-2
+same-requires-2 : tie.Need-same-requires-then-room-i
 same-requires-2 c κs = search rules
 
-returns-2 : tie.Need-returns-2
+returns-2 : tie.Need-returns-then-room-i
 unfolding settle_step room_of
 returns-2 c =
-    let k = c.before.before in
-    let a = k.before.before.before.before.args in
+    let k = c in
+    let a = k.args in
     let e = lt-leb (a.f.records + shrunk a.sets.now a.new.now 64) (length a.trail.now / 2)
-    (omega (arith, k.needed.ensures.0, c.before.if2.true)) in
-    λ route levels. rw (c.same2.ensures, e) (step-no refusal.ROOM _ _ _ (eqb-false refusal.ROOM 0 refl))
+    (omega (arith, k.needed-more.ensures.0, c.if-room-i.true)) in
+    λ route levels. rw (c.same-then-room-i.ensures, e) (step-no refusal.ROOM _ _ _ (eqb-false refusal.ROOM 0 refl))
 
-note-requires : tie.Need-note-requires
+note-requires : tie.Need-note-records-requires
 unfolding room_of
 note-requires c κs =
-    let n = c.before.before.before in
-    let p = n.before.before.before.before.requires.0 in
-    (p.2, p.3, omega (arith, n.needed.ensures.0, c.before.before.if2.false))
+    let n = c in
+    let p = n.requires.0 in
+    (p.2, p.3, omega (arith, n.needed-more.ensures.0, c.if-room-i.false))
 
-same_length : tie.Need-same-length
+same_length : tie.Need-shape_of-trail
 same_length c = search rules
 
-returns-3 : tie.Need-returns-3
+returns-3 : tie.Need-returns
 unfolding settle_step room_of
 returns-3 c =
-    let k = c.before.before.before in
-    let e = k.before.before.before in
-    let a = e.before.before.before.before.before.args in
-    let n = k.note.ensures in
+    let k = c in
+    let e = k in
+    let a = e.args in
+    let n = k.note-records.ensures in
     let h = le-leb (a.f.records + shrunk a.sets.now a.new.now 64) (length a.trail.now / 2)
-    (omega (arith, e.before.needed.ensures.0, e.if2.false)) in
+    (omega (arith, e.needed-more.ensures.0, e.if-room-i.false)) in
     λ route levels. rw h
     (step-yes 0 _ _ _ refl
     ∙ ap₂ (λ (i : ℕ) (t : List ℕ). acted 0 a.rounds (state_of route a.f.stops a.new.now a.f.marks a.f.must levels a.f.depth i) t)
     (sym (note-all a.sets.now a.new.now 64 a.f.records a.trail.now).0 ∙ ap (λ (b : Noted). b.0) n) (ap (λ (b : Noted). b.1) n))
 
-pub settle-spec : {M : Type 1} → statement M
-settle-spec =
+pub settle_spec : {M : Type 1} → statement M
+settle_spec =
     tie.close
     (tie.spec
     same-requires

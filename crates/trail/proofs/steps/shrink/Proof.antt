@@ -8,34 +8,34 @@ use borrow.Author.Rules.{rules}
 use Rattle.trail.proofs.steps.shrink.Statement.{statement}
 use Rattle.trail.proofs.steps.shrink.Tie as tie
 
-first-word-requires : tie.Need-first-word-requires
+first-word-requires : tie.Need-first_word-requires
 first-word-requires c κs = search rules
 
-mul-push : tie.Need-overflow-mul-push
+mul-push : tie.Need-offset_bounds-sets-x
 mul-push c = search rules
 
-element-copy-out-push : tie.Need-element-copy-out-push
+element-copy-out-push : tie.Need-bounds-sets-x
 element-copy-out-push c = search rules
 
 push-requires : tie.Need-push-requires
 push-requires c κs = search rules
 
-mul-sets : tie.Need-overflow-mul-sets
+mul-sets : tie.Need-offset_bounds-sets-x-2
 mul-sets c = search rules
 
-element-write-sets : tie.Need-element-write-sets
+element-write-sets : tie.Need-bounds-sets-x-2
 element-write-sets c = search rules
 
-add-t11 : tie.Need-overflow-add-t11
+add-t11 : tie.Need-overflow_add-result
 unfolding room_of
-add-t11 c = let d = c.before.before.before.before.before.before.before in omega (arith, d.requires.1, d.well-formed)
+add-t11 c = let d = c in omega (arith, d.requires.1, d.well_formed)
 
-same_length : tie.Need-same-length
+same_length : tie.Need-shape_of-trail
 same_length c = search rules
 
 returns : tie.Need-returns
 unfolding recorded put_set set_of
-returns c = λ route levels. let p = c.before.before in rw (p.push.ensures, p.before.before.first_word.ensures) refl
+returns c = λ route levels. let p = c in rw (p.push.ensures, p.first_word.ensures) refl
 
 pub shrink_spec : {M : Type 1} → statement M
 shrink_spec =

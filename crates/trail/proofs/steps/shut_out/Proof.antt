@@ -7,36 +7,36 @@ use borrow.Author.Rules.{rules}
 use Rattle.trail.proofs.steps.shut_out.Statement.{statement}
 use Rattle.trail.proofs.steps.shut_out.Tie as tie
 
-mul-if1 : tie.Need-overflow-mul-if1
+mul-if1 : tie.Need-offset_bounds-sets-x
 mul-if1 c = search rules
 
-element-copy-out-if1 : tie.Need-element-copy-out-if1
+element-copy-out-if1 : tie.Need-bounds-sets-x
 element-copy-out-if1 c = search rules
 
 same-requires : tie.Need-same-requires
 same-requires c κs = search rules
 
-returns : tie.Need-returns
+returns : tie.Need-returns-then-sets-x-eq0
 unfolding exclude_step set_of
-returns c = λ n route levels h. rw (c.same.ensures, eq-eqb _ 0 c.before.if1.true) (step-yes _ _ _ _ h)
+returns c = λ n route levels h. rw (c.same.ensures, eq-eqb _ 0 c.if-sets-x-eq0.true) (step-yes _ _ _ _ h)
 
 shrink-requires : tie.Need-shrink-requires
 shrink-requires c κs =
-    let e = c.before.before in
-    let p = e.before.before.before.requires in
-    (p.0, p.1 e.if1.false)
+    let e = c in
+    let p = e.requires in
+    (p.0, p.1 e.if-sets-x-eq0.false)
 
-same_length : tie.Need-same-length
+same_length : tie.Need-shape_of-trail
 same_length c = search rules
 
-returns-2 : tie.Need-returns-2
+returns-2 : tie.Need-returns
 unfolding exclude_step set_of
 returns-2 c =
-    let k = c.before.before in
-    λ n route levels h. rw (ne_eqb _ 0 k.before.before.before.if1.false) (step-yes _ _ _ _ h ∙ k.shrink.ensures route levels)
+    let k = c in
+    λ n route levels h. rw (ne_eqb _ 0 k.if-sets-x-eq0.false) (step-yes _ _ _ _ h ∙ k.shrink.ensures route levels)
 
-pub shut-out-spec : {M : Type 1} → statement M
-shut-out-spec =
+pub shut_out_spec : {M : Type 1} → statement M
+shut_out_spec =
     tie.close
     (tie.spec
     mul-if1
