@@ -14,123 +14,123 @@ use Rattle.gaps.proofs.GapLaws.{left-told, reach-turn}
 use Rattle.gaps.proofs.legs_of.Statement.{statement}
 use Rattle.gaps.proofs.legs_of.Tie as tie
 
-abbrev invariant-loop : tie.invariant-loop
+abbrev invariant-loop : tie.invariant-loop-i
 invariant-loop s at limit route legs leave₀ most₀ total₀ p₀ t₀ i₀ leave most total p t i =
     (i ≤ legs) × (p ≡ get_or route i 0) × (t ≡ start_at (day_of s) route i) × (total ≡ driven (day_of s) (take (i + 1) route))
     × Filled 64 (left_at (day_of s) route) 0 i leave × Filled 64 (most_at (day_of s) limit route) 0 i most
 
-abbrev decreases-loop : tie.decreases-loop
+abbrev decreases-loop : tie.decreases-loop-i
 decreases-loop s at limit route legs leave₀ most₀ total₀ p₀ t₀ i₀ leave most total p t i = legs - i
 
-element-copy-out-p : tie.Need-element-copy-out-p invariant-loop decreases-loop
+element-copy-out-p : tie.Need-bounds-route-0 invariant-loop decreases-loop
 element-copy-out-p c = omega arith
 
-earliest-requires : tie.Need-earliest-requires invariant-loop decreases-loop
-earliest-requires c κs = let q = c.before.before.requires.0 in (q.0, node_at_lem q.1 0 (omega arith))
+earliest-requires : tie.Need-earliest-t-requires invariant-loop decreases-loop
+earliest-requires c κs = let q = c.requires.0 in (q.0, node_at_lem q.1 0 (omega arith))
 
-loop-holds : tie.Need-loop-init invariant-loop decreases-loop
+loop-holds : tie.Need-loop-i-init invariant-loop decreases-loop
 loop-holds c =
-    let b = c.before.before.before in (
+    let b = c in (
       omega arith,
       refl,
-      c.earliest.ensures.is,
+      c.earliest-t.ensures.is,
       length-first (day_of b.args.s.now) b.args.route.now,
       filled_none _ _ _ _ b.requires.1.0,
       filled_none _ _ _ _ b.requires.1.1,
     )
 
-add-k : tie.Need-overflow-add-k invariant-loop decreases-loop
-add-k c = omega (arith, c.before.before.before.before.before.requires.0.1.most)
+add-k : tie.Need-overflow_add-k invariant-loop decreases-loop
+add-k c = omega (arith, c.requires.0.1.most)
 
-mul-k : tie.Need-overflow-mul-k invariant-loop decreases-loop
-mul-k c = omega (arith, c.before.before.before.before.before.requires.0.1.most)
+mul-k : tie.Need-offset_bounds-route-i invariant-loop decreases-loop
+mul-k c = omega (arith, c.requires.0.1.most)
 
-element-copy-out-k : tie.Need-element-copy-out-k invariant-loop decreases-loop
-element-copy-out-k c = omega (arith, c.before.before.before.before.before.requires.0.1.most)
+element-copy-out-k : tie.Need-bounds-route-i invariant-loop decreases-loop
+element-copy-out-k c = omega (arith, c.requires.0.1.most)
 
-metres-requires : tie.Need-metres-requires invariant-loop decreases-loop
+metres-requires : tie.Need-metres-d-requires invariant-loop decreases-loop
 metres-requires c κs =
-    let l = c.before.before in
-    let q = l.before.before.before.before.requires.0 in
-    (q.0, rw l.loop.invariant.1 (node_at_lem q.1 l.loop.i (omega arith)), node_at_lem q.1 (l.loop.i + 1) (omega arith))
+    let l = c in
+    let q = l.requires.0 in
+    (q.0, rw l.loop-i.invariant.1 (node_at_lem q.1 l.loop-i.i (omega arith)), node_at_lem q.1 (l.loop-i.i + 1) (omega arith))
 
 service-requires : tie.Need-service-requires invariant-loop decreases-loop
 service-requires c κs =
-    let l = c.before.before.before in
-    let q = l.before.before.before.before.requires.0 in
-    (q.0, rw l.loop.invariant.1 (node_at_lem q.1 l.loop.i (omega arith)))
+    let l = c in
+    let q = l.requires.0 in
+    (q.0, rw l.loop-i.invariant.1 (node_at_lem q.1 l.loop-i.i (omega arith)))
 
-add_left : tie.Need-overflow-add-left invariant-loop decreases-loop
+add_left : tie.Need-overflow_add-left invariant-loop decreases-loop
 add_left c =
-    let l = c.before.before.before.before in
-    let b = l.before.before.before.before in
-    omega (arith, c.service.ensures.low, l.loop.invariant.2, start-low (day_of b.args.s.now) (low b.args.s.now) b.args.route.now l.loop.i (omega (arith, b.requires.0.1.most)))
+    let l = c in
+    let b = l in
+    omega (arith, c.service.ensures.low, l.loop-i.invariant.2, start-low (day_of b.args.s.now) (low b.args.s.now) b.args.route.now l.loop-i.i (omega (arith, b.requires.0.1.most)))
 
-mul-leave : tie.Need-overflow-mul-leave invariant-loop decreases-loop
-mul-leave c = omega (arith, c.before.before.before.before.before.before.before.before.requires.0.1.most)
+mul-leave : tie.Need-offset_bounds-leave-i invariant-loop decreases-loop
+mul-leave c = omega (arith, c.requires.0.1.most)
 
-element-write-leave : tie.Need-element-write-leave invariant-loop decreases-loop
-element-write-leave c = omega (arith, c.before.before.before.before.before.before.before.before.requires.0.1.most)
+element-write-leave : tie.Need-bounds-leave-i invariant-loop decreases-loop
+element-write-leave c = omega (arith, c.requires.0.1.most)
 
-add_most : tie.Need-overflow-add-most invariant-loop decreases-loop
-add_most c = omega (arith, c.before.metres.ensures.low, c.before.before.before.before.before.before.before.before.requires.0.2)
+add_most : tie.Need-overflow_add-most invariant-loop decreases-loop
+add_most c = omega (arith, c.metres-d.ensures.low, c.requires.0.2)
 
-mul_most : tie.Need-overflow-mul-most invariant-loop decreases-loop
-mul_most c = omega (arith, c.before.before.before.before.before.before.before.before.requires.0.1.most)
+mul_most : tie.Need-offset_bounds-most-i invariant-loop decreases-loop
+mul_most c = omega (arith, c.requires.0.1.most)
 
-element-write-most : tie.Need-element-write-most invariant-loop decreases-loop
-element-write-most c = omega (arith, c.before.before.before.before.before.before.before.before.requires.0.1.most)
+element-write-most : tie.Need-bounds-most-i invariant-loop decreases-loop
+element-write-most c = omega (arith, c.requires.0.1.most)
 
-add_total : tie.Need-overflow-add-total invariant-loop decreases-loop
+add_total : tie.Need-overflow_add-total invariant-loop decreases-loop
 add_total c =
-    let l = c.before.before.before.before in
-    let b = l.before.before.before.before in
-    omega (arith, c.before.metres.ensures.low, l.loop.invariant.3, length-low (day_of b.args.s.now) (low b.args.s.now) b.args.route.now (l.loop.i + 1) (omega (arith, b.requires.0.1.most)))
+    let l = c in
+    let b = l in
+    omega (arith, c.metres-d.ensures.low, l.loop-i.invariant.3, length-low (day_of b.args.s.now) (low b.args.s.now) b.args.route.now (l.loop-i.i + 1) (omega (arith, b.requires.0.1.most)))
 
-reach-requires : tie.Need-reach-requires invariant-loop decreases-loop
+reach-requires : tie.Need-reach-t-requires invariant-loop decreases-loop
 reach-requires c κs =
-    let l = c.before.before.before.before in
-    let b = l.before.before.before.before in (
+    let l = c in
+    let b = l in (
       b.requires.0.0,
-      rw l.loop.invariant.1 (node_at_lem b.requires.0.1 l.loop.i (omega arith)),
-      node_at_lem b.requires.0.1 (l.loop.i + 1) (omega arith),
-      omega (arith, c.service.ensures.low, l.loop.invariant.2, start-low (day_of b.args.s.now) (low b.args.s.now) b.args.route.now l.loop.i (omega (arith, b.requires.0.1.most))),
+      rw l.loop-i.invariant.1 (node_at_lem b.requires.0.1 l.loop-i.i (omega arith)),
+      node_at_lem b.requires.0.1 (l.loop-i.i + 1) (omega arith),
+      omega (arith, c.service.ensures.low, l.loop-i.invariant.2, start-low (day_of b.args.s.now) (low b.args.s.now) b.args.route.now l.loop-i.i (omega (arith, b.requires.0.1.most))),
     )
 
-add-i : tie.Need-overflow-add-i invariant-loop decreases-loop
-add-i c = omega (arith, c.before.before.before.before.before.before.before.before.before.requires.0.1.most)
+add-i : tie.Need-overflow_add-i invariant-loop decreases-loop
+add-i c = omega (arith, c.requires.0.1.most)
 
-loop-less : tie.Need-loop-smaller invariant-loop decreases-loop
+loop-less : tie.Need-loop-i-smaller invariant-loop decreases-loop
 loop-less c = omega arith
 
-loop-again : tie.Need-loop-preserved invariant-loop decreases-loop
+loop-again : tie.Need-loop-i-preserved invariant-loop decreases-loop
 loop-again c =
-    let l = c.before.before.before.before.before in
-    let b = l.before.before.before.before in
+    let l = c in
+    let b = l in
     let d = day_of b.args.s.now in
     let r = b.args.route.now in
-    let i = l.loop.i in
-    let v = l.loop.invariant in
-    let m = c.before.before.metres.ensures.is ∙ ap (λ (q : ℕ). d.metres q (get_or r (i + 1) 0)) v.1 in
-    let e = left-told d r i v.1 v.2 c.before.service.ensures.is in (
+    let i = l.loop-i.i in
+    let v = l.loop-i.invariant in
+    let m = c.metres-d.ensures.is ∙ ap (λ (q : ℕ). d.metres q (get_or r (i + 1) 0)) v.1 in
+    let e = left-told d r i v.1 v.2 c.service.ensures.is in (
       omega arith,
       refl,
-      reach-turn d r i v.1 e c.reach.ensures.0,
-      ap (λ (k : ℕ). l.loop.total + k) m ∙ length-turn d r i (omega (arith, b.requires.0.1.long, b.requires.0.1.most)) v.3,
+      reach-turn d r i v.1 e c.reach-t.ensures.0,
+      ap (λ (k : ℕ). l.loop-i.total + k) m ∙ length-turn d r i (omega (arith, b.requires.0.1.long, b.requires.0.1.most)) v.3,
       filled_more _ v.4 (omega (arith, b.requires.0.1.most)) e,
       filled_more _ v.5 (omega (arith, b.requires.0.1.most)) (ap (λ (k : ℕ). b.args.limit + k) m),
     )
 
 returns : tie.Need-returns invariant-loop decreases-loop
 returns c =
-    let v = c.before.loop.invariant in
-    let b = c.before.before.before.before.before in
-    let e : c.before.loop.i ≡ b.args.legs = omega arith in
+    let v = c.loop-i.invariant in
+    let b = c in
+    let e : c.loop-i.i ≡ b.args.legs = omega arith in
     let t = rw e at v.3 in
     (record { lefts = rw e at v.4; mosts = rw e at v.5 }, t, omega (arith, t, length-low (day_of b.args.s.now) (low b.args.s.now) b.args.route.now (b.args.legs + 1) b.requires.0.1.most))
 
-pub legs-of-spec : {M : Type 1} → statement M
-legs-of-spec =
+pub legs_of_spec : {M : Type 1} → statement M
+legs_of_spec =
     tie.close
     (tie.spec
     invariant-loop

@@ -11,64 +11,64 @@ use Rattle.gaps.proofs.GapLaws.{Sifting, sift-all, sift-next, sift-done, least-p
 use Rattle.gaps.proofs.stand.Statement.{statement}
 use Rattle.gaps.proofs.stand.Tie as tie
 
-abbrev invariant-loop : tie.invariant-loop
+abbrev invariant-loop : tie.invariant-loop-left
 invariant-loop s at trial route spots leave l most w₀ left₀ w left =
     (left < 2 ^ 64) × Sifting (fits_place (day_of s) route spots leave l most trial) trial.places left w
 
-abbrev decreases-loop : tie.decreases-loop
+abbrev decreases-loop : tie.decreases-loop-left
 decreases-loop s at trial route spots leave l most w₀ left₀ w left = left
 
-loop-holds : tie.Need-loop-init invariant-loop decreases-loop
-loop-holds c = (omega (arith, c.before.well-formed.1.1.0), sift-all _ _)
+loop-holds : tie.Need-loop-left-init invariant-loop decreases-loop
+loop-holds c = (omega (arith, c.well_formed.1.1.0), sift-all _ _)
 
-lowest-requires : tie.Need-lowest-requires invariant-loop decreases-loop
+lowest-requires : tie.Need-lowest-p-requires invariant-loop decreases-loop
 lowest-requires c κs = tt
 
-mul-i : tie.Need-overflow-mul-i invariant-loop decreases-loop
-mul-i c = omega (arith, c.lowest.ensures.1)
+mul-i : tie.Need-offset_bounds-spots-p invariant-loop decreases-loop
+mul-i c = omega (arith, c.lowest-p.ensures.1)
 
-element-copy-out-i : tie.Need-element-copy-out-i invariant-loop decreases-loop
+element-copy-out-i : tie.Need-bounds-spots-p invariant-loop decreases-loop
 element-copy-out-i c =
-    let v = c.before.before.loop.invariant in
-    let r = c.before.before.before.before.requires in
-    let q = least-place r.1 v.1 c.before.loop-test.true v.0 c.lowest.ensures.0 in
+    let v = c.loop-left.invariant in
+    let r = c.requires in
+    let q = least-place r.1 v.1 c.loop-left-test.true v.0 c.lowest-p.ensures.0 in
     omega (arith, q.node, nodes-most r.0)
 
-gap-at-requires : tie.Need-gap-at-requires invariant-loop decreases-loop
+gap-at-requires : tie.Need-gap_at-gap-requires invariant-loop decreases-loop
 gap-at-requires c κs =
-    let v = c.before.before.before.loop.invariant in
-    let r = c.before.before.before.before.before.requires in
-    (least-place r.1 v.1 c.before.before.loop-test.true v.0 c.before.lowest.ensures.0).few
+    let v = c.loop-left.invariant in
+    let r = c.requires in
+    (least-place r.1 v.1 c.loop-left-test.true v.0 c.lowest-p.ensures.0).few
 
-tried-requires : tie.Need-tried-requires invariant-loop decreases-loop
+tried-requires : tie.Need-tried-w-requires invariant-loop decreases-loop
 tried-requires c κs =
-    let v = c.before.before.before.before.loop.invariant in
-    let r = c.before.before.before.before.before.before.requires in
-    let q = least-place r.1 v.1 c.before.before.before.loop-test.true v.0 c.before.before.lowest.ensures.0 in
-    rw c.gap_at.ensures (r.0, r.1.node, record { from = q.node; to = q.next; leave = q.time; total = r.1.total })
+    let v = c.loop-left.invariant in
+    let r = c.requires in
+    let q = least-place r.1 v.1 c.loop-left-test.true v.0 c.lowest-p.ensures.0 in
+    rw c.gap_at-gap.ensures (r.0, r.1.node, record { from = q.node; to = q.next; leave = q.time; total = r.1.total })
 
-rest-requires : tie.Need-rest-requires invariant-loop decreases-loop
-rest-requires c κs = let z = c.before.before.before.before.loop-test.true in omega arith
+rest-requires : tie.Need-rest-left-requires invariant-loop decreases-loop
+rest-requires c κs = let z = c.loop-left-test.true in omega arith
 
-loop-less : tie.Need-loop-smaller invariant-loop decreases-loop
+loop-less : tie.Need-loop-left-smaller invariant-loop decreases-loop
 loop-less c =
-    let l = c.before.before.before.before.before in
-    let z = l.loop-test.true in
-    rw c.rest.ensures (rest-less l.before.loop.left (omega arith) l.before.loop.invariant.0)
+    let l = c in
+    let z = l.loop-left-test.true in
+    rw c.rest-left.ensures (rest-less l.loop-left.left (omega arith) l.loop-left.invariant.0)
 
-loop-again : tie.Need-loop-preserved invariant-loop decreases-loop
+loop-again : tie.Need-loop-left-preserved invariant-loop decreases-loop
 loop-again c =
-    let l = c.before.before.before.before in
-    let v = l.before.before.loop.invariant in
-    let e = c.rest.ensures in
-    let f = rw c.before.before.gap_at.ensures at c.before.tried.ensures in
-    (rw e (without-fits _ _ v.0), sift-next _ (e ∙ ap (without _) (sym l.lowest.ensures.0)) f v.1)
+    let l = c in
+    let v = l.loop-left.invariant in
+    let e = c.rest-left.ensures in
+    let f = rw c.gap_at-gap.ensures at c.tried-w.ensures in
+    (rw e (without-fits _ _ v.0), sift-next _ (e ∙ ap (without _) (sym l.lowest-p.ensures.0)) f v.1)
 
 returns : tie.Need-returns invariant-loop decreases-loop
-returns c = sift-done (omega (arith, c.loop-test.false)) c.before.loop.invariant.1
+returns c = sift-done (omega (arith, c.loop-left-test.false)) c.loop-left.invariant.1
 
-pub stand-spec : {M : Type 1} → statement M
-stand-spec =
+pub stand_spec : {M : Type 1} → statement M
+stand_spec =
     tie.close
     (tie.spec
     invariant-loop

@@ -6,21 +6,21 @@ use Rattle.along.proofs.ReadyLaws.{nodes-most}
 use Rattle.gaps.proofs.tried.Statement.{statement}
 use Rattle.gaps.proofs.tried.Tie as tie
 
-fits-in-requires : tie.Need-fits-in-requires
-fits-in-requires c κs = c.before.requires
+fits-in-requires : tie.Need-fits_in-requires
+fits-in-requires c κs = c.requires
 
 take-requires : tie.Need-take-requires
-take-requires c κs = let q = c.before.before.before.requires in omega (arith, q.2.from, nodes-most q.0)
+take-requires c κs = let q = c.requires in omega (arith, q.2.from, nodes-most q.0)
 
-returns : tie.Need-returns
+returns : tie.Need-returns-then-fits_in
 returns c =
-    let a = c.before.before.before.args in ap (λ (b : Bool). struck a.word a.gap.from b) (sym c.if1.true ∙ c.before.fits_in.ensures)
+    let a = c.args in ap (λ (b : Bool). struck a.word a.gap.from b) (sym c.if-fits_in.true ∙ c.fits_in.ensures)
 
-returns-2 : tie.Need-returns-2
+returns-2 : tie.Need-returns-else-fits_in
 returns-2 c =
-    let b = c.before.before in
-    let a = b.before.before.args in
-    c.take.ensures ∙ ap (λ (b : Bool). struck a.word a.gap.from b) (sym c.before.if1.false ∙ b.fits_in.ensures)
+    let b = c in
+    let a = b.args in
+    c.take.ensures ∙ ap (λ (b : Bool). struck a.word a.gap.from b) (sym c.if-fits_in.false ∙ b.fits_in.ensures)
 
-pub tried-spec : {M : Type 1} → statement M
-tried-spec = tie.close (tie.spec fits-in-requires take-requires returns returns-2)
+pub tried_spec : {M : Type 1} → statement M
+tried_spec = tie.close (tie.spec fits-in-requires take-requires returns returns-2)

@@ -11,13 +11,13 @@ use Rattle.profile.proofs.cut.Tie as tie
 holds-requires : tie.Need-holds-requires
 holds-requires c κs = search rules
 
-either-requires : tie.Need-either-requires
+either-requires : tie.Need-either-late-requires
 either-requires c κs = search rules
 
 holds-requires-2 : tie.Need-holds-requires-2
 holds-requires-2 c κs = search rules
 
-either-requires-2 : tie.Need-either-requires-2
+either-requires-2 : tie.Need-either-early-requires
 either-requires-2 c κs = search rules
 
 join-requires : tie.Need-join-requires
@@ -28,13 +28,13 @@ minus-requires c κs = search rules
 
 returns : tie.Need-returns
 returns c =
-    let j = c.before in
-    let e = j.before in
-    let a = e.before.before in
-    let f = e.either2.ensures ∙ ap (λ (b : Bool). cond b a.before.before.args.shut.early 0) e.before.holds2.ensures in
-    let l = a.either.ensures ∙ ap (λ (b : Bool). cond b a.before.before.args.shut.late 0) a.before.holds.ensures in
+    let j = c in
+    let e = j in
+    let a = e in
+    let f = e.either-early.ensures ∙ ap (λ (b : Bool). cond b a.args.shut.early 0) e.holds-2.ensures in
+    let l = a.either-late.ensures ∙ ap (λ (b : Bool). cond b a.args.shut.late 0) a.holds.ensures in
     λ q. ap (λ (r : ℕ). has r q) c.minus.ensures
-    ∙ cut_has a.before.before.args.shut a.before.before.args.x a.before.before.args.word (omega arith) (omega arith) (j.join.ensures ∙ (λ i. join (l i) (f i))) q
+    ∙ cut_has a.args.shut a.args.x a.args.word (omega arith) (omega arith) (j.join.ensures ∙ (λ i. join (l i) (f i))) q
 
 pub cut_spec : {M : Type 1} → statement M
 cut_spec =

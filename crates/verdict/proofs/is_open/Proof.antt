@@ -14,7 +14,7 @@ count-requires : tie.Need-count-requires
 count-requires c κs = search rules
 
 returns : tie.Need-returns
-returns c = ap (λ (k : ℕ). not (eqb k 0)) c.count.ensures.0 ∙ ap not (ones_none _) ∙ ap (λ (w : ℕ). not (eqb w 0)) c.before.places.ensures
+returns c = ap (λ (k : ℕ). not (eqb k 0)) c.count.ensures.0 ∙ ap not (ones_none _) ∙ ap (λ (w : ℕ). not (eqb w 0)) c.places.ensures
 
-pub is-open-spec : {M : Type 1} → statement M
-is-open-spec = tie.close (tie.spec places-requires count-requires returns)
+pub is_open_spec : {M : Type 1} → statement M
+is_open_spec = tie.close (tie.spec places-requires count-requires returns)

@@ -5,5 +5,5 @@ use Rattle.verdict.proofs.meets.Tie as tie
 returns : tie.Need-returns
 returns c = meets-mask _ _ c.ranges.a.fits c.ranges.b.fits
 
-pub meets-spec : {M : Type 1} → statement M
-meets-spec = tie.close (tie.spec returns)
+pub meets_spec : {M : Type 1} → statement M
+meets_spec = tie.close (tie.spec returns)

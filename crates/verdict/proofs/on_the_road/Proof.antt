@@ -1,3 +1,4 @@
+use Rattle.std.proofs.lemmas.Bool.{not_from_false, not_from_true}
 use Prim.Native.Nat.{◌+◌, ◌-◌, ◌<◌}
 use native.Mathlib.Omega.{arith}
 use lib.ListN.{take}
@@ -9,59 +10,59 @@ use Rattle.verdict.proofs.Road.{Rode, first-late, rode-first, rode-late, rode-ne
 use Rattle.verdict.proofs.on_the_road.Statement.{statement}
 use Rattle.verdict.proofs.on_the_road.Tie as tie
 
-abbrev invariant-loop : tie.invariant-loop
+abbrev invariant-loop : tie.invariant-loop-i
 invariant-loop s at limit route stops p₀ t₀ total₀ i₀ p t total i = (i < stops) × Rode (day_of s) route stops i p t total
 
-abbrev decreases-loop : tie.decreases-loop
+abbrev decreases-loop : tie.decreases-loop-i
 decreases-loop s at limit route stops p₀ t₀ total₀ i₀ p t total i = stops - i
 
-element-copy-out-p : tie.Need-element-copy-out-p invariant-loop decreases-loop
-element-copy-out-p c = omega (arith, c.before.requires.1.long)
+element-copy-out-p : tie.Need-bounds-route-0 invariant-loop decreases-loop
+element-copy-out-p c = omega (arith, c.requires.1.long)
 
-earliest-requires : tie.Need-earliest-requires invariant-loop decreases-loop
-earliest-requires c κs = let p = c.before.before.requires in (p.0, node_at_lem p.1 0 (omega arith))
+earliest-requires : tie.Need-earliest-t-requires invariant-loop decreases-loop
+earliest-requires c κs = let p = c.requires in (p.0, node_at_lem p.1 0 (omega arith))
 
-last-moment-requires : tie.Need-last-moment-requires invariant-loop decreases-loop
-last-moment-requires c κs = let p = c.before.before.before.requires in (p.0, node_at_lem p.1 0 (omega arith))
+last-moment-requires : tie.Need-last_moment-requires invariant-loop decreases-loop
+last-moment-requires c κs = let p = c.requires in (p.0, node_at_lem p.1 0 (omega arith))
 
-in-time-requires : tie.Need-in-time-requires invariant-loop decreases-loop
-in-time-requires c κs = omega (arith, c.before.earliest.ensures.low)
+in-time-requires : tie.Need-in_time-requires invariant-loop decreases-loop
+in-time-requires c κs = omega (arith, c.earliest-t.ensures.low)
 
-returns : tie.Need-returns invariant-loop decreases-loop
+returns : tie.Need-returns-then-not-in_time invariant-loop decreases-loop
 returns c =
-    let o = c.before.before.before in
-    let a = o.before.before.before.args in
+    let o = c in
+    let a = o.args in
     let d = day_of a.s.now in
-    first-late d a.route.now a.stops (omega arith) (omega arith) o.earliest.ensures.is
-    (in-time-told d (low a.s.now) _ _ c.before.before.last-moment.ensures c.before.in-time.ensures) a.limit c.if1.true
+    first-late d a.route.now a.stops (omega arith) (omega arith) o.earliest-t.ensures.is
+    (in-time-told d (low a.s.now) _ _ c.last_moment.ensures c.in_time.ensures) a.limit (not_from_false _ c.if-not-in_time.true)
 
-loop-holds : tie.Need-loop-init invariant-loop decreases-loop
+loop-holds : tie.Need-loop-i-init invariant-loop decreases-loop
 loop-holds c =
-    let o = c.before.before.before in
-    let a = o.before.before.before.args in
+    let o = c in
+    let a = o.args in
     let d = day_of a.s.now in (
       omega arith,
-      rode-first d a.route.now a.stops (omega arith) (omega arith) o.earliest.ensures.is
-          (in-time-told d (low a.s.now) _ _ c.before.before.last-moment.ensures c.before.in-time.ensures) c.if1.false,
+      rode-first d a.route.now a.stops (omega arith) (omega arith) o.earliest-t.ensures.is
+          (in-time-told d (low a.s.now) _ _ c.last_moment.ensures c.in_time.ensures) (not_from_true _ c.if-not-in_time.false),
     )
 
-add-loop : tie.Need-overflow-add-loop invariant-loop decreases-loop
+add-loop : tie.Need-overflow_add-i invariant-loop decreases-loop
 add-loop c = omega arith
 
-add-i : tie.Need-overflow-add-i invariant-loop decreases-loop
+add-i : tie.Need-overflow_add-i-in-loop-i invariant-loop decreases-loop
 add-i c = omega arith
 
-mul-x : tie.Need-overflow-mul-x invariant-loop decreases-loop
+mul-x : tie.Need-offset_bounds-route-i invariant-loop decreases-loop
 mul-x c = omega arith
 
-element-copy-out-x : tie.Need-element-copy-out-x invariant-loop decreases-loop
+element-copy-out-x : tie.Need-bounds-route-i invariant-loop decreases-loop
 element-copy-out-x c = omega arith
 
-arrive-requires : tie.Need-arrive-requires invariant-loop decreases-loop
+arrive-requires : tie.Need-arrive-t-requires invariant-loop decreases-loop
 arrive-requires c κs =
-    let a = c.before.before.before.before.before.before.before.before.before.args in
-    let p = c.before.before.before.before.before.before.before.before.before.requires in
-    let l = c.before.before.loop in
+    let a = c.args in
+    let p = c.requires in
+    let l = c.loop-i in
     let d = day_of a.s.now in (
       p.0,
       omega (arith, l.invariant.1.at, node_at_lem p.1 l.i (omega arith)),
@@ -69,67 +70,67 @@ arrive-requires c κs =
       omega (arith, l.invariant.1.start, start-low d (low a.s.now) (take a.stops a.route.now) l.i (omega arith)),
     )
 
-last-moment-requires-2 : tie.Need-last-moment-requires-2 invariant-loop decreases-loop
+last-moment-requires-2 : tie.Need-last_moment-requires-in-loop-i invariant-loop decreases-loop
 last-moment-requires-2 c κs =
-    let p = c.before.before.before.before.before.before.before.before.before.before.requires in
-    (p.0, node_at_lem p.1 (c.before.before.before.loop.i + 1) (omega arith))
+    let p = c.requires in
+    (p.0, node_at_lem p.1 (c.loop-i.i + 1) (omega arith))
 
-in-time-requires-2 : tie.Need-in-time-requires-2 invariant-loop decreases-loop
+in-time-requires-2 : tie.Need-in_time-requires-in-loop-i invariant-loop decreases-loop
 in-time-requires-2 c κs =
-    let a = c.before.before.before.before.before.before.before.before.before.before.before.args in
-    let l = c.before.before.before.before.loop in
-    omega (arith, c.before.arrive.ensures.1, l.invariant.1.start, start-low (day_of a.s.now) (low a.s.now) (take a.stops a.route.now) l.i (omega arith))
+    let a = c.args in
+    let l = c.loop-i in
+    omega (arith, c.arrive-t.ensures.1, l.invariant.1.start, start-low (day_of a.s.now) (low a.s.now) (take a.stops a.route.now) l.i (omega arith))
 
-returns-2 : tie.Need-returns-2 invariant-loop decreases-loop
+returns-2 : tie.Need-returns-then-not-in_time-2 invariant-loop decreases-loop
 returns-2 c =
-    let o = c.before.before.before in
-    let a = o.before.before.before.before.before.before.before.before.before.before.args in
-    let r = o.before.before.before.before.before.before.before.before.before.before.requires.1 in
-    let l = o.before.before.before.loop in
+    let o = c in
+    let a = o.args in
+    let r = o.requires.1 in
+    let l = o.loop-i in
     let d = day_of a.s.now in
-    rode-late d a.route.now a.stops (omega (arith, r.most, r.long)) l.invariant.1 (omega arith) o.arrive.ensures.0
-    (in-time-told d (low a.s.now) _ _ c.before.before.last-moment2.ensures c.before.in-time2.ensures) a.limit c.if2.true
+    rode-late d a.route.now a.stops (omega (arith, r.most, r.long)) l.invariant.1 (omega arith) o.arrive-t.ensures.0
+    (in-time-told d (low a.s.now) _ _ c.last_moment-in-loop-i.ensures c.in_time-in-loop-i.ensures) a.limit (not_from_false _ c.if-not-in_time-2.true)
 
-metres-requires : tie.Need-metres-requires invariant-loop decreases-loop
+metres-requires : tie.Need-metres-total-requires invariant-loop decreases-loop
 metres-requires c κs =
-    let l = c.before.before.before.before.before.before in
-    let p = l.before.before.before.before.before.before.before.requires in
-    (p.0, omega (arith, l.loop.invariant.1.at, node_at_lem p.1 l.loop.i (omega arith)), node_at_lem p.1 (l.loop.i + 1) (omega arith))
+    let l = c in
+    let p = l.requires in
+    (p.0, omega (arith, l.loop-i.invariant.1.at, node_at_lem p.1 l.loop-i.i (omega arith)), node_at_lem p.1 (l.loop-i.i + 1) (omega arith))
 
-add_total : tie.Need-overflow-add-total invariant-loop decreases-loop
+add_total : tie.Need-overflow_add-total invariant-loop decreases-loop
 add_total c =
-    let l = c.before.before.before.before.before.before.before in
-    let a = l.before.before.before.before.before.before.before.args in
+    let l = c in
+    let a = l.args in
     omega (
       arith,
-      l.loop.invariant.1.metres,
-      length-low (day_of a.s.now) (low a.s.now) a.route.now (l.loop.i + 1) (omega arith),
-      c.metres.ensures.low,
+      l.loop-i.invariant.1.metres,
+      length-low (day_of a.s.now) (low a.s.now) a.route.now (l.loop-i.i + 1) (omega arith),
+      c.metres-total.ensures.low,
     )
 
-loop-less : tie.Need-loop-smaller invariant-loop decreases-loop
+loop-less : tie.Need-loop-i-smaller invariant-loop decreases-loop
 loop-less c = omega arith
 
-loop-again : tie.Need-loop-preserved invariant-loop decreases-loop
+loop-again : tie.Need-loop-i-preserved invariant-loop decreases-loop
 loop-again c =
-    let o = c.before.before.before.before in
-    let l = o.before.before.before in
-    let a = l.before.before.before.before.before.before.before.args in
-    let r = l.before.before.before.before.before.before.before.requires.1 in
+    let o = c in
+    let l = o in
+    let a = l.args in
+    let r = l.requires.1 in
     let d = day_of a.s.now in
-    let e = in-time-told d (low a.s.now) _ _ c.before.before.before.last-moment2.ensures c.before.before.in-time2.ensures in (
+    let e = in-time-told d (low a.s.now) _ _ c.last_moment-in-loop-i.ensures c.in_time-in-loop-i.ensures in (
       omega arith,
-      rode-next d a.route.now a.stops (omega (arith, r.most, r.long)) l.loop.invariant.1 (omega arith) o.arrive.ensures.0 e c.before.if2.false
-          c.metres.ensures.is,
+      rode-next d a.route.now a.stops (omega (arith, r.most, r.long)) l.loop-i.invariant.1 (omega arith) o.arrive-t.ensures.0 e (not_from_true _ c.if-not-in_time-2.false)
+          c.metres-total.ensures.is,
     )
 
-returns-3 : tie.Need-returns-3 invariant-loop decreases-loop
+returns-3 : tie.Need-returns invariant-loop decreases-loop
 returns-3 c =
-    let a = c.before.before.before.before.before.before.before.before.args in
-    rode-all (day_of a.s.now) a.route.now a.stops (omega arith) c.before.loop.invariant.1 (omega arith) a.limit
+    let a = c.args in
+    rode-all (day_of a.s.now) a.route.now a.stops (omega arith) c.loop-i.invariant.1 (omega arith) a.limit
 
-pub on-the-road-spec : {M : Type 1} → statement M
-on-the-road-spec =
+pub on_the_road_spec : {M : Type 1} → statement M
+on_the_road_spec =
     tie.close
     (tie.spec
     invariant-loop

@@ -5,29 +5,29 @@ use Rattle.verdict.proofs.Pairing.{owes-told}
 use Rattle.verdict.proofs.owes.Statement.{statement}
 use Rattle.verdict.proofs.owes.Tie as tie
 
-word-requires : tie.Need-word-requires
+word-requires : tie.Need-word-on-requires
 word-requires c κs = search rules
 
-has-requires : tie.Need-has-requires
+has-requires : tie.Need-has-placed-requires
 has-requires c κs = search rules
 
-has-requires-2 : tie.Need-has-requires-2
+has-requires-2 : tie.Need-has-marked-requires
 has-requires-2 c κs = search rules
 
 join-requires : tie.Need-join-requires
 join-requires c κs = search rules
 
-meets-requires : tie.Need-meets-requires
+meets-requires : tie.Need-meets-pair-requires
 meets-requires c κs = search rules
 
 returns : tie.Need-returns
 returns c = λ d told.
-    let w = c.before.before.before.before in
-    let a = w.before.args in
-    owes-told d (take a.stops a.route.now) a.marks w.word.result a.partners a.x (omega arith) (omega arith) w.word.ensures told
-    c.before.before.before.has.ensures c.before.before.has2.ensures (rw (← c.before.join.ensures) c.meets.ensures)
+    let w = c in
+    let a = w.args in
+    owes-told d (take a.stops a.route.now) a.marks w.word-on.result a.partners a.x (omega arith) (omega arith) w.word-on.ensures told
+    c.has-placed.ensures c.has-marked.ensures (rw (← c.join.ensures) c.meets-pair.ensures)
 
-pub owes-spec : {M : Type 1} → statement M
-owes-spec =
+pub owes_spec : {M : Type 1} → statement M
+owes_spec =
     tie.close
     (tie.spec word-requires has-requires has-requires-2 join-requires meets-requires returns)

@@ -3,30 +3,30 @@ use Rattle.along.proofs.Walking.{near}
 use Rattle.verdict.proofs.sound.Statement.{statement}
 use Rattle.verdict.proofs.sound.Tie as tie
 
-word-requires : tie.Need-word-requires
-word-requires c κs = let p = c.before.requires in (p.route.long, p.route.most, near p)
+word-requires : tie.Need-word-on-requires
+word-requires c κs = let p = c.requires in (p.route.long, p.route.most, near p)
 
-partners-of-requires : tie.Need-partners-of-requires
-partners-of-requires c κs = let p = c.before.before.requires in (p.jobs.long, p.jobs.near)
+partners-of-requires : tie.Need-partners_of-called-requires
+partners-of-requires c κs = let p = c.requires in (p.jobs.long, p.jobs.near)
 
-on-the-road-requires : tie.Need-on-the-road-requires
-on-the-road-requires c κs = let p = c.before.before.before.requires in (p.laid, p.route)
+on-the-road-requires : tie.Need-on_the_road-road-requires
+on-the-road-requires c κs = let p = c.requires in (p.laid, p.route)
 
-carried-requires : tie.Need-carried-requires
-carried-requires c κs = (c.before.before.before.before.requires, c.before.before.word.ensures)
+carried-requires : tie.Need-carried-load-requires
+carried-requires c κs = (c.requires, c.word-on.ensures)
 
-clean-first-requires : tie.Need-clean-first-requires
-clean-first-requires c κs = c.before.before.before.before.before.requires
+clean-first-requires : tie.Need-clean_first-order-requires
+clean-first-requires c κs = c.requires
 
 returns : tie.Need-returns
 returns c =
-    let l = c.before in
-    let r = l.before in
+    let l = c in
+    let r = l in
     record {
-      keeps = λ u. r.on-the-road.ensures u && l.carried.ensures u && c.clean-first.ensures u;
-      on = r.before.before.word.ensures;
-      called = r.before.partners-of.ensures;
+      keeps = λ u. r.on_the_road-road.ensures u && l.carried-load.ensures u && c.clean_first-order.ensures u;
+      on = r.word-on.ensures;
+      called = r.partners_of-called.ensures;
     }
 
-pub sound-spec : {M : Type 1} → statement M
-sound-spec = tie.close (tie.spec word-requires partners-of-requires on-the-road-requires carried-requires clean-first-requires returns)
+pub sound_spec : {M : Type 1} → statement M
+sound_spec = tie.close (tie.spec word-requires partners-of-requires on-the-road-requires carried-requires clean-first-requires returns)

@@ -11,31 +11,31 @@ use Rattle.verdict.proofs.Standing.{stands-told, kept-not}
 use Rattle.verdict.proofs.stand.Statement.{statement}
 use Rattle.verdict.proofs.stand.Tie as tie
 
-returns : tie.Need-returns
-returns c = λ v s at l n r b k. kept-not r b k (not-true _ c.if1.true)
+returns : tie.Need-returns-then-not-course
+returns c = λ v s at l n r b k. kept-not r b k (not-true _ c.if-not-course.true)
 
-partners-of-requires : tie.Need-partners-of-requires
-partners-of-requires c κs = let p = c.before.before.requires in (p.0, p.1)
+partners-of-requires : tie.Need-partners_of-paired-requires
+partners-of-requires c κs = let p = c.requires in (p.0, p.1)
 
 join-requires : tie.Need-join-requires
 join-requires c κs = search rules
 
-join-requires-2 : tie.Need-join-requires-2
+join-requires-2 : tie.Need-join-owing-requires
 join-requires-2 c κs = search rules
 
-minus-requires : tie.Need-minus-requires
+minus-requires : tie.Need-minus-left-requires
 minus-requires c κs = search rules
 
-all-open-requires : tie.Need-all-open-requires
-all-open-requires c κs = c.before.before.before.before.before.before.requires.2
+all-open-requires : tie.Need-all_open-requires
+all-open-requires c κs = c.requires.2
 
-returns-2 : tie.Need-returns-2
+returns-2 : tie.Need-returns
 returns-2 c = λ v s at l n r b k.
-    let q = c.before.before.before.before in
-    let a = q.before.before.before.args in
-    let w = c.before.minus.ensures ∙ ap (λ (w : ℕ). minus w a.course.on) (c.before.before.join2.ensures ∙ ap (join a.marks) c.before.before.before.join.ensures) in
-    ap (λ (b : Bool). b && c.all-open.result) (sym (not-false a.course.keeps q.before.if1.false))
-    ∙ stands-told r b k (omega arith) (omega arith) q.partners-of.ensures (c.all-open.ensures ∙ ap (λ (w : ℕ). all_below 64 (member_open a.sets.now w)) w)
+    let q = c in
+    let a = q.args in
+    let w = c.minus-left.ensures ∙ ap (λ (w : ℕ). minus w a.course.on) (c.join-owing.ensures ∙ ap (join a.marks) c.join.ensures) in
+    ap (λ (b : Bool). b && c.all_open.result) (sym (not-false a.course.keeps q.if-not-course.false))
+    ∙ stands-told r b k (omega arith) (omega arith) q.partners_of-paired.ensures (c.all_open.ensures ∙ ap (λ (w : ℕ). all_below 64 (member_open a.sets.now w)) w)
 
-pub stand-spec : {M : Type 1} → statement M
-stand-spec = tie.close (tie.spec returns partners-of-requires join-requires join-requires-2 minus-requires all-open-requires returns-2)
+pub stand_spec : {M : Type 1} → statement M
+stand_spec = tie.close (tie.spec returns partners-of-requires join-requires join-requires-2 minus-requires all-open-requires returns-2)
