@@ -9,38 +9,38 @@ use Rattle.bits.proofs.Masks.{or-none}
 use Rattle.settle.proofs.settling.none_open.Statement.{statement}
 use Rattle.settle.proofs.settling.none_open.Tie as tie
 
-abbrev invariant-loop : tie.invariant-loop
+abbrev invariant-loop : tie.invariant-loop-i
 invariant-loop sets n all₀ i₀ all i = (i ≤ n) × (n ≤ 64) × (all_below i (λ k. eqb (get_or sets k 0) 0) ≡ eqb all 0)
 
-abbrev decreases-loop : tie.decreases-loop
+abbrev decreases-loop : tie.decreases-loop-i
 decreases-loop sets n all₀ i₀ all i = n - i
 
-loop-holds : tie.Need-loop-init invariant-loop decreases-loop
+loop-holds : tie.Need-loop-i-init invariant-loop decreases-loop
 loop-holds c = (omega arith, c.requires.1, below_none _)
 
-mul-all : tie.Need-overflow-mul-all invariant-loop decreases-loop
+mul-all : tie.Need-offset_bounds-sets-i invariant-loop decreases-loop
 mul-all c = omega arith
 
-element-copy-out-all : tie.Need-element-copy-out-all invariant-loop decreases-loop
+element-copy-out-all : tie.Need-bounds-sets-i invariant-loop decreases-loop
 element-copy-out-all c = omega arith
 
-add-i : tie.Need-overflow-add-i invariant-loop decreases-loop
+add-i : tie.Need-overflow_add-i invariant-loop decreases-loop
 add-i c = omega arith
 
-loop-less : tie.Need-loop-smaller invariant-loop decreases-loop
+loop-less : tie.Need-loop-i-smaller invariant-loop decreases-loop
 loop-less c = omega arith
 
-loop-again : tie.Need-loop-preserved invariant-loop decreases-loop
+loop-again : tie.Need-loop-i-preserved invariant-loop decreases-loop
 loop-again c =
-    let l = c.before.before in
-    let ws = l.before.args.sets.now in
-    (omega arith, l.loop.invariant.1, flag-goes _ (λ k. eqb (get_or ws k 0) 0) l.loop.invariant.2 refl ∙ sym (or-none l.loop.all (get_or ws l.loop.i 0)))
+    let l = c in
+    let ws = l.args.sets.now in
+    (omega arith, l.loop-i.invariant.1, flag-goes _ (λ k. eqb (get_or ws k 0) 0) l.loop-i.invariant.2 refl ∙ sym (or-none l.loop-i.all (get_or ws l.loop-i.i 0)))
 
 returns : tie.Need-returns invariant-loop decreases-loop
-returns c = flag-done _ _ _ c.before.loop.invariant.0 c.loop-test.false c.before.loop.invariant.2
+returns c = flag-done _ _ _ c.loop-i.invariant.0 c.loop-i-test.false c.loop-i.invariant.2
 
-pub none-open-spec : {M : Type 1} → statement M
-none-open-spec =
+pub none_open_spec : {M : Type 1} → statement M
+none_open_spec =
     tie.close
     (tie.spec
     invariant-loop

@@ -9,45 +9,45 @@ use Rattle.laws.specs.Basic.{all_below}
 use Rattle.settle.proofs.settling.same.Statement.{statement}
 use Rattle.settle.proofs.settling.same.Tie as tie
 
-abbrev invariant-loop : tie.invariant-loop
+abbrev invariant-loop : tie.invariant-loop-i
 invariant-loop a b n is₀ i₀ is i = (i ≤ n) × (n ≤ 64) × (all_below i (λ k. eqb (get_or a k 0) (get_or b k 0)) ≡ is)
 
-abbrev decreases-loop : tie.decreases-loop
+abbrev decreases-loop : tie.decreases-loop-i
 decreases-loop a b n is₀ i₀ is i = n - i
 
-loop-holds : tie.Need-loop-init invariant-loop decreases-loop
+loop-holds : tie.Need-loop-i-init invariant-loop decreases-loop
 loop-holds c = (omega arith, c.requires.2, below_none _)
 
-mul_is : tie.Need-overflow-mul-is invariant-loop decreases-loop
+mul_is : tie.Need-offset_bounds-a-i invariant-loop decreases-loop
 mul_is c = omega arith
 
-element-copy-out-is : tie.Need-element-copy-out-is invariant-loop decreases-loop
+element-copy-out-is : tie.Need-bounds-a-i invariant-loop decreases-loop
 element-copy-out-is c = omega arith
 
-mul-is-2 : tie.Need-overflow-mul-is-2 invariant-loop decreases-loop
+mul-is-2 : tie.Need-offset_bounds-b-i invariant-loop decreases-loop
 mul-is-2 c = omega arith
 
-element-copy-out-is-2 : tie.Need-element-copy-out-is-2 invariant-loop decreases-loop
+element-copy-out-is-2 : tie.Need-bounds-b-i invariant-loop decreases-loop
 element-copy-out-is-2 c = omega arith
 
-add-i : tie.Need-overflow-add-i invariant-loop decreases-loop
+add-i : tie.Need-overflow_add-i invariant-loop decreases-loop
 add-i c = omega arith
 
-loop-less : tie.Need-loop-smaller invariant-loop decreases-loop
+loop-less : tie.Need-loop-i-smaller invariant-loop decreases-loop
 loop-less c = omega arith
 
-loop-again : tie.Need-loop-preserved invariant-loop decreases-loop
+loop-again : tie.Need-loop-i-preserved invariant-loop decreases-loop
 loop-again c =
-    let l = c.before.before.before in
-    let v = l.loop.invariant in
-    (omega arith, v.1, flag-goes _ (λ k. eqb (get_or l.before.args.a.now k 0) (get_or l.before.args.b.now k 0)) v.2 refl)
+    let l = c in
+    let v = l.loop-i.invariant in
+    (omega arith, v.1, flag-goes _ (λ k. eqb (get_or l.args.a.now k 0) (get_or l.args.b.now k 0)) v.2 refl)
 
 returns : tie.Need-returns invariant-loop decreases-loop
 returns c =
-    let v = c.before.loop.invariant in
-    let b = c.before.before in
+    let v = c.loop-i.invariant in
+    let b = c in
     let e : 64 - b.args.n + b.args.n ≡ 64 = omega (arith, b.requires.2) in
-    flag-done _ _ _ v.0 c.loop-test.false v.2 ∙ sym (rw e at (below-ends (64 - b.args.n) _ _ (λ i h. eq-eqb _ _ (b.requires.3 i h))))
+    flag-done _ _ _ v.0 c.loop-i-test.false v.2 ∙ sym (rw e at (below-ends (64 - b.args.n) _ _ (λ i h. eq-eqb _ _ (b.requires.3 i h))))
 
 pub same_spec : {M : Type 1} → statement M
 same_spec =

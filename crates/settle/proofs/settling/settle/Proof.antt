@@ -5,38 +5,38 @@ use Rattle.settle.proofs.settling.settle.Statement.{statement}
 use Rattle.settle.proofs.settling.settle.Tie as tie
 
 lasts-requires : tie.Need-lasts-requires
-lasts-requires c κs = let p = c.before.before.requires in let q = routed p.0.0 p.1 in (q.laid, q.route, refl)
+lasts-requires c κs = let p = c.requires in let q = routed p.0.0 p.1 in (q.laid, q.route, refl)
 
 spots-requires : tie.Need-spots-requires
-spots-requires c κs = let r = c.before.before.before.before.requires.0.0 in ((r.long, r.most, near-nodes r), refl)
+spots-requires c κs = let r = c.requires.0.0 in ((r.long, r.most, near-nodes r), refl)
 
-sub-befores : tie.Need-overflow-sub-befores
-sub-befores c = omega (arith, two-stops c.before.before.before.before.before.requires.0.0)
+sub-befores : tie.Need-overflow_sub-stops
+sub-befores c = omega (arith, two-stops c.requires.0.0)
 
 befores-requires : tie.Need-befores-requires
 befores-requires c κs =
-    let r = c.before.before.before.before.before.before.requires.0.0 in
+    let r = c.requires.0.0 in
     let t = two-stops r in (r.long, omega (arith, t, r.most), λ i h. near-nodes r i (omega (arith, t)), refl)
 
-loads-requires : tie.Need-loads-requires
+loads-requires : tie.Need-loads-peaks-requires
 loads-requires c κs =
-    let a = c.before.before.before.before in
-    let p = a.before.before.before.before.before.requires in (routed p.0.0 p.1, a.spots.ensures, refl)
+    let a = c in
+    let p = a.requires in (routed p.0.0 p.1, a.spots.ensures, refl)
 
 rounds-requires : tie.Need-rounds-requires
 rounds-requires c κs =
-    let h = c.before.before.before.before.before in
-    let b = h.before.before.before in
-    let a = b.before.before in
-    let l = a.before.before in
-    let d = l.before.before.before.requires in
+    let h = c in
+    let b = h in
+    let a = b in
+    let l = a in
+    let d = l.requires in
     let p = d.0 in (
       (
         p.0,
         record {
           lasts = l.lasts.ensures;
-          loads = h.loads.ensures.0;
-          peaks = h.loads.ensures.1;
+          loads = h.loads-peaks.ensures.0;
+          peaks = h.loads-peaks.ensures.1;
           spots = a.spots.ensures;
           before = b.befores.ensures;
           limit = p.2;
@@ -48,7 +48,7 @@ rounds-requires c κs =
 returns : tie.Need-returns
 returns c = c.rounds.ensures
 
-pub settle-spec : {M : Type 1} → statement M
-settle-spec =
+pub settle_spec : {M : Type 1} → statement M
+settle_spec =
     tie.close
     (tie.spec lasts-requires spots-requires sub-befores befores-requires loads-requires rounds-requires returns)

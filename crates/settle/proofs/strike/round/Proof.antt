@@ -11,38 +11,38 @@ use Rattle.settle.proofs.Rounds.{round-sets}
 use Rattle.settle.proofs.strike.round.Statement.{statement}
 use Rattle.settle.proofs.strike.round.Tie as tie
 
-strike-pairs-requires : tie.Need-strike-pairs-requires
-strike-pairs-requires c κs = let d = c.before.before.requires in let p = d.0 in ((p.0, legs p.0 p.1), (marked p.0 p.1.spots p.1.before, d.1))
+strike-pairs-requires : tie.Need-strike_pairs-requires
+strike-pairs-requires c κs = let d = c.requires in let p = d.0 in ((p.0, legs p.0 p.1), (marked p.0 p.1.spots p.1.before, d.1))
 
-strike-mixed-requires : tie.Need-strike-mixed-requires
-strike-mixed-requires c κs = ready-kepts c.before.before.before.before.requires.0.0 c.before.strike-pairs.ensures.0
+strike-mixed-requires : tie.Need-strike_mixed-requires
+strike-mixed-requires c κs = ready-kepts c.requires.0.0 c.strike_pairs.ensures.0
 
-stand-all-requires : tie.Need-stand-all-requires
+stand-all-requires : tie.Need-stand_all-requires
 stand-all-requires c κs =
-    let m = c.before in
-    let b = m.before.before in
-    let p = b.before.before.before.requires.0 in
-    ((ready-kepts (ready-kepts p.0 b.strike-pairs.ensures.0) m.strike-mixed.ensures, p.1.spots), p.1.limit)
+    let m = c in
+    let b = m in
+    let p = b.requires.0 in
+    ((ready-kepts (ready-kepts p.0 b.strike_pairs.ensures.0) m.strike_mixed.ensures, p.1.spots), p.1.limit)
 
-strike-loads-requires : tie.Need-strike-loads-requires
+strike-loads-requires : tie.Need-strike_loads-requires
 strike-loads-requires c κs =
-    let p = c.before.before.before.before.before.before.before.before.requires.0 in
-    ((p.0.laid, omega (arith, two-stops p.0), c.before.stand-all.ensures.long, legs p.0 p.1), p.1.peaks.heaviest)
+    let p = c.requires.0 in
+    ((p.0.laid, omega (arith, two-stops p.0), c.stand_all.ensures.long, legs p.0 p.1), p.1.peaks.heaviest)
 
 returns : tie.Need-returns
 returns c =
-    let t = c.before.before in
-    let m = t.before.before in
-    let p = m.before.before in
-    let d = p.before.before.before in
+    let t = c in
+    let m = t in
+    let p = m in
+    let d = p in
     let a = d.args in
     let r = d.requires.0.0 in
     let e = d.requires.0.1 in
     round-sets a.pass (day_of a.s.now) (job_in a.s.now) a.at.jobs (ap (λ (k : ℕ). tab k (job_in a.s.now)) (sym (jobs-are r.laid)))
     a.route.now r.long (two-stops r) r.most (few-nodes r) r.form.nodes a.h.now e.loads a.new.now r.form.off r.form.leg
     a.l.now e.lasts _
-    (kepts-both (kepts-both (kepts-both p.strike-pairs.ensures.0 m.strike-mixed.ensures) t.stand-all.ensures) c.strike-loads.ensures)
+    (kepts-both (kepts-both (kepts-both p.strike_pairs.ensures.0 m.strike_mixed.ensures) t.stand_all.ensures) c.strike_loads.ensures)
 
-pub round-spec : {M : Type 1} → statement M
-round-spec =
+pub round_spec : {M : Type 1} → statement M
+round_spec =
     tie.close (tie.spec strike-pairs-requires strike-mixed-requires stand-all-requires strike-loads-requires returns)

@@ -12,78 +12,78 @@ use Rattle.settle.proofs.Strikes.{loads-spared}
 use Rattle.settle.proofs.strike.strike_loads.Statement.{statement}
 use Rattle.settle.proofs.strike.strike_loads.Tie as tie
 
-abbrev invariant-loop : tie.invariant-loop
+abbrev invariant-loop : tie.invariant-loop-j
 invariant-loop s at pass new₀ route h m j₀ new j =
     (j ≤ m) × Kepts route (pass.stops - 1) (jobs_leave (load_leaves h pass) (job_in s) j) new₀ new
 
-abbrev decreases-loop : tie.decreases-loop
+abbrev decreases-loop : tie.decreases-loop-j
 decreases-loop s at pass new₀ route h m j₀ new j = m - j
 
-has-room-requires : tie.Need-has-room-requires invariant-loop decreases-loop
-has-room-requires c κs = let d = c.before in (d.requires.0.3.high, rw d.requires.1 (peak-low _ _ 4294967296 (omega arith) (λ k b. job-low d.args.s.now k)))
+has-room-requires : tie.Need-has_room-requires invariant-loop decreases-loop
+has-room-requires c κs = let d = c in (d.requires.0.3.high, rw d.requires.1 (peak-low _ _ 4294967296 (omega arith) (λ k b. job-low d.args.s.now k)))
 
-returns : tie.Need-returns invariant-loop decreases-loop
+returns : tie.Need-returns-then-has_room invariant-loop decreases-loop
 returns c =
-    let d = c.before.before.before in
+    let d = c in
     let q = d.requires.0 in
     loads-spared d.args.pass q.2 (job_in d.args.s.now) d.args.at.jobs (λ k b. (job-asked q.0 d.args.pass q.3 k b refl).2) d.requires.1
-    (leb-true _ _ (sym c.before.has_room.ensures ∙ c.if1.true))
+    (leb-true _ _ (sym c.has_room.ensures ∙ c.if-has_room.true))
 
-loop-holds : tie.Need-loop-init invariant-loop decreases-loop
-loop-holds c = (omega arith, jobs-none _ _ c.before.before.before.requires.0.2)
+loop-holds : tie.Need-loop-j-init invariant-loop decreases-loop
+loop-holds c = (omega arith, jobs-none _ _ c.requires.0.2)
 
-job-requires : tie.Need-job-requires invariant-loop decreases-loop
-job-requires c κs = (c.before.before.before.before.before.requires.0.0, omega arith)
+job-requires : tie.Need-job-job-requires invariant-loop decreases-loop
+job-requires c κs = (c.requires.0.0, omega arith)
 
-node-of-requires : tie.Need-node-of-requires invariant-loop decreases-loop
+node-of-requires : tie.Need-node_of-x-requires invariant-loop decreases-loop
 node-of-requires c κs = tt
 
-mul-w : tie.Need-overflow-mul-w invariant-loop decreases-loop
-mul-w c = omega (arith, node-word c.before.before.before.before.before.before.before.requires.0.0 _ c.before.before.loop-test.true c.before.job.ensures c.node_of.ensures)
+mul-w : tie.Need-offset_bounds-new-x invariant-loop decreases-loop
+mul-w c = omega (arith, node-word c.requires.0.0 _ c.loop-j-test.true c.job-job.ensures c.node_of-x.ensures)
 
-element-copy-out-w : tie.Need-element-copy-out-w invariant-loop decreases-loop
+element-copy-out-w : tie.Need-bounds-new-x invariant-loop decreases-loop
 element-copy-out-w c =
-    let n = node-word c.before.before.before.before.before.before.before.requires.0.0 _ c.before.before.loop-test.true c.before.job.ensures c.node_of.ensures in
-    omega (arith, n, c.before.before.before.loop.invariant.1.long)
+    let n = node-word c.requires.0.0 _ c.loop-j-test.true c.job-job.ensures c.node_of-x.ensures in
+    omega (arith, n, c.loop-j.invariant.1.long)
 
-left-of-requires : tie.Need-left-of-requires invariant-loop decreases-loop
+left-of-requires : tie.Need-left_of-requires invariant-loop decreases-loop
 left-of-requires c κs =
-    let d = c.before.before.before.before.before.before.before.before in
-    let k = c.before.before in
-    (d.requires.0.1, (job-asked d.requires.0.0 d.args.pass d.requires.0.3 _ k.before.loop-test.true k.job.ensures).2)
+    let d = c in
+    let k = c in
+    (d.requires.0.1, (job-asked d.requires.0.0 d.args.pass d.requires.0.3 _ k.loop-j-test.true k.job-job.ensures).2)
 
-mul-new : tie.Need-overflow-mul-new invariant-loop decreases-loop
+mul-new : tie.Need-offset_bounds-new-x-in-loop-j invariant-loop decreases-loop
 mul-new c =
-    let k = c.before.before in
-    omega (arith, node-word c.before.before.before.before.before.before.before.before.before.requires.0.0 _ k.before.before.loop-test.true k.before.job.ensures k.node_of.ensures)
+    let k = c in
+    omega (arith, node-word c.requires.0.0 _ k.loop-j-test.true k.job-job.ensures k.node_of-x.ensures)
 
-element-write-new : tie.Need-element-write-new invariant-loop decreases-loop
+element-write-new : tie.Need-bounds-new-x-in-loop-j invariant-loop decreases-loop
 element-write-new c =
-    let k = c.before.before in
-    let n = node-word c.before.before.before.before.before.before.before.before.before.requires.0.0 _ k.before.before.loop-test.true k.before.job.ensures k.node_of.ensures in
-    omega (arith, n, k.before.before.before.loop.invariant.1.long)
+    let k = c in
+    let n = node-word c.requires.0.0 _ k.loop-j-test.true k.job-job.ensures k.node_of-x.ensures in
+    omega (arith, n, k.loop-j.invariant.1.long)
 
-add-j : tie.Need-overflow-add-j invariant-loop decreases-loop
+add-j : tie.Need-overflow_add-j invariant-loop decreases-loop
 add-j c = omega arith
 
-loop-less : tie.Need-loop-smaller invariant-loop decreases-loop
+loop-less : tie.Need-loop-j-smaller invariant-loop decreases-loop
 loop-less c = omega arith
 
-loop-again : tie.Need-loop-preserved invariant-loop decreases-loop
+loop-again : tie.Need-loop-j-preserved invariant-loop decreases-loop
 loop-again c =
-    let k = c.before.before in
-    let q = k.before in
-    let v = q.before.before.loop in
-    let n = node-word c.before.before.before.before.before.before.before.before.before.requires.0.0 _ q.before.loop-test.true q.job.ensures k.node_of.ensures in
-    (omega arith, jobs-more _ _ _ q.job.ensures v.invariant.1 (rw (← k.node_of.ensures) (kepts-one _ v.invariant.1.long n c.left-of.ensures)))
+    let k = c in
+    let q = k in
+    let v = q.loop-j in
+    let n = node-word c.requires.0.0 _ q.loop-j-test.true q.job-job.ensures k.node_of-x.ensures in
+    (omega arith, jobs-more _ _ _ q.job-job.ensures v.invariant.1 (rw (← k.node_of-x.ensures) (kepts-one _ v.invariant.1.long n c.left_of.ensures)))
 
-returns-2 : tie.Need-returns-2 invariant-loop decreases-loop
+returns-2 : tie.Need-returns invariant-loop decreases-loop
 returns-2 c =
-    let v = c.before.loop.invariant in
-    let e : c.before.loop.j ≡ c.before.before.before.before.before.args.at.jobs = omega arith in rw e at v.1
+    let v = c.loop-j.invariant in
+    let e : c.loop-j.j ≡ c.args.at.jobs = omega arith in rw e at v.1
 
-pub strike-loads-spec : {M : Type 1} → statement M
-strike-loads-spec =
+pub strike_loads_spec : {M : Type 1} → statement M
+strike_loads_spec =
     tie.close
     (tie.spec
     invariant-loop

@@ -12,77 +12,77 @@ use Rattle.settle.proofs.Mixed.{unasked, mixed-kept}
 use Rattle.settle.proofs.strike.strike_mixed.Statement.{statement}
 use Rattle.settle.proofs.strike.strike_mixed.Tie as tie
 
-abbrev invariant-loop : tie.invariant-loop
+abbrev invariant-loop : tie.invariant-loop-x
 invariant-loop s stops new₀ route shut n x₀ new x = (x ≤ n) × Upto route (stops - 1) (mixed_leaves (day_of s) (take stops route)) new₀ x new
 
-abbrev decreases-loop : tie.decreases-loop
+abbrev decreases-loop : tie.decreases-loop-x
 decreases-loop s stops new₀ route shut n x₀ new x = n - x
 
 -- each node has a word
-node : (c : tie.In-loop invariant-loop decreases-loop) → c.before.loop.x < 64
-node c = omega (arith, nodes-most c.before.before.before.before.before.before.before.requires.laid)
+node : (c : tie.In-loop-x invariant-loop decreases-loop) → c.loop-x.x < 64
+node c = omega (arith, nodes-most c.requires.laid)
 
 profile-requires : tie.Need-profile-requires invariant-loop decreases-loop
-profile-requires c κs = c.before.requires.laid
+profile-requires c κs = c.requires.laid
 
-returns : tie.Need-returns invariant-loop decreases-loop
+returns : tie.Need-returns-then-not-profile invariant-loop decreases-loop
 returns c =
-    let p = c.before in
-    let d = p.before.before in
-    let e = sym p.profile.ensures ∙ not-true _ c.if1.true in kepts-all d.requires.sized (λ y i b. unasked (day_of d.args.s.now) (take d.args.stops d.args.route.now) e y i)
+    let p = c in
+    let d = p in
+    let e = sym p.profile.ensures ∙ c.if-not-profile.true in kepts-all d.requires.sized (λ y i b. unasked (day_of d.args.s.now) (take d.args.stops d.args.route.now) e y i)
 
-look-over-requires : tie.Need-look-over-requires invariant-loop decreases-loop
-look-over-requires c κs = c.before.before.before.requires.laid
+look-over-requires : tie.Need-look_over-jobs-requires invariant-loop decreases-loop
+look-over-requires c κs = c.requires.laid
 
-sub-shut-legs : tie.Need-overflow-sub-shut-legs invariant-loop decreases-loop
-sub-shut-legs c = omega (arith, two-stops c.before.before.before.before.requires)
+sub-shut-legs : tie.Need-overflow_sub-stops invariant-loop decreases-loop
+sub-shut-legs c = omega (arith, two-stops c.requires)
 
-shut-legs-requires : tie.Need-shut-legs-requires invariant-loop decreases-loop
+shut-legs-requires : tie.Need-shut_legs-shut-requires invariant-loop decreases-loop
 shut-legs-requires c κs =
-    let r = c.before.before.before.before.requires in
+    let r = c.requires in
     let t = two-stops r in (r.long, omega (arith, t, r.most), λ i h. near-nodes r i (omega (arith, t)))
 
-loop-holds : tie.Need-loop-init invariant-loop decreases-loop
-loop-holds c = (omega arith, upto-none c.before.before.before.before.before.requires.sized refl)
+loop-holds : tie.Need-loop-x-init invariant-loop decreases-loop
+loop-holds c = (omega arith, upto-none c.requires.sized refl)
 
-mul-w : tie.Need-overflow-mul-w invariant-loop decreases-loop
+mul-w : tie.Need-offset_bounds-new-x invariant-loop decreases-loop
 mul-w c = omega (arith, node c)
 
-element-copy-out-w : tie.Need-element-copy-out-w invariant-loop decreases-loop
-element-copy-out-w c = omega (arith, node c, c.before.loop.invariant.1.long)
+element-copy-out-w : tie.Need-bounds-new-x invariant-loop decreases-loop
+element-copy-out-w c = omega (arith, node c.before, c.loop-x.invariant.1.long)
 
 cut-requires : tie.Need-cut-requires invariant-loop decreases-loop
-cut-requires c κs = node c.before
+cut-requires c κs = node c.before.before
 
-mul-new : tie.Need-overflow-mul-new invariant-loop decreases-loop
-mul-new c = omega (arith, node c.before.before)
+mul-new : tie.Need-offset_bounds-new-x-in-loop-x invariant-loop decreases-loop
+mul-new c = omega (arith, node c.before.before.before)
 
-element-write-new : tie.Need-element-write-new invariant-loop decreases-loop
-element-write-new c = omega (arith, node c.before.before, c.before.before.before.loop.invariant.1.long)
+element-write-new : tie.Need-bounds-new-x-in-loop-x invariant-loop decreases-loop
+element-write-new c = omega (arith, node c.before.before.before, c.loop-x.invariant.1.long)
 
-add-x : tie.Need-overflow-add-x invariant-loop decreases-loop
-add-x c = omega (arith, node c.before.before)
+add-x : tie.Need-overflow_add-x invariant-loop decreases-loop
+add-x c = omega (arith, node c.before.before.before)
 
-loop-less : tie.Need-loop-smaller invariant-loop decreases-loop
+loop-less : tie.Need-loop-x-smaller invariant-loop decreases-loop
 loop-less c = omega arith
 
-loop-again : tie.Need-loop-preserved invariant-loop decreases-loop
+loop-again : tie.Need-loop-x-preserved invariant-loop decreases-loop
 loop-again c =
-    let t = c.before.before in
-    let v = t.before.loop in
-    let h = t.before.before in
-    let o = h.before in
-    let p = o.before.before in
-    let r = p.before.before.requires in
-    let k = mixed-kept r o.look-over.ensures h.shut-legs.ensures v.x (node t) (sym p.profile.ensures ∙ not-false _ o.before.if1.false) c.cut.ensures in
-    (omega arith, upto-more (node t) v.invariant.1 (rw (v.invariant.1.rest v.x (omega arith)) at k))
+    let t = c in
+    let v = t.loop-x in
+    let h = t in
+    let o = h in
+    let p = o in
+    let r = p.requires in
+    let k = mixed-kept r o.look_over-jobs.ensures h.shut_legs-shut.ensures v.x (node c.before.before.before) (sym p.profile.ensures ∙ o.if-not-profile.false) c.cut.ensures in
+    (omega arith, upto-more (node c.before.before.before) v.invariant.1 (rw (v.invariant.1.rest v.x (omega arith)) at k))
 
-returns-2 : tie.Need-returns-2 invariant-loop decreases-loop
+returns-2 : tie.Need-returns invariant-loop decreases-loop
 returns-2 c =
-    upto_all (λ y h. past-nodes c.before.before.before.before.before.before.before.requires y (omega arith)) c.before.loop.invariant.1
+    upto_all (λ y h. past-nodes c.requires y (omega arith)) c.loop-x.invariant.1
 
-pub strike-mixed-spec : {M : Type 1} → statement M
-strike-mixed-spec =
+pub strike_mixed_spec : {M : Type 1} → statement M
+strike_mixed_spec =
     tie.close
     (tie.spec
     invariant-loop
