@@ -23,103 +23,103 @@ placing-requires : tie.Need-placing-requires
 placing-requires c κs = fine c.before.before.before.before.before.before
 
 close-requires : tie.Need-close-requires
-close-requires c κs = fine c.before.before.before.before.before.before
+close-requires c κs = fine c.before.before.before.before.before
 
-owed-requires : tie.Need-owed-requires
+owed-requires : tie.Need-owed-owed-requires
 owed-requires c κs =
-    let d = c.before.before.before.before in
+    let d = c in
     let k = d.requires.0 in
-    (k.laid, route-of (ready (state d) k.clear k.laid k.held (form-with _ _ _ k.form).0))
+    (k.laid, route-of (ready (state c.before.before.before) k.clear k.laid k.held (form-with _ _ _ k.form).0))
 
 exclude-requires : tie.Need-exclude-requires
-exclude-requires c κs = fine c.before.before.before.before.before.before.before.before
+exclude-requires c κs = fine c.before.before.before.before.before.before
 
 require-requires : tie.Need-require-requires
 require-requires c κs =
-    readable _ _ (fine c.before.before.before.before.before)
+    readable _ _ (fine c.before.before.before.before)
 
 level-requires : tie.Need-level-requires
-level-requires c κs = c.before.before.before.before.requires.0.held.levels
+level-requires c κs = c.requires.0.held.levels
 
 back-requires : tie.Need-back-requires
 back-requires c κs =
-    let d = c.before.before.before.before.before.before.before in
-    ((fine d, d.requires.0.held.levels), with-trail (state d) _ d.requires.0.laid d.requires.0.form)
+    let d = c in
+    ((fine c.before.before.before.before.before.before, d.requires.0.held.levels), with-trail (state c.before.before.before.before.before.before) _ d.requires.0.laid d.requires.0.form)
 
 same-requires : tie.Need-same-requires
 same-requires c κs = search rules
 
-same_length : tie.Need-same-length
+same_length : tie.Need-shape_of-trail-in-1
 same_length c = search rules
 
-returns : tie.Need-returns
+returns : tie.Need-returns-in-1
 unfolding act_of
 returns c = λ v.
-    let k = c.before.before in
-    let m = k.before.before.before.before in
-    let d = m.before.before.before in
-    rw m.match.keys1 (rw d.requires.0.laid.nodes at (k.placing.ensures d.args.levels.now))
+    let k = c in
+    let m = k in
+    let d = m in
+    rw m.in-1.is (rw d.requires.0.laid.nodes at (k.placing.ensures d.args.levels.now))
 
-same-length-2 : tie.Need-same-length-2
+same-length-2 : tie.Need-shape_of-trail-in-2
 same-length-2 c = search rules
 
-returns-2 : tie.Need-returns-2
+returns-2 : tie.Need-returns-in-2
 unfolding act_of
 returns-2 c = λ v.
-    let k = c.before.before in
-    let m = k.before.before.before.before in
-    let d = m.before.before.before in
-    rw m.match.keys2 (rw d.requires.0.laid.nodes at (k.close.ensures d.args.levels.now))
+    let k = c in
+    let m = k in
+    let d = m in
+    rw m.in-2.is (rw d.requires.0.laid.nodes at (k.close.ensures d.args.levels.now))
 
-same-length-3 : tie.Need-same-length-3
+same-length-3 : tie.Need-shape_of-trail-in-3
 same-length-3 c = search rules
 
-returns-3 : tie.Need-returns-3
+returns-3 : tie.Need-returns-in-3
 unfolding act_of route_of
 returns-3 c = λ v.
-    let k = c.before.before in
-    let o = k.before.before.before.before in
-    let m = o.before.before in
-    let d = m.before.before.before in
-    rw (m.match.keys3, sym o.owed.ensures) (rw d.requires.0.laid.nodes at (k.exclude.ensures d.args.levels.now))
+    let k = c in
+    let o = k in
+    let m = o in
+    let d = m in
+    rw (m.in-3.is, sym o.owed-owed.ensures) (rw d.requires.0.laid.nodes at (k.exclude.ensures d.args.levels.now))
 
-same-length-4 : tie.Need-same-length-4
+same-length-4 : tie.Need-shape_of-trail-in-4
 same-length-4 c = search rules
 
-returns-4 : tie.Need-returns-4
+returns-4 : tie.Need-returns-in-4
 unfolding act_of
 returns-4 c = λ v.
-    let k = c.before.before in
-    let m = k.before.before.before in
-    let d = m.before.before.before in
-    rw m.match.keys4 (rw d.requires.0.laid.nodes at (k.require.ensures d.args.sets.now d.args.levels.now))
+    let k = c in
+    let m = k in
+    let d = m in
+    rw m.in-4.is (rw d.requires.0.laid.nodes at (k.require.ensures d.args.sets.now d.args.levels.now))
 
-returns-5 : tie.Need-returns-5
+returns-5 : tie.Need-returns-in-6
 unfolding act_of
 returns-5 c = λ v.
-    let m = c.before.before in
-    let a = m.before.before.before.args in
-    rw m.match.keys5 (c.level.ensures a.route.now a.sets.now a.trail.now)
+    let m = c in
+    let a = m.args in
+    rw m.in-6.is (c.level.ensures a.route.now a.sets.now a.trail.now)
 
-same-length-5 : tie.Need-same-length-5
+same-length-5 : tie.Need-shape_of-trail-in-7
 same-length-5 c = search rules
 
-returns-6 : tie.Need-returns-6
+returns-6 : tie.Need-returns-in-7
 unfolding act_of
 returns-6 c = λ v.
-    let m = c.before.before.before.before.before in
-    let d = m.before.before.before in
-    rw m.match.keys6 (rw d.requires.0.laid.nodes at c.back.ensures)
+    let m = c in
+    let d = m in
+    rw m.in-7.is (rw d.requires.0.laid.nodes at c.back.ensures)
 
-returns-7 : tie.Need-returns-7
+returns-7 : tie.Need-returns-in_default
 unfolding act_of
 returns-7 c = λ v.
-    let x = c.before.match.rest in
-    let d = c.before.before.before.before in
+    let x = c.in_default.in_default-own.rest in
+    let d = c in
     simp (c.same.ensures, ne_eqb _ _ x.0.0.0.0.0.1, ne_eqb _ _ x.0.0.0.0.1, ne_eqb _ _ x.0.0.0.1, ne_eqb _ _ x.0.0.1, ne_eqb _ _ d.requires.1, ne_eqb _ _ x.0.1, ne_eqb _ _ x.1)
 
-pub change-spec : {M : Type 1} → statement M
-change-spec =
+pub change_spec : {M : Type 1} → statement M
+change_spec =
     tie.close
     (tie.spec
     placing-requires

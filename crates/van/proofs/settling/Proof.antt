@@ -8,29 +8,29 @@ use borrow.Author.Rules.{rules}
 use Rattle.van.proofs.settling.Statement.{statement}
 use Rattle.van.proofs.settling.Tie as tie
 
-settle-requires : tie.Need-settle-requires
-settle-requires c κs = let d = c.before.before.before.before.before in ((ready-unmarked d.requires.0.0, refl, omega (arith, d.requires.0.2)), d.requires.1)
+settle-requires : tie.Need-settle-rounds-requires
+settle-requires c κs = let d = c in ((ready-unmarked d.requires.0.0, refl, omega (arith, d.requires.0.2)), d.requires.1)
 
-settle-requires-2 : tie.Need-settle-requires-2
+settle-requires-2 : tie.Need-settle-requires
 settle-requires-2 c κs =
-    let g = c.before.before.before in
-    let d = g.before.before.before.before.before.before in
+    let g = c in
+    let d = g in
     let r = d.requires.0.0 in
-    let new = ready-settled _ r g.settle.ensures in
-    ((r.sized, new.sized, nodes-most r.laid, past_same r new), (d.requires.0.1, g.settle.ensures.still))
+    let new = ready-settled _ r g.settle-rounds.ensures in
+    ((r.sized, new.sized, nodes-most r.laid, past_same r new), (d.requires.0.1, g.settle-rounds.ensures.still))
 
-same_length : tie.Need-same-length
+same_length : tie.Need-shape_of-trail
 same_length c = search rules
 
 returns : tie.Need-returns
 returns c = λ levels.
-    let k = c.before.before in
-    let g = k.before.before.before.before in
-    let a = g.before.before.before.before.before.before.args in
-    settled_is _ _ _ _ g.settle.ensures ∙ k.settle2.ensures a.route.now levels
+    let k = c in
+    let g = k in
+    let a = g.args in
+    settled_is _ _ _ _ g.settle-rounds.ensures ∙ k.settle.ensures a.route.now levels
 
-pub settling-spec : {M : Type 1} → statement M
-settling-spec =
+pub settling_spec : {M : Type 1} → statement M
+settling_spec =
     tie.close
     (tie.spec
     settle-requires
