@@ -21,7 +21,7 @@ use Rattle.fleet.specs.contracts.Fleet.{the_type}
 use Rattle.fleet.specs.contracts.wards.Wards as wards
 
 -- each state of an array is held
-each-held : (xs : List State) (us : List Val) → shadow (each (state.the_field).row.Denot (state.the_field).row.own_val (map (state.the_field).into xs) us)
+each-held : (xs : List State) (us : List Val) → shadow (each (state.the_row).Denot (state.the_row).own_val xs us)
     → (j : ℕ) → j < length xs → Held (get_or xs j no_state)
 each-held [] us p j h = absurd (omega arith)
 each-held (x ∷ xs) [] p j h = absurd p
@@ -32,7 +32,7 @@ pub is-held-all : (f : Fleet) (vs : List Val) → Is (row the_type) f vs → Hel
 unfolding state_in
 is-held-all f vs g =
     let a = g.1.1.0 in
-    let long : length f.vans ≡ 8 = sym (length-map f.vans (state.the_field).into) ∙ a.1.0.1 in
+    let long : length f.vans ≡ 8 = a.1.0.1 in
     record { eight = long; each = λ j h. each-held f.vans a.0 a.1.1 j (omega (arith, long, h)) }
 
 -- sets of wards are words

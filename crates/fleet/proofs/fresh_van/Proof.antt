@@ -7,7 +7,7 @@ use Rattle.board.proofs.FreshForm.{fresh-alike}
 use Rattle.fleet.proofs.fresh_van.Statement.{statement}
 use Rattle.fleet.proofs.fresh_van.Tie as tie
 
-bit-requires : tie.Need-bit-requires
+bit-requires : tie.Need-bit-one-requires
 bit-requires c κs = search rules
 
 fresh-requires : tie.Need-fresh-requires
@@ -15,9 +15,9 @@ fresh-requires c κs = search rules
 
 returns : tie.Need-returns
 returns c =
-    let b = c.before in
-    let p = b.before.before.requires in
-    c.fresh.ensures ∙ fresh-alike _ _ _ (λ y e. ap₂ admits (p.2.at y (omega (arith, (is-inner _ y e).1))) b.bit.ensures)
+    let b = c in
+    let p = b.requires in
+    c.fresh.ensures ∙ fresh-alike _ _ _ (λ y e. ap₂ admits (p.2.at y (omega (arith, (is-inner _ y e).1))) b.bit-one.ensures)
 
-pub fresh-van-spec : {M : Type 1} → statement M
-fresh-van-spec = tie.close (tie.spec bit-requires fresh-requires returns)
+pub fresh_van_spec : {M : Type 1} → statement M
+fresh_van_spec = tie.close (tie.spec bit-requires fresh-requires returns)

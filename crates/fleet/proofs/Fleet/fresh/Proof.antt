@@ -13,53 +13,53 @@ use Rattle.fleet.proofs.FleetLaws.{fleet_made}
 use Rattle.fleet.proofs.Fleet.fresh.Statement.{statement}
 use Rattle.fleet.proofs.Fleet.fresh.Tie as tie
 
-abbrev invariant-loop : tie.invariant-loop
+abbrev invariant-loop : tie.invariant-loop-j
 invariant-loop sheet at classes vans₀ v j₀ vans j = (j ≤ v) × (v ≤ 8) × Turned 8 (λ k. fresh_state at.nodes (admitted sheet k)) (λ k. no_state) no_state j vans
 
-abbrev decreases-loop : tie.decreases-loop
+abbrev decreases-loop : tie.decreases-loop-j
 decreases-loop sheet at classes vans₀ v j₀ vans j = v - j
 
-read-classes-requires : tie.Need-read-classes-requires invariant-loop decreases-loop
+read-classes-requires : tie.Need-read_classes-requires invariant-loop decreases-loop
 read-classes-requires c κs = search rules
 
-none-requires : tie.Need-none-requires invariant-loop decreases-loop
+none-requires : tie.Need-none-vans-requires invariant-loop decreases-loop
 none-requires c κs = search rules
 
-loop-holds : tie.Need-loop-init invariant-loop decreases-loop
+loop-holds : tie.Need-loop-j-init invariant-loop decreases-loop
 loop-holds c =
-    let p = c.before.before.before.before.requires in
-    (omega arith, omega (arith, p.vans, p.fine.vans-high), turned_none 8 _ _ no_state _ refl (λ k h. get_or-replicate 8 k c.none.result no_state h ∙ c.none.ensures))
+    let p = c.requires in
+    (omega arith, omega (arith, p.vans, p.fine.vans-high), turned_none 8 _ _ no_state _ refl (λ k h. get_or-replicate 8 k c.none-vans.result no_state h ∙ c.none-vans.ensures))
 
-fresh-van-requires : tie.Need-fresh-van-requires invariant-loop decreases-loop
+fresh-van-requires : tie.Need-fresh_van-requires invariant-loop decreases-loop
 fresh-van-requires c κs =
-    let n = c.before.before.before in
-    (n.before.before.before.before.requires, c.before.loop-test.true, n.before.read-classes.ensures)
+    let n = c in
+    (n.requires, c.loop-j-test.true, n.read_classes.ensures)
 
-mul-vans : tie.Need-overflow-mul-vans invariant-loop decreases-loop
-mul-vans c = let v = c.before.before.before.loop.invariant in omega (arith, v.1, v.2.long)
+mul-vans : tie.Need-offset_bounds-vans-j invariant-loop decreases-loop
+mul-vans c = let v = c.loop-j.invariant in omega (arith, v.1, v.2.long)
 
-array-set-from-vans : tie.Need-array-set-from-vans invariant-loop decreases-loop
-array-set-from-vans c = let v = c.before.before.before.loop.invariant in omega (arith, v.1, v.2.long)
+array-set-from-vans : tie.Need-bounds-vans-j invariant-loop decreases-loop
+array-set-from-vans c = let v = c.loop-j.invariant in omega (arith, v.1, v.2.long)
 
-add-j : tie.Need-overflow-add-j invariant-loop decreases-loop
+add-j : tie.Need-overflow_add-j invariant-loop decreases-loop
 add-j c = omega arith
 
-loop-less : tie.Need-loop-smaller invariant-loop decreases-loop
+loop-less : tie.Need-loop-j-smaller invariant-loop decreases-loop
 loop-less c = omega arith
 
-loop-again : tie.Need-loop-preserved invariant-loop decreases-loop
-loop-again c = let v = c.before.before.before.loop.invariant in (omega arith, v.1, turned_more _ v.2 (omega arith) c.fresh-van.ensures)
+loop-again : tie.Need-loop-j-preserved invariant-loop decreases-loop
+loop-again c = let v = c.loop-j.invariant in (omega arith, v.1, turned_more _ v.2 (omega arith) c.fresh_van.ensures)
 
 returns : tie.Need-returns invariant-loop decreases-loop
 unfolding fresh_fleet
 returns c =
-    let l = c.before in
-    let a = l.before.before.before.before.before.args in
-    let e : l.loop.j ≡ a.at.vans = omega arith in
-    ap fleet_made (turned-all l.loop.invariant.2) ∙ ap (λ (i : ℕ). fleet_of (λ k. cond (ltb k i) (fresh_state a.at.nodes (admitted a.sheet.now k)) no_state)) e
+    let l = c in
+    let a = l.args in
+    let e : l.loop-j.j ≡ a.at.vans = omega arith in
+    ap fleet_made (turned-all l.loop-j.invariant.2) ∙ ap (λ (i : ℕ). fleet_of (λ k. cond (ltb k i) (fresh_state a.at.nodes (admitted a.sheet.now k)) no_state)) e
 
-pub fresh-spec : {M : Type 1} → statement M
-fresh-spec =
+pub fresh_spec : {M : Type 1} → statement M
+fresh_spec =
     tie.close
     (tie.spec
     invariant-loop

@@ -23,55 +23,55 @@ first f = bit_or (bit_or (bit_or (bit_or f.stops f.depth) f.records) f.marks) f.
 abbrev arrays : List ℕ → List ℕ → List ℕ → State
 arrays route sets levels = state_of route 0 sets 0 0 levels 0 0
 
-abbrev invariant-loop : tie.invariant-loop
+abbrev invariant-loop : tie.invariant-loop-i
 invariant-loop route sets levels all₀ i₀ all i = (i ≤ 64) × (eqb all 0 ≡ eqb all₀ 0 && all_below i (entry_none (arrays route sets levels)))
 
-abbrev decreases-loop : tie.decreases-loop
+abbrev decreases-loop : tie.decreases-loop-i
 decreases-loop route sets levels all₀ i₀ all i = 64 - i
 
-loop-holds : tie.Need-loop-init invariant-loop decreases-loop
-loop-holds c = let a = c.before.before.before.before.args in (omega arith, rw (below_none (entry_none (arrays a.route.now a.sets.now a.levels.now))) (sym (and-true (eqb (first a.f) 0))))
+loop-holds : tie.Need-loop-i-init invariant-loop decreases-loop
+loop-holds c = let a = c.args in (omega arith, rw (below_none (entry_none (arrays a.route.now a.sets.now a.levels.now))) (sym (and-true (eqb (first a.f) 0))))
 
-mul-all : tie.Need-overflow-mul-all invariant-loop decreases-loop
+mul-all : tie.Need-offset_bounds-route-i invariant-loop decreases-loop
 mul-all c = omega arith
 
-element-copy-out-all : tie.Need-element-copy-out-all invariant-loop decreases-loop
+element-copy-out-all : tie.Need-bounds-route-i invariant-loop decreases-loop
 element-copy-out-all c = omega arith
 
-mul-all-2 : tie.Need-overflow-mul-all-2 invariant-loop decreases-loop
+mul-all-2 : tie.Need-offset_bounds-levels-i invariant-loop decreases-loop
 mul-all-2 c = omega arith
 
-element-copy-out-all-2 : tie.Need-element-copy-out-all-2 invariant-loop decreases-loop
+element-copy-out-all-2 : tie.Need-bounds-levels-i invariant-loop decreases-loop
 element-copy-out-all-2 c = omega arith
 
-mul-all-3 : tie.Need-overflow-mul-all-3 invariant-loop decreases-loop
+mul-all-3 : tie.Need-offset_bounds-sets-i invariant-loop decreases-loop
 mul-all-3 c = omega arith
 
-element-copy-out-all-3 : tie.Need-element-copy-out-all-3 invariant-loop decreases-loop
+element-copy-out-all-3 : tie.Need-bounds-sets-i invariant-loop decreases-loop
 element-copy-out-all-3 c = omega arith
 
-add-i : tie.Need-overflow-add-i invariant-loop decreases-loop
+add-i : tie.Need-overflow_add-i invariant-loop decreases-loop
 add-i c = omega arith
 
-loop-less : tie.Need-loop-smaller invariant-loop decreases-loop
+loop-less : tie.Need-loop-i-smaller invariant-loop decreases-loop
 loop-less c = omega arith
 
-loop-again : tie.Need-loop-preserved invariant-loop decreases-loop
+loop-again : tie.Need-loop-i-preserved invariant-loop decreases-loop
 loop-again c =
-    let d = c.before.before.before.before in
-    let a = d.before.before.before.before.before.args in
-    (omega arith, idle-goes (arrays a.route.now a.sets.now a.levels.now) d.loop.i d.loop.all (eqb (first a.f) 0) d.loop.invariant.1)
+    let d = c in
+    let a = d.args in
+    (omega arith, idle-goes (arrays a.route.now a.sets.now a.levels.now) d.loop-i.i d.loop-i.all (eqb (first a.f) 0) d.loop-i.invariant.1)
 
 returns : tie.Need-returns invariant-loop decreases-loop
 unfolding idle
 returns c =
-    let a = c.before.before.before.before.before.before.args in
+    let a = c.args in
     let s = state_with a.route.now a.sets.now a.levels.now a.f in
-    let e : c.before.loop.i ≡ 64 = omega arith in
-    idle-done s (c.before.loop.invariant.1 ∙ ap (λ (i : ℕ). eqb (first a.f) 0 && all_below i (entry_none s)) e ∙ ap (λ (b : Bool). b && all_below 64 (entry_none s)) (idle-starts s))
+    let e : c.loop-i.i ≡ 64 = omega arith in
+    idle-done s (c.loop-i.invariant.1 ∙ ap (λ (i : ℕ). eqb (first a.f) 0 && all_below i (entry_none s)) e ∙ ap (λ (b : Bool). b && all_below 64 (entry_none s)) (idle-starts s))
 
-pub is-idle-spec : {M : Type 1} → statement M
-is-idle-spec =
+pub is_idle_spec : {M : Type 1} → statement M
+is_idle_spec =
     tie.close
     (tie.spec
     invariant-loop

@@ -5,17 +5,17 @@ use borrow.Author.Rules.{rules}
 use Rattle.fleet.proofs.form.van_ok.Statement.{statement}
 use Rattle.fleet.proofs.form.van_ok.Tie as tie
 
-returns : tie.Need-returns
-returns c = sym (depth-fails _ _ _ _ (ne_eqb _ _ c.if1.true))
+returns : tie.Need-returns-then-f-depth
+returns c = sym (depth-fails _ _ _ _ (ne_eqb _ _ c.if-f-depth.true))
 
-returns-2 : tie.Need-returns-2
-returns-2 c = sym (must-fails _ _ _ _ (not-true _ c.if2.true))
+returns-2 : tie.Need-returns-then-not-first-f
+returns-2 c = sym (must-fails _ _ _ _ (c.if-not-first-f.true))
 
-in-form-requires : tie.Need-in-form-requires
+in-form-requires : tie.Need-in_form-requires
 in-form-requires c κs = search rules
 
-returns-3 : tie.Need-returns-3
-returns-3 c = c.in-form.ensures ∙ sym (form-decides _ _ _ _ (eq-eqb _ _ c.before.before.before.if1.false) (not-false _ c.before.if2.false))
+returns-3 : tie.Need-returns
+returns-3 c = c.in_form.ensures ∙ sym (form-decides _ _ _ _ (eq-eqb _ _ c.if-f-depth.false) (c.if-not-first-f.false))
 
-pub van-ok-spec : {M : Type 1} → statement M
-van-ok-spec = tie.close (tie.spec returns returns-2 in-form-requires returns-3)
+pub van_ok_spec : {M : Type 1} → statement M
+van_ok_spec = tie.close (tie.spec returns returns-2 in-form-requires returns-3)

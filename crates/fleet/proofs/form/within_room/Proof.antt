@@ -25,52 +25,52 @@ told : (figures : List (List ℕ)) (v room : ℕ) → v ≤ 8 → (routes sets l
 told figures v room l routes sets levels =
     below-same v _ _ (λ j h. ap (λ (s : State). leb s.records room) (sym (state-of (row_state routes sets levels figures) j (omega arith))))
 
-abbrev invariant-loop : tie.invariant-loop
+abbrev invariant-loop : tie.invariant-loop-j
 invariant-loop figures v room j₀ j = (j ≤ v) × (v ≤ 8) × (all_below j (test figures room) ≡ true)
 
-abbrev decreases-loop : tie.decreases-loop
+abbrev decreases-loop : tie.decreases-loop-j
 decreases-loop figures v room j₀ j = v - j
 
-loop-holds : tie.Need-loop-init invariant-loop decreases-loop
+loop-holds : tie.Need-loop-j-init invariant-loop decreases-loop
 loop-holds c = (omega arith, c.requires.0, below_none _)
 
-mul-figures-in : tie.Need-overflow-mul-figures-in invariant-loop decreases-loop
+mul-figures-in : tie.Need-offset_bounds-figures-j invariant-loop decreases-loop
 mul-figures-in c = omega arith
 
-index-1-figures-in : tie.Need-bounds-1-figures-in invariant-loop decreases-loop
+index-1-figures-in : tie.Need-bounds-figures-j invariant-loop decreases-loop
 index-1-figures-in c = omega arith
 
-figures-in-requires : tie.Need-figures-in-requires invariant-loop decreases-loop
-figures-in-requires c κs = let d = c.before.before in d.before.requires.1.wide d.loop.j (omega arith)
+figures-in-requires : tie.Need-figures_in-f-requires invariant-loop decreases-loop
+figures-in-requires c κs = let d = c in d.requires.1.wide d.loop-j.j (omega arith)
 
-returns : tie.Need-returns invariant-loop decreases-loop
+returns : tie.Need-returns-then-room-f invariant-loop decreases-loop
 returns c =
-    let g = c.before.before in
-    let d = g.before.before.before in
-    let a = d.before.args in
-    λ routes sets levels. sym (below_fails a.v d.loop.j (test a.figures.now a.room) g.before.before.loop-test.true (lt-leb _ _ (rw g.figures-in.ensures at c.if1.true)))
-    ∙ told a.figures.now a.v a.room d.before.requires.0 routes sets levels
+    let g = c in
+    let d = g in
+    let a = d.args in
+    λ routes sets levels. sym (below_fails a.v d.loop-j.j (test a.figures.now a.room) g.loop-j-test.true (lt-leb _ _ (rw g.figures_in-f.ensures at c.if-room-f.true)))
+    ∙ told a.figures.now a.v a.room d.requires.0 routes sets levels
 
-add-j : tie.Need-overflow-add-j invariant-loop decreases-loop
+add-j : tie.Need-overflow_add-j invariant-loop decreases-loop
 add-j c = omega arith
 
-loop-less : tie.Need-loop-smaller invariant-loop decreases-loop
+loop-less : tie.Need-loop-j-smaller invariant-loop decreases-loop
 loop-less c = omega arith
 
-loop-again : tie.Need-loop-preserved invariant-loop decreases-loop
+loop-again : tie.Need-loop-j-preserved invariant-loop decreases-loop
 loop-again c =
-    let g = c.before.before in
-    let d = g.before.before.before in
-    (omega arith, d.loop.invariant.1, below_next d.loop.j (test d.before.args.figures.now d.before.args.room) d.loop.invariant.2 (le-leb _ _ (rw g.figures-in.ensures at c.if1.false)))
+    let g = c in
+    let d = g in
+    (omega arith, d.loop-j.invariant.1, below_next d.loop-j.j (test d.args.figures.now d.args.room) d.loop-j.invariant.2 (le-leb _ _ (rw g.figures_in-f.ensures at c.if-room-f.false)))
 
-returns-2 : tie.Need-returns-2 invariant-loop decreases-loop
+returns-2 : tie.Need-returns invariant-loop decreases-loop
 returns-2 c =
-    let d = c.before in
-    let a = d.before.args in
-    λ routes sets levels. below-done a.v d.loop.j (test a.figures.now a.room) d.loop.invariant.0 c.loop-test.false d.loop.invariant.2 ∙ told a.figures.now a.v a.room d.before.requires.0 routes sets levels
+    let d = c in
+    let a = d.args in
+    λ routes sets levels. below-done a.v d.loop-j.j (test a.figures.now a.room) d.loop-j.invariant.0 c.loop-j-test.false d.loop-j.invariant.2 ∙ told a.figures.now a.v a.room d.requires.0 routes sets levels
 
-pub within-room-spec : {M : Type 1} → statement M
-within-room-spec =
+pub within_room_spec : {M : Type 1} → statement M
+within_room_spec =
     tie.close
     (tie.spec
     invariant-loop

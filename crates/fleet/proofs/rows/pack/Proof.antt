@@ -7,12 +7,12 @@ use Rattle.fleet.proofs.rows.pack.Lts as lts
 use Rattle.fleet.proofs.rows.figures_in.Reads as figures-in-reads
 
 -- src/rows.rt:81:9
-figures-in-requires : tie.Need-figures-in-requires
+figures-in-requires : tie.Need-figures_in-f-requires
 figures-in-requires c κs = search rules
 
 -- src/rows.rt:72:1
 returns : tie.Need-returns
-returns c = rw c.before.before.before.figures-in.ensures refl
+returns c = rw c.figures_in-f.ensures refl
 
-pub pack-spec : {M : Type 1} → statement M
-pack-spec = tie.close (tie.spec figures-in-requires returns)
+pub pack_spec : {M : Type 1} → statement M
+pack_spec = tie.close (tie.spec figures-in-requires returns)

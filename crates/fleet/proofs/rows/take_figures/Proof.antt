@@ -11,52 +11,52 @@ use borrow.Author.Rules.{rules}
 use Rattle.fleet.proofs.rows.take_figures.Statement.{statement}
 use Rattle.fleet.proofs.rows.take_figures.Tie as tie
 
-abbrev invariant-loop : tie.invariant-loop
+abbrev invariant-loop : tie.invariant-loop-j
 invariant-loop rows₀ vans j₀ rows j = Figured rows × Taking (λ (s : State). row_of (figures_of s)) vans rows₀ j rows
 
-abbrev decreases-loop : tie.decreases-loop
+abbrev decreases-loop : tie.decreases-loop-j
 decreases-loop rows₀ vans j₀ rows j = 8 - j
 
-loop-holds : tie.Need-loop-init invariant-loop decreases-loop
-loop-holds c = (c.before.requires, taking-none (λ (s : State). row_of (figures_of s)) c.before.args.fleet.vans _ c.before.requires.eight)
+loop-holds : tie.Need-loop-j-init invariant-loop decreases-loop
+loop-holds c = (c.requires, taking-none (λ (s : State). row_of (figures_of s)) c.args.fleet.vans _ c.requires.eight)
 
-mul-s : tie.Need-overflow-mul-s invariant-loop decreases-loop
+mul-s : tie.Need-offset_bounds-vans-j invariant-loop decreases-loop
 mul-s c = omega arith
 
-array-copy-out-s : tie.Need-array-copy-out-s invariant-loop decreases-loop
+array-copy-out-s : tie.Need-bounds-vans-j invariant-loop decreases-loop
 array-copy-out-s c = omega arith
 
-mul-put-figures : tie.Need-overflow-mul-put-figures invariant-loop decreases-loop
+mul-put-figures : tie.Need-offset_bounds-rows-j invariant-loop decreases-loop
 mul-put-figures c = omega arith
 
-index-1-put-figures : tie.Need-bounds-1-put-figures invariant-loop decreases-loop
+index-1-put-figures : tie.Need-bounds-rows-j invariant-loop decreases-loop
 index-1-put-figures c = omega arith
 
-figures-of-requires : tie.Need-figures-of-requires invariant-loop decreases-loop
+figures-of-requires : tie.Need-figures_of-requires invariant-loop decreases-loop
 figures-of-requires c κs = search rules
 
-put-figures-requires : tie.Need-put-figures-requires invariant-loop decreases-loop
-put-figures-requires c κs = let d = c.before.before.before.before in d.loop.invariant.0.wide d.loop.j (omega arith)
+put-figures-requires : tie.Need-put_figures-requires invariant-loop decreases-loop
+put-figures-requires c κs = let d = c in d.loop-j.invariant.0.wide d.loop-j.j (omega arith)
 
-add-j : tie.Need-overflow-add-j invariant-loop decreases-loop
+add-j : tie.Need-overflow_add-j invariant-loop decreases-loop
 add-j c = omega arith
 
-loop-less : tie.Need-loop-smaller invariant-loop decreases-loop
+loop-less : tie.Need-loop-j-smaller invariant-loop decreases-loop
 loop-less c = omega arith
 
-loop-again : tie.Need-loop-preserved invariant-loop decreases-loop
+loop-again : tie.Need-loop-j-preserved invariant-loop decreases-loop
 loop-again c =
-    let d = c.before.before.before.before.before in
-    let a = d.before.before in
-    let own = ap (λ (s : State). row_of (figures_of s)) (state-any a.args.fleet d.loop.j _ (is-held-all a.args.fleet _ a.well-formed.0).eight (omega arith)) in
-    rw (c.put-figures.ensures, c.before.figures-of.ensures)
-    (figured-set _ d.loop.j _ d.loop.invariant.0, taking-more (λ (s : State). row_of (figures_of s)) a.args.fleet.vans a.args.rows.now d.loop.j d.loop.invariant.1 (omega arith) own)
+    let d = c in
+    let a = d in
+    let own = ap (λ (s : State). row_of (figures_of s)) (state-any a.args.fleet d.loop-j.j _ (is-held-all a.args.fleet _ a.well_formed.0).eight (omega arith)) in
+    rw (c.put_figures.ensures, c.figures_of.ensures)
+    (figured-set _ d.loop-j.j _ d.loop-j.invariant.0, taking-more (λ (s : State). row_of (figures_of s)) a.args.fleet.vans a.args.rows.now d.loop-j.j d.loop-j.invariant.1 (omega arith) own)
 
 returns : tie.Need-returns invariant-loop decreases-loop
-returns c = turned-end c.before.loop.invariant.1.1 (omega arith)
+returns c = turned-end c.loop-j.invariant.1.1 (omega arith)
 
-pub take-figures-spec : {M : Type 1} → statement M
-take-figures-spec =
+pub take_figures_spec : {M : Type 1} → statement M
+take_figures_spec =
     tie.close
     (tie.spec
     invariant-loop

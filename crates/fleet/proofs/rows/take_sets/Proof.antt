@@ -8,45 +8,45 @@ use Rattle.fleet.proofs.Told.{is-held-all}
 use Rattle.fleet.proofs.rows.take_sets.Statement.{statement}
 use Rattle.fleet.proofs.rows.take_sets.Tie as tie
 
-abbrev invariant-loop : tie.invariant-loop
+abbrev invariant-loop : tie.invariant-loop-j
 invariant-loop rows₀ vans j₀ rows j = Taking (λ (s : State). s.sets) vans rows₀ j rows
 
-abbrev decreases-loop : tie.decreases-loop
+abbrev decreases-loop : tie.decreases-loop-j
 decreases-loop rows₀ vans j₀ rows j = 8 - j
 
-loop-holds : tie.Need-loop-init invariant-loop decreases-loop
-loop-holds c = taking-none (λ (s : State). s.sets) c.before.args.fleet.vans _ c.before.requires
+loop-holds : tie.Need-loop-j-init invariant-loop decreases-loop
+loop-holds c = taking-none (λ (s : State). s.sets) c.args.fleet.vans _ c.requires
 
-mul-s : tie.Need-overflow-mul-s invariant-loop decreases-loop
+mul-s : tie.Need-offset_bounds-vans-j invariant-loop decreases-loop
 mul-s c = omega arith
 
-array-copy-out-s : tie.Need-array-copy-out-s invariant-loop decreases-loop
+array-copy-out-s : tie.Need-bounds-vans-j invariant-loop decreases-loop
 array-copy-out-s c = omega arith
 
-mul-one : tie.Need-overflow-mul-one invariant-loop decreases-loop
+mul-one : tie.Need-offset_bounds-rows-j invariant-loop decreases-loop
 mul-one c = omega arith
 
-element-set-from-one : tie.Need-element-set-from-one invariant-loop decreases-loop
+element-set-from-one : tie.Need-bounds-rows-j invariant-loop decreases-loop
 element-set-from-one c = omega arith
 
-add-j : tie.Need-overflow-add-j invariant-loop decreases-loop
+add-j : tie.Need-overflow_add-j invariant-loop decreases-loop
 add-j c = omega arith
 
-loop-less : tie.Need-loop-smaller invariant-loop decreases-loop
+loop-less : tie.Need-loop-j-smaller invariant-loop decreases-loop
 loop-less c = omega arith
 
-loop-again : tie.Need-loop-preserved invariant-loop decreases-loop
+loop-again : tie.Need-loop-j-preserved invariant-loop decreases-loop
 loop-again c =
-    let d = c.before.before.before in
-    let a = d.before.before in
-    let own = ap (λ (s : State). s.sets) (state-any a.args.fleet d.loop.j _ (is-held-all a.args.fleet _ a.well-formed.0).eight (omega arith)) in
-    taking-more (λ (s : State). s.sets) a.args.fleet.vans a.args.rows.now d.loop.j d.loop.invariant (omega arith) own
+    let d = c in
+    let a = d in
+    let own = ap (λ (s : State). s.sets) (state-any a.args.fleet d.loop-j.j _ (is-held-all a.args.fleet _ a.well_formed.0).eight (omega arith)) in
+    taking-more (λ (s : State). s.sets) a.args.fleet.vans a.args.rows.now d.loop-j.j d.loop-j.invariant (omega arith) own
 
 returns : tie.Need-returns invariant-loop decreases-loop
-returns c = turned-end c.before.loop.invariant.1 (omega arith)
+returns c = turned-end c.loop-j.invariant.1 (omega arith)
 
-pub take-sets-spec : {M : Type 1} → statement M
-take-sets-spec =
+pub take_sets_spec : {M : Type 1} → statement M
+take_sets_spec =
     tie.close
     (tie.spec
     invariant-loop

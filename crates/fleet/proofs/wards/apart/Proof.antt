@@ -12,7 +12,7 @@ within-requires : tie.Need-within-requires
 within-requires c κs = search rules
 
 returns : tie.Need-returns
-returns c = c.within.ensures ∙ ap (λ (w : ℕ). within c.before.before.args.a w) c.before.minus.ensures
+returns c = c.within.ensures ∙ ap (λ (w : ℕ). within c.args.a w) c.minus.ensures
 
-pub apart-spec : {M : Type 1} → statement M
-apart-spec = tie.close (tie.spec minus-requires within-requires returns)
+pub apart_spec : {M : Type 1} → statement M
+apart_spec = tie.close (tie.spec minus-requires within-requires returns)

@@ -13,81 +13,81 @@ use borrow.Author.Rules.{rules}
 use Rattle.fleet.proofs.wards.gather.Statement.{statement}
 use Rattle.fleet.proofs.wards.gather.Tie as tie
 
-abbrev invariant-loop : tie.invariant-loop
+abbrev invariant-loop : tie.invariant-loop-j
 invariant-loop routes sets figures n v all₀ j₀ all j = (j ≤ v) × (v ≤ 8) × ((levels : List (List ℕ)) → HasWards n j (fleet_with routes sets levels figures) all)
 
-abbrev decreases-loop : tie.decreases-loop
+abbrev decreases-loop : tie.decreases-loop-j
 decreases-loop routes sets figures n v all₀ j₀ all j = v - j
 
 -- one van more
-more : (c : tie.After-with-van invariant-loop decreases-loop) → let d = c.before.before.before.before.before.before in let a = d.before.before.args in (levels : List (List ℕ))
-    → HasWards a.n (d.loop.j + 1) (fleet_with a.routes.now a.sets.now levels a.figures.now) c.with-van.result
+more : (c : tie.After-with_van-all invariant-loop decreases-loop) → let d = c in let a = d.args in (levels : List (List ℕ))
+    → HasWards a.n (d.loop-j.j + 1) (fleet_with a.routes.now a.sets.now levels a.figures.now) c.with_van-all.result
 more c levels =
-    let g = c.before.before.before in
-    let d = g.before.before.before in
-    let a = d.before.before.args in
-    let j = d.loop.j in
+    let g = c in
+    let d = g in
+    let a = d.args in
+    let j = d.loop-j.j in
     let s = row_state a.routes.now a.sets.now levels a.figures.now in
-    let w = d.loop.all in
+    let w = d.loop-j.all in
     let f = figures_in (get_or a.figures.now j []) in
-    let adds = adds-any a.n w (get_or a.routes.now j []) f.stops (get_or a.sets.now j []) f.marks f.must c.with-van.result (rw g.figures-in.ensures at c.with-van.ensures) in
-    wards-more a.n (d.before.before.requires.1 j g.before.before.loop-test.true).0 (fleet_with a.routes.now a.sets.now levels a.figures.now) j w c.with-van.result (d.loop.invariant.2 levels)
-    (subst (λ (x : State). AddsVan a.n w (board_of x) c.with-van.result) (sym (state-of s j (omega arith))) adds)
+    let adds = adds-any a.n w (get_or a.routes.now j []) f.stops (get_or a.sets.now j []) f.marks f.must c.with_van-all.result (rw g.figures_in-f.ensures at c.with_van-all.ensures) in
+    wards-more a.n (d.requires.1 j g.loop-j-test.true).0 (fleet_with a.routes.now a.sets.now levels a.figures.now) j w c.with_van-all.result (d.loop-j.invariant.2 levels)
+    (subst (λ (x : State). AddsVan a.n w (board_of x) c.with_van-all.result) (sym (state-of s j (omega arith))) adds)
 
-none-requires : tie.Need-none-requires invariant-loop decreases-loop
+none-requires : tie.Need-none-all-requires invariant-loop decreases-loop
 none-requires c κs = search rules
 
-loop-holds : tie.Need-loop-init invariant-loop decreases-loop
+loop-holds : tie.Need-loop-j-init invariant-loop decreases-loop
 loop-holds c =
-    let d = c.before in
+    let d = c in
     let a = d.args in
-    (omega arith, d.requires.0.0, λ levels. rw c.none.ensures (wards-none a.n (fleet_with a.routes.now a.sets.now levels a.figures.now)))
+    (omega arith, d.requires.0.0, λ levels. rw c.none-all.ensures (wards-none a.n (fleet_with a.routes.now a.sets.now levels a.figures.now)))
 
-mul-figures-in : tie.Need-overflow-mul-figures-in invariant-loop decreases-loop
+mul-figures-in : tie.Need-offset_bounds-figures-j invariant-loop decreases-loop
 mul-figures-in c = omega arith
 
-index-1-figures-in : tie.Need-bounds-1-figures-in invariant-loop decreases-loop
+index-1-figures-in : tie.Need-bounds-figures-j invariant-loop decreases-loop
 index-1-figures-in c = omega arith
 
-figures-in-requires : tie.Need-figures-in-requires invariant-loop decreases-loop
-figures-in-requires c κs = let d = c.before.before in d.before.before.requires.0.2.wide d.loop.j (omega arith)
+figures-in-requires : tie.Need-figures_in-f-requires invariant-loop decreases-loop
+figures-in-requires c κs = let d = c in d.requires.0.2.wide d.loop-j.j (omega arith)
 
-mul-with-van : tie.Need-overflow-mul-with-van invariant-loop decreases-loop
+mul-with-van : tie.Need-offset_bounds-routes-j invariant-loop decreases-loop
 mul-with-van c = omega arith
 
-index-1-with-van : tie.Need-bounds-1-with-van invariant-loop decreases-loop
+index-1-with-van : tie.Need-bounds-routes-j invariant-loop decreases-loop
 index-1-with-van c = omega arith
 
-mul-with-van-2 : tie.Need-overflow-mul-with-van-2 invariant-loop decreases-loop
+mul-with-van-2 : tie.Need-offset_bounds-sets-j invariant-loop decreases-loop
 mul-with-van-2 c = omega arith
 
-index-1-with-van-2 : tie.Need-bounds-1-with-van-2 invariant-loop decreases-loop
+index-1-with-van-2 : tie.Need-bounds-sets-j invariant-loop decreases-loop
 index-1-with-van-2 c = omega arith
 
-with-van-requires : tie.Need-with-van-requires invariant-loop decreases-loop
+with-van-requires : tie.Need-with_van-all-requires invariant-loop decreases-loop
 with-van-requires c κs =
-    let g = c.before.before in
-    let d = g.before.before.before in
-    (d.before.before.requires.0.1, rw g.figures-in.ensures (d.before.before.requires.1 d.loop.j g.before.before.loop-test.true))
+    let g = c in
+    let d = g in
+    (d.requires.0.1, rw g.figures_in-f.ensures (d.requires.1 d.loop-j.j g.loop-j-test.true))
 
-add-j : tie.Need-overflow-add-j invariant-loop decreases-loop
+add-j : tie.Need-overflow_add-j invariant-loop decreases-loop
 add-j c = omega arith
 
-loop-less : tie.Need-loop-smaller invariant-loop decreases-loop
+loop-less : tie.Need-loop-j-smaller invariant-loop decreases-loop
 loop-less c = omega arith
 
-loop-again : tie.Need-loop-preserved invariant-loop decreases-loop
-loop-again c = let v = c.before.before.before.before.before.before.loop.invariant in (omega arith, v.1, λ levels. more c levels)
+loop-again : tie.Need-loop-j-preserved invariant-loop decreases-loop
+loop-again c = let v = c.loop-j.invariant in (omega arith, v.1, λ levels. more c levels)
 
 returns : tie.Need-returns invariant-loop decreases-loop
 returns c =
-    let v = c.before.loop.invariant in
-    let a = c.before.before.before.args in
-    let e : c.before.loop.j ≡ a.v = omega arith in
-    λ levels. subst (λ (i : ℕ). HasWards a.n i (fleet_with a.routes.now a.sets.now levels a.figures.now) c.before.loop.all) e (v.2 levels)
+    let v = c.loop-j.invariant in
+    let a = c.args in
+    let e : c.loop-j.j ≡ a.v = omega arith in
+    λ levels. subst (λ (i : ℕ). HasWards a.n i (fleet_with a.routes.now a.sets.now levels a.figures.now) c.loop-j.all) e (v.2 levels)
 
-pub gather-spec : {M : Type 1} → statement M
-gather-spec =
+pub gather_spec : {M : Type 1} → statement M
+gather_spec =
     tie.close
     (tie.spec
     invariant-loop

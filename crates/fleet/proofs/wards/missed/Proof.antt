@@ -8,71 +8,68 @@ use Rattle.fleet.proofs.ServedLaws.{Missing, missing-none, least-low, missing-op
 use borrow.Author.Rules.{rules}
 use Rattle.fleet.proofs.wards.missed.Statement.{statement}
 use Rattle.fleet.proofs.wards.missed.Tie as tie
-
-abbrev invariant-loop : tie.invariant-loop
+use Rattle.fleet.proofs.wards.missed.Lts.{then-sets-x-ne0, else-sets-x-ne0}
+abbrev invariant-loop : tie.invariant-loop-left
 invariant-loop members route sets stops off kept₀ left₀ kept left = Missing sets off left kept
 
-abbrev decreases-loop : tie.decreases-loop
+abbrev decreases-loop : tie.decreases-loop-left
 decreases-loop members route sets stops off kept₀ left₀ kept left = left
 
 -- the least of those that are left has a word
-near : (c : tie.After-lowest invariant-loop decreases-loop) → c.lowest.result < 64
-near c = omega (arith, c.lowest.ensures.0, least-low (omega arith) c.before.before.loop.invariant)
+near : (c : tie.After-lowest-x invariant-loop decreases-loop) → c.lowest-x.result < 64
+near c = omega (arith, c.lowest-x.ensures.0, least-low (omega arith) c.loop-left.invariant)
 
 -- it is missed no more if it is open
-joined : (c : tie.Joined1 invariant-loop decreases-loop) → let d = c.before.before.before.before in
-    Missing d.before.before.before.args.sets.now d.before.minus.result (without d.loop.left (lowest d.loop.left)) c.if1.auto
+joined : (c : tie.Joined-sets-x-ne0 invariant-loop decreases-loop) → let d = c in
+    Missing d.args.sets.now d.minus-off.result (without d.loop-left.left (lowest d.loop-left.left)) c.if-sets-x-ne0.kept
 joined c =
-    let l = c.before.before in
-    let d = l.before.before in
-    let e = l.lowest.ensures.0 in
-    ⊎_elim
-    (λ t. rw (t.2, t.1.ensures, e) (missing-open (omega arith) d.loop.invariant (rw e at t.0.taken)))
-    (λ t. rw t.1 (missing-shut (omega arith) d.loop.invariant (rw e at t.0.left)))
-    c.if1.branch
+    let l = c in
+    let d = l in
+    let e = l.lowest-x.ensures.0 in
+    elim c.if-sets-x-ne0.branch [ then-sets-x-ne0 t ↦ rw (t.kept-is, t.take-kept.ensures, e) (missing-open (omega arith) d.loop-left.invariant (rw e at t.if-sets-x-ne0.true)) | else-sets-x-ne0 t ↦ rw t.kept-is (missing-shut (omega arith) d.loop-left.invariant (rw e at t.if-sets-x-ne0.false)) ]
 
 word-requires : tie.Need-word-requires invariant-loop decreases-loop
 word-requires c κs = (c.requires.1, c.requires.3)
 
-minus-requires : tie.Need-minus-requires invariant-loop decreases-loop
+minus-requires : tie.Need-minus-off-requires invariant-loop decreases-loop
 minus-requires c κs = search rules
 
-loop-holds : tie.Need-loop-init invariant-loop decreases-loop
+loop-holds : tie.Need-loop-left-init invariant-loop decreases-loop
 loop-holds c = missing-none (omega arith)
 
-lowest-requires : tie.Need-lowest-requires invariant-loop decreases-loop
+lowest-requires : tie.Need-lowest-x-requires invariant-loop decreases-loop
 lowest-requires c κs = search rules
 
-mul-if1 : tie.Need-overflow-mul-if1 invariant-loop decreases-loop
+mul-if1 : tie.Need-offset_bounds-sets-x invariant-loop decreases-loop
 mul-if1 c = omega (arith, near c)
 
-element-copy-out-if1 : tie.Need-element-copy-out-if1 invariant-loop decreases-loop
-element-copy-out-if1 c = omega (arith, near c)
+element-copy-out-if1 : tie.Need-bounds-sets-x invariant-loop decreases-loop
+element-copy-out-if1 c = omega (arith, near c.before)
 
-take-requires : tie.Need-take-requires invariant-loop decreases-loop
-take-requires c κs = near c.before.before
+take-requires : tie.Need-take-kept-requires invariant-loop decreases-loop
+take-requires c κs = near c.before.before.before
 
-rest-requires : tie.Need-rest-requires invariant-loop decreases-loop
+rest-requires : tie.Need-rest-left-requires invariant-loop decreases-loop
 rest-requires c κs = omega arith
 
-loop-less : tie.Need-loop-smaller invariant-loop decreases-loop
+loop-less : tie.Need-loop-left-smaller invariant-loop decreases-loop
 loop-less c =
-    let l = c.before.before.before.before.before.loop in
-    omega (arith, c.rest.ensures, rest-less l.left (omega arith) l.invariant.fits)
+    let l = c.loop-left in
+    omega (arith, c.rest-left.ensures, rest-less l.left (omega arith) l.invariant.fits)
 
-loop-again : tie.Need-loop-preserved invariant-loop decreases-loop
-loop-again c = rw c.rest.ensures (joined c.before)
+loop-again : tie.Need-loop-left-preserved invariant-loop decreases-loop
+loop-again c = rw c.rest-left.ensures (joined c.before)
 
 returns : tie.Need-returns invariant-loop decreases-loop
 returns c =
-    let d = c.before in
-    let w = d.before.before in
-    let a = w.before.args in
-    let e : d.loop.left ≡ 0 = omega arith in
-    missing-all a.members a.route.now a.stops a.sets.now w.word.ensures (omega arith) w.before.requires (rw (e, d.before.minus.ensures) at d.loop.invariant)
+    let d = c in
+    let w = d in
+    let a = w.args in
+    let e : d.loop-left.left ≡ 0 = omega arith in
+    missing-all a.members a.route.now a.stops a.sets.now w.word.ensures (omega arith) w.requires (rw (e, d.minus-off.ensures) at d.loop-left.invariant)
 
-pub missed-spec : {M : Type 1} → statement M
-missed-spec =
+pub missed_spec : {M : Type 1} → statement M
+missed_spec =
     tie.close
     (tie.spec
     invariant-loop

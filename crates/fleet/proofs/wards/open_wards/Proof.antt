@@ -9,53 +9,50 @@ use Rattle.fleet.proofs.WardLaws.{Opens, opens-none, opens-more, opens_not}
 use borrow.Author.Rules.{rules}
 use Rattle.fleet.proofs.wards.open_wards.Statement.{statement}
 use Rattle.fleet.proofs.wards.open_wards.Tie as tie
-
-abbrev invariant-loop : tie.invariant-loop
+use Rattle.fleet.proofs.wards.open_wards.Lts.{then-sets-y-ne0, else-sets-y-ne0}
+abbrev invariant-loop : tie.invariant-loop-y
 invariant-loop sets n w₀ y₀ w y = (y ≤ n) × (n ≤ 64) × Opens sets y w
 
-abbrev decreases-loop : tie.decreases-loop
+abbrev decreases-loop : tie.decreases-loop-y
 decreases-loop sets n w₀ y₀ w y = n - y
 
 -- a node with a place open is put in, another is not
-joined : (c : tie.Joined1 invariant-loop decreases-loop) → let d = c.before.before.before in Opens d.before.args.sets.now (d.loop.y + 1) c.if1.w
+joined : (c : tie.Joined-sets-y-ne0 invariant-loop decreases-loop) → let d = c in Opens d.args.sets.now (d.loop-y.y + 1) c.if-sets-y-ne0.w
 joined c =
-    let d = c.before.before.before in
-    let sets = d.before.args.sets.now in
-    let v = d.loop.invariant in
-    ⊎_elim
-    (λ t. rw (t.2, t.1.ensures) (opens-more sets d.loop.y d.loop.w (omega arith) t.0.taken v.2))
-    (λ t. rw t.1 (opens_not sets d.loop.y d.loop.w t.0.left v.2))
-    c.if1.branch
+    let d = c in
+    let sets = d.args.sets.now in
+    let v = d.loop-y.invariant in
+    elim c.if-sets-y-ne0.branch [ then-sets-y-ne0 t ↦ rw (t.w-is, t.put-w.ensures) (opens-more sets d.loop-y.y d.loop-y.w (omega arith) t.if-sets-y-ne0.true v.2) | else-sets-y-ne0 t ↦ rw t.w-is (opens_not sets d.loop-y.y d.loop-y.w t.if-sets-y-ne0.false v.2) ]
 
-loop-holds : tie.Need-loop-init invariant-loop decreases-loop
+loop-holds : tie.Need-loop-y-init invariant-loop decreases-loop
 loop-holds c = (omega arith, c.requires, opens-none c.args.sets.now)
 
-mul-if1 : tie.Need-overflow-mul-if1 invariant-loop decreases-loop
+mul-if1 : tie.Need-offset_bounds-sets-y invariant-loop decreases-loop
 mul-if1 c = omega arith
 
-element-copy-out-if1 : tie.Need-element-copy-out-if1 invariant-loop decreases-loop
+element-copy-out-if1 : tie.Need-bounds-sets-y invariant-loop decreases-loop
 element-copy-out-if1 c = omega arith
 
-put-requires : tie.Need-put-requires invariant-loop decreases-loop
+put-requires : tie.Need-put-w-requires invariant-loop decreases-loop
 put-requires c κs = search rules
 
-add-y : tie.Need-overflow-add-y invariant-loop decreases-loop
+add-y : tie.Need-overflow_add-y invariant-loop decreases-loop
 add-y c = omega arith
 
-loop-less : tie.Need-loop-smaller invariant-loop decreases-loop
+loop-less : tie.Need-loop-y-smaller invariant-loop decreases-loop
 loop-less c = omega arith
 
-loop-again : tie.Need-loop-preserved invariant-loop decreases-loop
-loop-again c = let v = c.before.before.before.loop.invariant in (omega arith, v.1, joined c)
+loop-again : tie.Need-loop-y-preserved invariant-loop decreases-loop
+loop-again c = let v = c.loop-y.invariant in (omega arith, v.1, joined c)
 
 returns : tie.Need-returns invariant-loop decreases-loop
 returns c =
-    let v = c.before.loop.invariant in
-    let e : c.before.loop.y ≡ c.before.before.args.n = omega arith in
-    λ q. v.2 q ∙ ap (λ (i : ℕ). ltb q i && not (eqb (get_or c.before.before.args.sets.now q 0) 0)) e
+    let v = c.loop-y.invariant in
+    let e : c.loop-y.y ≡ c.args.n = omega arith in
+    λ q. v.2 q ∙ ap (λ (i : ℕ). ltb q i && not (eqb (get_or c.args.sets.now q 0) 0)) e
 
-pub open-wards-spec : {M : Type 1} → statement M
-open-wards-spec =
+pub open_wards_spec : {M : Type 1} → statement M
+open_wards_spec =
     tie.close
     (tie.spec
     invariant-loop

@@ -15,94 +15,94 @@ use Rattle.fleet.proofs.ServedLaws.{Unserved, unserved-none, unserved-more, serv
 use Rattle.fleet.proofs.wards.served.Statement.{statement}
 use Rattle.fleet.proofs.wards.served.Tie as tie
 
-abbrev invariant-loop : tie.invariant-loop
+abbrev invariant-loop : tie.invariant-loop-left
 invariant-loop routes sets figures v left₀ j₀ left j = (j ≤ v) × (left < 2 ^ 64) × ((levels : List (List ℕ)) → Unserved (fleet_with routes sets levels figures) j left)
 
-abbrev decreases-loop : tie.decreases-loop
+abbrev decreases-loop : tie.decreases-loop-left
 decreases-loop routes sets figures v left₀ j₀ left j = v - j
 
 -- one van more
-more : (c : tie.After-missed invariant-loop decreases-loop) → let d = c.before.before.before.before.before.before.before in let a = d.before.before.before.args in (levels : List (List ℕ))
-    → Unserved (fleet_with a.routes.now a.sets.now levels a.figures.now) (d.loop.j + 1) c.missed.result
+more : (c : tie.After-missed-left invariant-loop decreases-loop) → let d = c in let a = d.args in (levels : List (List ℕ))
+    → Unserved (fleet_with a.routes.now a.sets.now levels a.figures.now) (d.loop-left.j + 1) c.missed-left.result
 more c levels =
-    let g = c.before.before.before in
-    let d = g.before.before.before.before in
-    let a = d.before.before.before.args in
-    let j = d.loop.j in
-    let left = d.loop.left in
+    let g = c in
+    let d = g in
+    let a = d.args in
+    let j = d.loop-left.j in
+    let left = d.loop-left.left in
     let row = row_state a.routes.now a.sets.now levels a.figures.now in
     let f = figures_in (get_or a.figures.now j []) in
-    unserved-more (fleet_with a.routes.now a.sets.now levels a.figures.now) j left c.missed.result (d.loop.invariant.2 levels)
-    (λ y l. rw g.figures-in2.ensures at (c.missed.ensures f.marks f.must y l)
+    unserved-more (fleet_with a.routes.now a.sets.now levels a.figures.now) j left c.missed-left.result (d.loop-left.invariant.2 levels)
+    (λ y l. rw g.figures_in-f.ensures at (c.missed-left.ensures f.marks f.must y l)
     ∙ ap (λ (x : State). has left y && not (has_ward (board_of x) y)) (sym (state-of row j (omega arith))))
 
-index-1-figures-in : tie.Need-bounds-1-figures-in invariant-loop decreases-loop
+index-1-figures-in : tie.Need-bounds-figures-0 invariant-loop decreases-loop
 index-1-figures-in c = omega arith
 
-figures-in-requires : tie.Need-figures-in-requires invariant-loop decreases-loop
-figures-in-requires c κs = c.before.requires.0.1.wide 0 (omega arith)
+figures-in-requires : tie.Need-figures_in-one-requires invariant-loop decreases-loop
+figures-in-requires c κs = c.requires.0.1.wide 0 (omega arith)
 
-loop-holds : tie.Need-loop-init invariant-loop decreases-loop
+loop-holds : tie.Need-loop-left-init invariant-loop decreases-loop
 loop-holds c =
-    let a = c.before.before.args in (
+    let a = c.args in (
       omega arith,
       omega arith,
-      λ levels. unserved-none (fleet_with a.routes.now a.sets.now levels a.figures.now) (ap (λ (f : Figures). f.must) c.figures-in.ensures
+      λ levels. unserved-none (fleet_with a.routes.now a.sets.now levels a.figures.now) (ap (λ (f : Figures). f.must) c.figures_in-one.ensures
           ∙ sym (ap (λ (s : State). s.must) (state-of (row_state a.routes.now a.sets.now levels a.figures.now) 0 (omega arith)))),
     )
 
-returns : tie.Need-returns invariant-loop decreases-loop
+returns : tie.Need-returns-then-j-v invariant-loop decreases-loop
 returns c =
-    let d = c.before.before in
-    let a = d.before.before.before.args in
+    let d = c in
+    let a = d.args in
     λ levels.
     let f = fleet_with a.routes.now a.sets.now levels a.figures.now in
-    served-not f a.v (subst (λ (i : ℕ). Unserved f i d.loop.left) c.if1.true (d.loop.invariant.2 levels)) (omega arith) d.loop.invariant.1
+    served-not f a.v (subst (λ (i : ℕ). Unserved f i d.loop-left.left) c.if-j-v.true (d.loop-left.invariant.2 levels)) (omega arith) d.loop-left.invariant.1
 
-mul-figures-in : tie.Need-overflow-mul-figures-in invariant-loop decreases-loop
+mul-figures-in : tie.Need-offset_bounds-figures-j invariant-loop decreases-loop
 mul-figures-in c = omega arith
 
-index-1-figures-in-2 : tie.Need-bounds-1-figures-in-2 invariant-loop decreases-loop
+index-1-figures-in-2 : tie.Need-bounds-figures-j invariant-loop decreases-loop
 index-1-figures-in-2 c = omega arith
 
-figures-in-requires-2 : tie.Need-figures-in-requires-2 invariant-loop decreases-loop
-figures-in-requires-2 c κs = let d = c.before.before.before in d.before.before.before.requires.0.1.wide d.loop.j (omega arith)
+figures-in-requires-2 : tie.Need-figures_in-f-requires invariant-loop decreases-loop
+figures-in-requires-2 c κs = let d = c in d.requires.0.1.wide d.loop-left.j (omega arith)
 
-mul-missed : tie.Need-overflow-mul-missed invariant-loop decreases-loop
+mul-missed : tie.Need-offset_bounds-routes-j invariant-loop decreases-loop
 mul-missed c = omega arith
 
-index-1-missed : tie.Need-bounds-1-missed invariant-loop decreases-loop
+index-1-missed : tie.Need-bounds-routes-j invariant-loop decreases-loop
 index-1-missed c = omega arith
 
-mul-missed-2 : tie.Need-overflow-mul-missed-2 invariant-loop decreases-loop
+mul-missed-2 : tie.Need-offset_bounds-sets-j invariant-loop decreases-loop
 mul-missed-2 c = omega arith
 
-index-1-missed-2 : tie.Need-bounds-1-missed-2 invariant-loop decreases-loop
+index-1-missed-2 : tie.Need-bounds-sets-j invariant-loop decreases-loop
 index-1-missed-2 c = omega arith
 
-missed-requires : tie.Need-missed-requires invariant-loop decreases-loop
+missed-requires : tie.Need-missed-left-requires invariant-loop decreases-loop
 missed-requires c κs =
-    let g = c.before.before in
-    let d = g.before.before.before.before in
-    rw g.figures-in2.ensures (d.before.before.before.requires.1 d.loop.j (omega arith))
+    let g = c in
+    let d = g in
+    rw g.figures_in-f.ensures (d.requires.1 d.loop-left.j (omega arith))
 
-add-j : tie.Need-overflow-add-j invariant-loop decreases-loop
+add-j : tie.Need-overflow_add-j invariant-loop decreases-loop
 add-j c = omega arith
 
-loop-less : tie.Need-loop-smaller invariant-loop decreases-loop
+loop-less : tie.Need-loop-left-smaller invariant-loop decreases-loop
 loop-less c = omega arith
 
-loop-again : tie.Need-loop-preserved invariant-loop decreases-loop
+loop-again : tie.Need-loop-left-preserved invariant-loop decreases-loop
 loop-again c = (omega arith, omega arith, λ levels. more c levels)
 
-returns-2 : tie.Need-returns-2 invariant-loop decreases-loop
+returns-2 : tie.Need-returns invariant-loop decreases-loop
 returns-2 c =
-    let d = c.before in
-    let a = d.before.before.before.args in
-    λ levels. served-all (fleet_with a.routes.now a.sets.now levels a.figures.now) d.loop.j a.v (d.loop.invariant.2 levels) d.loop.invariant.0 (omega arith)
+    let d = c in
+    let a = d.args in
+    λ levels. served-all (fleet_with a.routes.now a.sets.now levels a.figures.now) d.loop-left.j a.v (d.loop-left.invariant.2 levels) d.loop-left.invariant.0 (omega arith)
 
-pub served-spec : {M : Type 1} → statement M
-served-spec =
+pub served_spec : {M : Type 1} → statement M
+served_spec =
     tie.close
     (tie.spec
     invariant-loop

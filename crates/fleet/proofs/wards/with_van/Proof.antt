@@ -16,21 +16,21 @@ use Rattle.fleet.proofs.wards.with_van.Tie as tie
 abbrev here : tie.Start → Board
 here c = board c.args.route.now c.args.stops c.args.sets.now 0 0
 
-on-at : (c : tie.After-take2) → let d = c.before.before.before in (y : ℕ) → has c.take2.result y ≡ is_inner d.args.n y && on_route (here d) y
+on-at : (c : tie.After-take-on) → let d = c in (y : ℕ) → has c.take-on.result y ≡ is_inner d.args.n y && on_route (here c.before.before.before) y
 on-at c y =
-    let d = c.before.before.before in
+    let d = c in
     let n = d.args.n in
-    let e = c.take2.ensures ∙ ap (λ (w : ℕ). without w (n - 1)) (c.before.take.ensures ∙ ap (λ (w : ℕ). without w 0) c.before.before.word.ensures) in
-    ap (λ (w : ℕ). has w y) e ∙ on-wards n d.requires.0 d.requires.1.0 (here d) d.requires.1 y
+    let e = c.take-on.ensures ∙ ap (λ (w : ℕ). without w (n - 1)) (c.take.ensures ∙ ap (λ (w : ℕ). without w 0) c.word.ensures) in
+    ap (λ (w : ℕ). has w y) e ∙ on-wards n d.requires.0 d.requires.1.0 (here c.before.before.before) d.requires.1 y
 
-more-at : (c : tie.After-take4) → let d = c.before.before.before.before.before.before in (y : ℕ)
-    → has c.take4.result y ≡ is_inner d.args.n y && not (eqb (set_of (here d) y) 0)
+more-at : (c : tie.After-take-open) → let d = c in (y : ℕ)
+    → has c.take-open.result y ≡ is_inner d.args.n y && not (eqb (set_of (here c.before.before.before.before.before.before) y) 0)
 more-at c y =
-    let d = c.before.before.before.before.before.before in
+    let d = c in
     let n = d.args.n in
-    let o = c.before.before in
-    let e = c.take4.ensures ∙ ap (λ (w : ℕ). without w (n - 1)) c.before.take3.ensures in
-    ap (λ (w : ℕ). has w y) e ∙ open-wards n d.requires.0 d.requires.1.0 (here d) o.open-wards.result o.open-wards.ensures y
+    let o = c in
+    let e = c.take-open.ensures ∙ ap (λ (w : ℕ). without w (n - 1)) c.take-2.ensures in
+    ap (λ (w : ℕ). has w y) e ∙ open-wards n d.requires.0 d.requires.1.0 (here c.before.before.before.before.before.before) o.open_wards.result o.open_wards.ensures y
 
 word-requires : tie.Need-word-requires
 word-requires c κs = (c.requires.1.1, λ i h. omega (arith, c.requires.1.3 i h, c.requires.1.0))
@@ -38,22 +38,22 @@ word-requires c κs = (c.requires.1.1, λ i h. omega (arith, c.requires.1.3 i h,
 take-requires : tie.Need-take-requires
 take-requires c κs = search rules
 
-sub-take : tie.Need-overflow-sub-take
+sub-take : tie.Need-overflow_sub-n
 sub-take c = search rules
 
-take-requires-2 : tie.Need-take-requires-2
+take-requires-2 : tie.Need-take-on-requires
 take-requires-2 c κs = search rules
 
-open-wards-requires : tie.Need-open-wards-requires
+open-wards-requires : tie.Need-open_wards-requires
 open-wards-requires c κs = search rules
 
-take-requires-3 : tie.Need-take-requires-3
+take-requires-3 : tie.Need-take-requires-2
 take-requires-3 c κs = search rules
 
-sub-take-2 : tie.Need-overflow-sub-take-2
+sub-take-2 : tie.Need-overflow_sub-n-2
 sub-take-2 c = search rules
 
-take-requires-4 : tie.Need-take-requires-4
+take-requires-4 : tie.Need-take-open-requires
 take-requires-4 c κs = search rules
 
 join-requires : tie.Need-join-requires
@@ -73,22 +73,22 @@ apart-requires-2 c κs = search rules
 
 returns : tie.Need-returns
 returns c =
-    let j = c.before.before.before in
-    let t = j.before.before.before in
-    let u = t.before.before.before in
-    let d = u.before.before.before in
+    let j = c in
+    let t = j in
+    let u = t in
+    let d = u in
     let w = d.args.wards in
-    let f = is-words w _ d.well-formed.0 in
+    let f = is-words w _ d.well_formed.0 in
     rw (
-      j.before.before.join.ensures,
-      j.join3.ensures,
-      j.before.join2.ensures,
-      c.before.before.apart.ensures,
-      c.apart2.ensures,
-    ) (adds-van d.args.n d.requires.0 d.requires.1.0 w (here d) u.take2.result t.take4.result f.0 f.1 (on-at u) (more-at t))
+      j.join.ensures,
+      j.join-3.ensures,
+      j.join-2.ensures,
+      c.apart.ensures,
+      c.apart-2.ensures,
+    ) (adds-van d.args.n d.requires.0 d.requires.1.0 w (here c.before.before.before.before.before.before.before.before.before.before.before.before) u.take-on.result t.take-open.result f.0 f.1 (on-at c.before.before.before.before.before.before.before.before.before) (more-at c.before.before.before.before.before.before))
 
-pub with-van-spec : {M : Type 1} → statement M
-with-van-spec =
+pub with_van_spec : {M : Type 1} → statement M
+with_van_spec =
     tie.close
     (tie.spec
     word-requires
