@@ -1,4 +1,6 @@
 // A set of places in a 64-bit word: bit p says that p is a member. No set has a place past 63.
+#![tactic(auto)]
+
 ghost use Rattle.std.specs.Prelude.{◌≡◌, ◌<◌, ◌≤◌};
 ghost use Rattle.std.specs.Int.Count.{ones};
 ghost use Rattle.bits.specs.Places.{has, with, without, minus, join, within, lowest};

@@ -1,9 +1,8 @@
 -- What owning a State tells of its value.
-use mathlib.Core.Path.{◌≡◌, refl, ap, sym, ◌∙◌}
-use mathlib.Core.List.{List, [], ◌∷◌, map}
+use mathlib.Core.List.{List, [], ◌∷◌}
 use Prim.Native.Nat.{ℕ, zero, suc, ◌<◌, ◌^◌}
 use native.Mathlib.Omega.{arith}
-use lib.ListN.{length, length-map, get_or}
+use lib.ListN.{length, get_or}
 use denote.Shadow.{shadow}
 use denote.Array.{each}
 use denote.Builtin.{u64}

@@ -1,5 +1,7 @@
 // The board: a round in the making, by value. form: when a state is in form. change: a node placed, with no trail.
 // route and places: what these do to the one array and to the other.
+#![tactic(auto)]
+
 pub mod change;
 pub mod form;
 pub mod places;

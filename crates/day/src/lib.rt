@@ -1,4 +1,6 @@
 // What a sheet says: its jobs, its tables, what a call and what opening checks, its sections, and every number of it.
+#![tactic(auto)]
+
 pub mod classes;
 pub mod jobs;
 pub mod look;

@@ -1,9 +1,9 @@
 -- What owning a Fleet tells of its value, and what owning Wards does.
-use mathlib.Core.Path.{◌≡◌, sym, ◌∙◌}
-use mathlib.Core.List.{List, [], ◌∷◌, map}
+use mathlib.Core.Path.{◌≡◌}
+use mathlib.Core.List.{List, [], ◌∷◌}
 use Prim.Native.Nat.{ℕ, zero, suc, ◌<◌, ◌^◌}
 use native.Mathlib.Omega.{arith}
-use lib.ListN.{length, length-map, get_or}
+use lib.ListN.{length, get_or}
 use denote.Shadow.{shadow}
 use denote.Array.{each}
 use mir.Val.{Val}

@@ -1,5 +1,7 @@
 // A fleet: eight states by value, of which a sheet tells how many are vans. form: when it is in form. wards: what the vans have of the wards.
 // rows: a fleet in arrays, a row of each for every state, which steps change in place.
+#![tactic(auto)]
+
 pub mod form;
 pub mod rows;
 pub mod wards;

@@ -1,4 +1,6 @@
 // The tests of a place that read the route only: window and metres.
+#![tactic(auto)]
+
 ghost use Rattle.std.specs.Prelude.{◌≡◌, max, ◌+◌, ◌<◌, pos, take, length};
 ghost use Rattle.std.specs.Int.Signed.{le_z};
 ghost use Rattle.rules.specs.Time.{driven};

@@ -1,4 +1,6 @@
 // The program's lines, made in a buffer: each function puts its text from a place on, and answers the place after it.
+#![tactic(auto)]
+
 ghost use Rattle.std.specs.Prelude.{◌≡◌, ◌∷◌, [], ◌+◌, ◌*◌, ◌/◌, ◌%◌, ◌≤◌, ◌<◌, length, take};
 ghost use Rattle.listing.specs.Text.{decimal, bytes, three_fields, step_line, stop_text, stops_text, route_line, refused_line};
 ghost use Rattle.listing.specs.Put.{Put};

@@ -1,4 +1,6 @@
 // Clean before soiled (02, No. 11): which legs of a route are shut to a clean node, and which to a soiled one.
+#![tactic(auto)]
+
 ghost use Rattle.std.specs.Prelude.{◌≡◌, cond, not, ◌&&◌, ℕ, ◌<◌, ◌≤◌, get_or, length};
 ghost use Rattle.bits.specs.Places.{has};
 ghost use Rattle.profile.specs.Shut.{Shuts, shut_to};

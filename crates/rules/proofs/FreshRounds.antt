@@ -1,6 +1,6 @@
 -- Which rounds belong to a fresh plan: those of the day whose wards the van may serve. And over several fresh vans: the sets that share no ward.
 use mathlib.Core.Path.{◌≡◌, subst, sym}
-use Prim.Native.Nat.{ℕ, ◌-◌, ◌≤◌, ◌<◌}
+use Prim.Native.Nat.{ℕ, ◌≤◌, ◌<◌}
 use native.Mathlib.Omega.{arith}
 use mathlib.Core.Bool.{Bool, false, ◌&&◌}
 use mathlib.Core.List.{List, [], ◌∷◌}

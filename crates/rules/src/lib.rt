@@ -1,6 +1,8 @@
 // The rules of the round as mathematics: what a reader must believe stands in specs/, the theorems in proofs/.
 // The code here is what the mathematics, the sheet and the planner share: a few types, and the limits and numbers of 01 and 02, each with the
 // type that it belongs to.
+#![tactic(auto)]
+
 ghost use Rattle.std.specs.Prelude.{◌≡◌};
 ghost use Rattle.rules.specs.Numbers.{step_said};
 ghost use Rattle.rules.specs.Load.{load_of};

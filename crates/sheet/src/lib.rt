@@ -1,4 +1,6 @@
 // The day sheet: its sections, and the numbers by which it is refused.
+#![tactic(auto)]
+
 ghost use Rattle.std.specs.Prelude.{◌≡◌, cond, ◌+◌, ◌*◌, ◌<◌, ◌≤◌};
 ghost use Rattle.laws.specs.Basic.{or_else};
 ghost use Rattle.words.specs.Word.{size};

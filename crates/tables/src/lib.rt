@@ -1,4 +1,6 @@
 // The tables of a sheet, and the triangle rule over them.
+#![tactic(auto)]
+
 ghost use Rattle.std.specs.Prelude.{◌≡◌, ◌+◌, ◌*◌, ◌<◌, ◌≤◌, length, pos};
 ghost use Rattle.std.specs.Int.Signed.{le_z};
 ghost use Rattle.laws.specs.Basic.{all_below};

@@ -1,4 +1,6 @@
 // The steps that write the trail, and stepping back. refusals: why a step is refused. steps: each step, in place.
+#![tactic(auto)]
+
 pub mod refusals;
 pub mod steps;
 

@@ -1,4 +1,6 @@
 // One van, on a sheet that no call refuses and a state in form, neither asked again: its step, and its verdict.
+#![tactic(auto)]
+
 ghost use Rattle.std.specs.Prelude.{◌≡◌, List, ℕ, ◌≤◌};
 ghost use Rattle.day.specs.Tell.{day_of, job_in};
 ghost use Rattle.rules.specs.Numbers.{kinds};

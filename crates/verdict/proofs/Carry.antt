@@ -3,7 +3,7 @@ use mathlib.Core.Path.{◌≡◌, refl, sym, ap, ◌∙◌, subst}
 use Prim.Native.Nat.{ℕ, suc, ◌+◌, ◌-◌, ◌*◌, ◌<◌, ◌≤◌}
 use mathlib.Core.Bool.{Bool, true, false, cond, not, ◌&&◌, ◌||◌, and_comm, and-false}
 use mathlib.Core.List.{List, []}
-use mathlib.Core.Logic.{⊎_elim, ◌⊎◌, ◌≢◌}
+use mathlib.Core.Logic.{⊎_elim, ◌≢◌}
 use native.Mathlib.Numerals.{add-one}
 use native.Mathlib.Omega.{arith}
 use lib.Dec.{T, T_not, leb, ltb, eqb}
@@ -22,7 +22,7 @@ use Rattle.rules.specs.declared.Van.{Van}
 use Rattle.rules.specs.Leg.{every_leg}
 use Rattle.rules.specs.Verdict.{wrong, wrong_way}
 use Rattle.rules.specs.Day.{Day}
-use Rattle.rules.specs.Load.{aboard, load, carries}
+use Rattle.rules.specs.Load.{load, carries}
 use Rattle.rules.specs.Along.{behind, load_at}
 use Rattle.rules.specs.declared.Job.{Job}
 use Rattle.rules.specs.declared.Job.TheVariants.{Clean, Soiled, Transfer}

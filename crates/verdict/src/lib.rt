@@ -1,4 +1,6 @@
 // Who is owed, and the verdict of a state.
+#![tactic(auto)]
+
 ghost use Rattle.std.specs.Prelude.{◌≡◌, not, ◌&&◌, ◌||◌, List, ℕ, ◌+◌, ◌<◌, ◌≤◌, get_or, length, take, eqb};
 ghost use Rattle.laws.specs.Basic.{all_below, any, mem};
 ghost use Rattle.bits.specs.Places.{has};

@@ -1,4 +1,6 @@
 // A word of places against a load that is to ride: leg by leg, or all legs at once where each has room.
+#![tactic(auto)]
+
 ghost use Rattle.std.specs.Prelude.{◌≡◌, true, false, cond, not, ◌&&◌, ◌||◌, ℕ, ◌+◌, ◌-◌, ◌<◌, ◌≤◌, leb, get_or, length, replicate};
 ghost use Rattle.bits.specs.Places.{has};
 ghost use Rattle.walks.specs.Walks.{Kept, Legs, Before, Marked, struck, rides_up, rides_down, from_start, to_end};

@@ -1,4 +1,6 @@
 // The words of a day sheet, and what those of an entry must be.
+#![tactic(auto)]
+
 ghost use Rattle.std.specs.Prelude.{◌≡◌, ◌+◌, ◌*◌, ◌<◌, ◌≤◌};
 ghost use Rattle.laws.specs.Basic.{all_below};
 ghost use Rattle.rules.specs.Class.{one_bit};

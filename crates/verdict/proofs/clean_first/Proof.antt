@@ -2,7 +2,6 @@ use mathlib.Core.Path.{sym, ◌∙◌}
 use Prim.Native.Nat.{◌-◌, ◌<◌, ◌≤◌}
 use native.Mathlib.Omega.{arith}
 use lib.ListN.{get_or, take}
-use borrow.Author.Tests.{not-true, not-false}
 use Rattle.day.specs.Tell.{day_of}
 use Rattle.along.proofs.Walking.{near}
 use Rattle.verdict.proofs.Mixing.{Walked, unprofiled, profiled, walk_none, walk-stops, walk-next, walk-all}

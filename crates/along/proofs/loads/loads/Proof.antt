@@ -1,5 +1,4 @@
 use mathlib.Core.Path.{◌≡◌, refl}
-use mathlib.Core.Logic.{⊎_elim}
 use Prim.Native.Nat.{◌+◌, ◌-◌, ◌≤◌}
 use native.Mathlib.Omega.{arith}
 use lib.ListN.{get_or, take}
@@ -8,6 +7,7 @@ use Rattle.along.proofs.Walking.{near, low, Riding, riding-none, riding-next, up
 use Rattle.along.proofs.loads.loads.Statement.{statement}
 use Rattle.along.proofs.loads.loads.Tie as tie
 use Rattle.along.proofs.loads.loads.Lts.{then-highest-aboard, else-highest-aboard}
+
 abbrev invariant-loop : tie.invariant-loop-i
 invariant-loop s t route stops spots h₀ aboard₀ highest₀ i₀ h aboard highest i = (i + 1 ≤ stops) × Riding (day_of s) (take stops route) i aboard highest h
 

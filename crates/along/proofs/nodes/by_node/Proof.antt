@@ -1,5 +1,4 @@
 use mathlib.Core.Path.{◌≡◌, ap}
-use mathlib.Core.Logic.{⊎_elim}
 use Prim.Native.Nat.{◌-◌, ◌≤◌}
 use native.Mathlib.Omega.{arith}
 use Rattle.day.specs.Tell.{job_in}
@@ -12,6 +11,7 @@ use Rattle.along.proofs.NodeLaws.{nodes-none, nodes-next}
 use Rattle.along.proofs.nodes.by_node.Statement.{statement}
 use Rattle.along.proofs.nodes.by_node.Tie as tie
 use Rattle.along.proofs.nodes.by_node.Lts.{then-most-load, else-most-load}
+
 abbrev invariant-loop : tie.invariant-loop-j
 invariant-loop s at t₀ m j₀ t j = (j ≤ m) × ByNode (job_in s) j t
 

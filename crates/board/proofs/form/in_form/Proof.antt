@@ -1,5 +1,4 @@
 use mathlib.Core.Path.{sym, ◌∙◌}
-use borrow.Author.Tests.{not-true, not-false}
 use Rattle.board.specs.Form.{in_form}
 use borrow.Author.Rules.{rules}
 use Rattle.board.proofs.form.in_form.Statement.{statement}

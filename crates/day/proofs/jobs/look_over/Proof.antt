@@ -1,6 +1,5 @@
 use native.Mathlib.Omega.{arith}
 use mathlib.Core.Path.{◌≡◌, refl, sym, ap, ◌∙◌}
-use mathlib.Core.Logic.{⊎_elim}
 use Prim.Native.Nat.{◌-◌, ◌≤◌}
 use Rattle.laws.specs.Basic.{peak}
 use Rattle.laws.proofs.Peak.{peak-none, peak-next}
@@ -14,6 +13,7 @@ use borrow.Author.Rules.{rules}
 use Rattle.day.proofs.jobs.look_over.Statement.{statement}
 use Rattle.day.proofs.jobs.look_over.Tie as tie
 use Rattle.day.proofs.jobs.look_over.Lts.{then-heaviest-load, else-heaviest-load}
+
 abbrev invariant-loop : tie.invariant-loop-i
 invariant-loop s l seen₀ heaviest₀ m i₀ seen heaviest i = (i ≤ m) × Passed (job_in s) i seen × (heaviest ≡ peak (λ k. load_of (job_in s k)) i)
 

@@ -1,6 +1,5 @@
 use native.Mathlib.Omega.{arith}
 use mathlib.Core.Path.{◌≡◌, sym, ap, ◌∙◌}
-use mathlib.Core.Logic.{⊎_elim}
 use Prim.Native.Nat.{◌-◌, ◌≤◌}
 use Rattle.laws.specs.Basic.{peak}
 use Rattle.laws.proofs.Peak.{peak-none, peak-next}
@@ -10,6 +9,7 @@ use borrow.Author.Rules.{rules}
 use Rattle.day.proofs.look.largest.Statement.{statement}
 use Rattle.day.proofs.look.largest.Tie as tie
 use Rattle.day.proofs.look.largest.Lts.{then-most-capacity, else-most-capacity}
+
 abbrev invariant-loop : tie.invariant-loop-i
 invariant-loop s l most₀ v i₀ most i = (i ≤ v) × (most ≡ peak (λ k. (van_of s k).capacity) i)
 

@@ -1,6 +1,5 @@
 use mathlib.Core.Path.{◌≡◌, refl, sym, ◌∙◌}
 use mathlib.Core.Bool.{true}
-use borrow.Author.Tests.{not-true, not-false}
 use Rattle.bits.proofs.Members.{false-true}
 use Rattle.board.specs.Board.{state_with}
 use Rattle.board.specs.declared.State.{State}

@@ -1,5 +1,5 @@
 use mathlib.Core.Path.{sym, ◌∙◌}
-use borrow.Author.Tests.{eq-eqb, ne_eqb, not-true, not-false}
+use borrow.Author.Tests.{eq-eqb, ne_eqb}
 use Rattle.fleet.proofs.TestLaws.{depth-fails, must-fails, form-decides}
 use borrow.Author.Rules.{rules}
 use Rattle.fleet.proofs.form.van_ok.Statement.{statement}

@@ -2,9 +2,6 @@ use mathlib.Core.Path.{refl}
 use borrow.Author.Rules.{rules}
 use Rattle.fleet.proofs.rows.figures_in.Statement.{statement}
 use Rattle.fleet.proofs.rows.figures_in.Tie as tie
-use Rattle.fleet.proofs.rows.figures_in.Reads as reads
-use Rattle.fleet.proofs.rows.figures_in.Lts as lts
-use Rattle.fleet.proofs.rows.narrow.Reads as narrow-reads
 
 -- src/rows.rt:24:23
 element-copy-out-narrow : tie.Need-bounds-row-0

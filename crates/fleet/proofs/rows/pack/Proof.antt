@@ -2,9 +2,6 @@ use mathlib.Core.Path.{refl}
 use borrow.Author.Rules.{rules}
 use Rattle.fleet.proofs.rows.pack.Statement.{statement}
 use Rattle.fleet.proofs.rows.pack.Tie as tie
-use Rattle.fleet.proofs.rows.pack.Reads as reads
-use Rattle.fleet.proofs.rows.pack.Lts as lts
-use Rattle.fleet.proofs.rows.figures_in.Reads as figures-in-reads
 
 -- src/rows.rt:81:9
 figures-in-requires : tie.Need-figures_in-f-requires

@@ -2,8 +2,6 @@ use Rattle.fleet.proofs.FigureLaws.{row_written}
 use borrow.Author.Rules.{rules}
 use Rattle.fleet.proofs.rows.put_figures.Statement.{statement}
 use Rattle.fleet.proofs.rows.put_figures.Tie as tie
-use Rattle.fleet.proofs.rows.put_figures.Reads as reads
-use Rattle.fleet.proofs.rows.put_figures.Lts as lts
 
 -- src/rows.rt:37:5
 element-write-row : tie.Need-bounds-row-0

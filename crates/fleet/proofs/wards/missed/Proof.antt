@@ -1,6 +1,5 @@
 use native.Mathlib.Omega.{arith}
 use mathlib.Core.Path.{◌≡◌}
-use mathlib.Core.Logic.{⊎_elim}
 use Prim.Native.Nat.{◌<◌}
 use Rattle.bits.specs.Places.{without, lowest}
 use Rattle.along.proofs.SetLaws.{rest-less}
@@ -9,6 +8,7 @@ use borrow.Author.Rules.{rules}
 use Rattle.fleet.proofs.wards.missed.Statement.{statement}
 use Rattle.fleet.proofs.wards.missed.Tie as tie
 use Rattle.fleet.proofs.wards.missed.Lts.{then-sets-x-ne0, else-sets-x-ne0}
+
 abbrev invariant-loop : tie.invariant-loop-left
 invariant-loop members route sets stops off kept₀ left₀ kept left = Missing sets off left kept
 

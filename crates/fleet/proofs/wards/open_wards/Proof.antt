@@ -1,7 +1,6 @@
 use native.Mathlib.Omega.{arith}
 use mathlib.Core.Path.{◌≡◌, ap, ◌∙◌}
 use mathlib.Core.Bool.{not, ◌&&◌}
-use mathlib.Core.Logic.{⊎_elim}
 use Prim.Native.Nat.{ℕ, ◌+◌, ◌≤◌, ◌-◌}
 use lib.ListN.{get_or}
 use lib.Dec.{eqb, ltb}
@@ -10,6 +9,7 @@ use borrow.Author.Rules.{rules}
 use Rattle.fleet.proofs.wards.open_wards.Statement.{statement}
 use Rattle.fleet.proofs.wards.open_wards.Tie as tie
 use Rattle.fleet.proofs.wards.open_wards.Lts.{then-sets-y-ne0, else-sets-y-ne0}
+
 abbrev invariant-loop : tie.invariant-loop-y
 invariant-loop sets n w₀ y₀ w y = (y ≤ n) × (n ≤ 64) × Opens sets y w
 

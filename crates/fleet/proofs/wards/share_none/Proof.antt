@@ -2,7 +2,6 @@ use native.Mathlib.Omega.{arith}
 use mathlib.Core.Path.{sym}
 use Rattle.fleet.specs.Rows.{fleet_with}
 use Rattle.fleet.proofs.FormLaws.{apart-shares}
-use borrow.Author.Rules.{rules}
 use Rattle.fleet.proofs.wards.share_none.Statement.{statement}
 use Rattle.fleet.proofs.wards.share_none.Tie as tie
 

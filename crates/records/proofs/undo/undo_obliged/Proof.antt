@@ -4,7 +4,6 @@ use mathlib.Core.Bool.{◌&&◌}
 use mathlib.Core.List.{List}
 use Prim.Native.Nat.{ℕ}
 use lib.Dec.{eqb}
-use borrow.Author.Tests.{not-true, not-false}
 use Rattle.board.specs.Board.{Board}
 use Rattle.records.specs.Undo.{fits_obliged}
 use Rattle.records.specs.Undoing.{Undoing}

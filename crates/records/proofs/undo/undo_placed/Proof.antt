@@ -4,7 +4,6 @@ use mathlib.Core.Bool.{true, ◌&&◌}
 use Prim.Native.Nat.{◌<◌}
 use native.Mathlib.Omega.{arith}
 use lib.ListN.{get_or}
-use borrow.Author.Tests.{not-true, not-false}
 use Rattle.laws.proofs.Logic.{and-true}
 use Rattle.bits.specs.Places.{has}
 use Rattle.rules.specs.Day.{is_inner}

@@ -4,7 +4,6 @@ use mathlib.Core.Bool.{true, not, ◌&&◌}
 use mathlib.Core.List.{List}
 use Prim.Native.Nat.{ℕ, ◌<◌}
 use native.Mathlib.Omega.{arith}
-use borrow.Author.Tests.{not-true, not-false}
 use Rattle.rules.specs.Day.{is_inner}
 use Rattle.board.specs.Board.{Board}
 use Rattle.records.specs.Undo.{fits_shrunk}

@@ -2,7 +2,6 @@ use mathlib.Core.Path.{refl, sym, ◌∙◌}
 use Prim.Native.Nat.{◌-◌, ◌<◌, ◌≤◌}
 use native.Mathlib.Omega.{arith}
 use lib.ListN.{take}
-use borrow.Author.Tests.{not-true, not-false}
 use Rattle.day.specs.Tell.{day_of}
 use Rattle.along.proofs.ReadyLaws.{nodes-most}
 use Rattle.along.proofs.Facts.{two-stops, near-nodes, past-nodes}

@@ -2,7 +2,6 @@ use native.Mathlib.Omega.{arith}
 use Prim.Native.Nat.{◌+◌, ◌-◌, ◌<◌, ◌≤◌}
 use mathlib.Core.Path.{◌≡◌, refl, sym, ap}
 use mathlib.Core.Bool.{not}
-use mathlib.Core.Logic.{⊎_elim}
 use Rattle.along.proofs.ReadyLaws.{nodes-most}
 use Rattle.along.proofs.Facts.{two-stops, routed}
 use Rattle.settle.specs.Round.{Kepts, pair_leaves, jobs_leave, same_sets}
@@ -13,6 +12,7 @@ use Rattle.settle.proofs.Strikes.{away, pair_turn, flag-more}
 use Rattle.settle.proofs.strike.strike_pairs.Statement.{statement}
 use Rattle.settle.proofs.strike.strike_pairs.Tie as tie
 use Rattle.settle.proofs.strike.strike_pairs.Lts.{then-t-x-ne0, else-t-x-ne0}
+
 abbrev invariant-loop : tie.invariant-loop-x
 invariant-loop s t pass new₀ route spots before h n struck₀ x₀ new struck x =
     (x ≤ n) × Kepts route (pass.stops - 1) (jobs_leave (pair_leaves new₀ route h pass) (job_from t) x) new₀ new × (struck ≡ not (same_sets new₀ new))
@@ -66,15 +66,15 @@ joined c =
     let g = job_from a.t.now in
     let apart = from-apart (routed d.requires.0.0 d.requires.1.1) x (node c.before.before.before) in
     elim c.if-t-x-ne0.branch [
-      then-t-x-ne0 w ↦ (
-        let e = sym (from_some a.t.now x w.if-t-x-ne0.true) in
-        let p = w.strike_pair-struck.ensures in
-        rw (w.new-is, w.struck-is) (jobs-more _ g x e v.1 (kepts-same (λ y i b. pair_turn g a.h.now a.pass x apart v.1 _ e y i) p.0), flag-more d.requires.0.0.sized v.1 p.0 v.2 p.1)
-      ) |
-      else-t-x-ne0 w ↦ (
-        let e = sym (from-none a.t.now x w.if-t-x-ne0.false) in
-        rw (w.new-is, w.struck-is) (jobs-more _ g x e v.1 (kepts-all v.1.long (λ y i b. away _ _ _ _ _ y i refl)), v.2)
-      )
+      | then-t-x-ne0 w ↦ (
+          let e = sym (from_some a.t.now x w.if-t-x-ne0.true) in
+          let p = w.strike_pair-struck.ensures in
+          rw (w.new-is, w.struck-is) (jobs-more _ g x e v.1 (kepts-same (λ y i b. pair_turn g a.h.now a.pass x apart v.1 _ e y i) p.0), flag-more d.requires.0.0.sized v.1 p.0 v.2 p.1)
+          )
+      | else-t-x-ne0 w ↦ (
+          let e = sym (from-none a.t.now x w.if-t-x-ne0.false) in
+          rw (w.new-is, w.struck-is) (jobs-more _ g x e v.1 (kepts-all v.1.long (λ y i b. away _ _ _ _ _ y i refl)), v.2)
+          )
     ]
 
 loop-again : tie.Need-loop-x-preserved invariant-loop decreases-loop

@@ -1,7 +1,6 @@
 use mathlib.Core.Path.{◌≡◌, sym, ap, ◌∙◌}
 use mathlib.Core.Bool.{true}
 use Prim.Native.Nat.{ℕ, ◌<◌}
-use borrow.Author.Tests.{not-true, not-false}
 use Rattle.laws.specs.Basic.{or_else}
 use Rattle.bits.specs.Places.{has}
 use Rattle.rules.specs.Day.{is_inner}
