@@ -1,3 +1,4 @@
+use Rattle.std.proofs.lemmas.Bool.{not_from_false, not_from_true}
 use mathlib.Core.Path.{◌≡◌, refl, sym, ◌∙◌}
 use mathlib.Core.Bool.{true}
 use Prim.Native.Nat.{◌-◌, ◌≤◌, ◌<◌}
@@ -11,70 +12,70 @@ use Rattle.bars.proofs.has_room.Reads as reads
 use Rattle.bars.proofs.has_room.Lts as lts
 use Rattle.fleet.proofs.rows.figures_in.Reads as figures-in-reads
 
-abbrev invariant-loop : tie.invariant-loop
+abbrev invariant-loop : tie.invariant-loop-j
 invariant-loop sets figures v room van x j₀ j = (j ≤ v) × (all_below j (row_roomy sets figures room van x) ≡ true)
 
-abbrev decreases-loop : tie.decreases-loop
+abbrev decreases-loop : tie.decreases-loop-j
 decreases-loop sets figures v room van x j₀ j = v - j
 
-loop-holds : tie.Need-loop-init invariant-loop decreases-loop
+loop-holds : tie.Need-loop-j-init invariant-loop decreases-loop
 loop-holds c = (omega arith, below_none _)
 
 -- j is a van
-low : (i : lts.In-loop (figures-in-reads.Asked, figures-in-reads.Learnt) reads.Pre reads.Post invariant-loop decreases-loop) → i.before.loop.j < 8
-low i = omega (arith, i.loop-test.true, i.before.before.requires.0)
+low : (i : lts.In-loop-j (figures-in-reads.Asked, figures-in-reads.Learnt) reads.Pre reads.Post invariant-loop decreases-loop) → i.loop-j.j < 8
+low i = omega (arith, i.loop-j-test.true, i.requires.0)
 
-mul-figures-in : tie.Need-overflow-mul-figures-in invariant-loop decreases-loop
+mul-figures-in : tie.Need-offset_bounds-figures-j invariant-loop decreases-loop
 mul-figures-in c = omega (arith, low c)
 
-index-1-figures-in : tie.Need-bounds-1-figures-in invariant-loop decreases-loop
+index-1-figures-in : tie.Need-bounds-figures-j invariant-loop decreases-loop
 index-1-figures-in c = low c
 
-figures-in-requires : tie.Need-figures-in-requires invariant-loop decreases-loop
-figures-in-requires c κs = let i = c.before in i.before.before.requires.3.wide i.before.loop.j (low i)
+figures-in-requires : tie.Need-figures_in-f-requires invariant-loop decreases-loop
+figures-in-requires c κs = let i = c in i.requires.3.wide i.loop-j.j (low c)
 
-mul-spare : tie.Need-overflow-mul-spare invariant-loop decreases-loop
-mul-spare c = let i = c.before.before in omega (arith, low i, i.before.before.requires.1)
+mul-spare : tie.Need-offset_bounds-sets-j invariant-loop decreases-loop
+mul-spare c = let i = c in omega (arith, low c.before, i.requires.1)
 
-mul-spare-2 : tie.Need-overflow-mul-spare-2 invariant-loop decreases-loop
-mul-spare-2 c = let i = c.before.before in omega (arith, low i, i.before.before.requires.1)
+mul-spare-2 : tie.Need-offset_bounds-sets-x invariant-loop decreases-loop
+mul-spare-2 c = let i = c in omega (arith, low c.before, i.requires.1)
 
-index-1-spare : tie.Need-bounds-1-spare invariant-loop decreases-loop
-index-1-spare c = low c.before.before
+index-1-spare : tie.Need-bounds-sets-j invariant-loop decreases-loop
+index-1-spare c = low c.before
 
-index-2-spare : tie.Need-bounds-2-spare invariant-loop decreases-loop
-index-2-spare c = omega (arith, c.before.before.before.before.requires.1)
+index-2-spare : tie.Need-bounds-sets-x invariant-loop decreases-loop
+index-2-spare c = omega (arith, c.requires.1)
 
-returns : tie.Need-returns invariant-loop decreases-loop
+returns : tie.Need-returns-then-not-spare-f invariant-loop decreases-loop
 returns c = λ routes levels t h.
-    let g = c.before.before.before in
-    let i = g.before.before in
-    let d = i.before.before in
+    let g = c in
+    let i = g in
+    let d = i in
     let a = d.args in
-    below-stops a.v i.before.loop.j (row_roomy a.sets.now a.figures.now a.room a.van a.x) i.loop-test.true refl (rw g.figures-in.ensures at c.if1.true)
+    below-stops a.v i.loop-j.j (row_roomy a.sets.now a.figures.now a.room a.van a.x) i.loop-j-test.true refl (rw g.figures_in-f.ensures at (not_from_false _ c.if-not-spare-f.true))
     ∙ sym (roomy-rows a.v routes a.sets.now levels a.figures.now t a.room a.van a.x d.requires.0 h)
 
-add-j : tie.Need-overflow-add-j invariant-loop decreases-loop
-add-j c = let i = c.before.before.before.before.before in omega (arith, i.loop-test.true, i.before.before.requires.0)
+add-j : tie.Need-overflow_add-j invariant-loop decreases-loop
+add-j c = let i = c in omega (arith, i.loop-j-test.true, i.requires.0)
 
-loop-less : tie.Need-loop-smaller invariant-loop decreases-loop
-loop-less c = omega (arith, c.before.before.before.before.before.loop-test.true)
+loop-less : tie.Need-loop-j-smaller invariant-loop decreases-loop
+loop-less c = omega (arith, c.loop-j-test.true)
 
-loop-again : tie.Need-loop-preserved invariant-loop decreases-loop
+loop-again : tie.Need-loop-j-preserved invariant-loop decreases-loop
 loop-again c =
-    let g = c.before.before.before in
-    let i = g.before.before in
-    (omega (arith, i.loop-test.true), below-goes _ _ i.before.loop.invariant.1 refl (rw g.figures-in.ensures at c.if1.false))
+    let g = c in
+    let i = g in
+    (omega (arith, i.loop-j-test.true), below-goes _ _ i.loop-j.invariant.1 refl (rw g.figures_in-f.ensures at (not_from_true _ c.if-not-spare-f.false)))
 
-returns-2 : tie.Need-returns-2 invariant-loop decreases-loop
+returns-2 : tie.Need-returns invariant-loop decreases-loop
 returns-2 c = λ routes levels t h.
-    let l = c.before.loop in
-    let a = c.before.before.args in
-    below-done a.v l.j (row_roomy a.sets.now a.figures.now a.room a.van a.x) l.invariant.0 c.loop-test.false l.invariant.1
-    ∙ sym (roomy-rows a.v routes a.sets.now levels a.figures.now t a.room a.van a.x c.before.before.requires.0 h)
+    let l = c.loop-j in
+    let a = c.args in
+    below-done a.v l.j (row_roomy a.sets.now a.figures.now a.room a.van a.x) l.invariant.0 c.loop-j-test.false l.invariant.1
+    ∙ sym (roomy-rows a.v routes a.sets.now levels a.figures.now t a.room a.van a.x c.requires.0 h)
 
-pub has-room-spec : {M : Type 1} → statement M
-has-room-spec =
+pub has_room_spec : {M : Type 1} → statement M
+has_room_spec =
     tie.close
     (tie.spec
     invariant-loop

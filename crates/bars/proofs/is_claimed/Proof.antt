@@ -20,24 +20,24 @@ use Rattle.bars.proofs.is_claimed.Lts as lts
 use Rattle.fleet.proofs.rows.figures_in.Reads as figures-in-reads
 use Rattle.verdict.proofs.partners.Reads as partners-reads
 use Rattle.verdict.proofs.owes.Reads as owes-reads
-
-abbrev invariant-loop : tie.invariant-loop
+use Rattle.bars.proofs.is_claimed.Lts.{then-j-van+else-owes, else-j-van}
+abbrev invariant-loop : tie.invariant-loop-j
 invariant-loop sheet routes sets figures van x v partners j₀ j = (j ≤ v) × (any_below j (row_owes (day_of sheet) routes figures van x) ≡ false)
 
-abbrev decreases-loop : tie.decreases-loop
+abbrev decreases-loop : tie.decreases-loop-j
 decreases-loop sheet routes sets figures van x v partners j₀ j = v - j
 
-returns : tie.Need-returns invariant-loop decreases-loop
-returns c = λ levels. let d = c.before.before in sym (claimed-alone _ _ _ _ _ (sym d.requires.0.laid.vans ∙ c.if1.true) d.requires.1)
+returns : tie.Need-returns-then-v-eq1 invariant-loop decreases-loop
+returns c = λ levels. let d = c in sym (claimed-alone _ _ _ _ _ (sym d.requires.0.laid.vans ∙ c.if-v-eq1.true) d.requires.1)
 
-partners-requires : tie.Need-partners-requires invariant-loop decreases-loop
-partners-requires c κs = c.before.before.requires.0.laid
+partners-requires : tie.Need-partners-partners-requires invariant-loop decreases-loop
+partners-requires c κs = c.requires.0.laid
 
-loop-holds : tie.Need-loop-init invariant-loop decreases-loop
+loop-holds : tie.Need-loop-j-init invariant-loop decreases-loop
 loop-holds c = (omega arith, any_none _)
 
 abbrev In-loop : Type 0
-In-loop = lts.In-loop (partners-reads.Asked, partners-reads.Learnt, figures-in-reads.Asked, figures-in-reads.Learnt, owes-reads.Asked, owes-reads.Learnt) reads.Pre reads.Post invariant-loop decreases-loop
+In-loop = lts.In-loop-j (partners-reads.Asked, partners-reads.Learnt, figures-in-reads.Asked, figures-in-reads.Learnt, owes-reads.Asked, owes-reads.Learnt) reads.Pre reads.Post invariant-loop decreases-loop
 
 -- what the fleet's definition asks is what the loop asks of the rows
 same : (d : tie.Start invariant-loop decreases-loop) (levels : List (List ℕ))
@@ -48,72 +48,70 @@ same d levels =
     sym (claimed-rows (day_of a.sheet.now) (vans_of a.sheet.now) a.routes.now a.sets.now levels a.figures.now a.van a.x d.requires.0.laid.fine.vans-high)
 
 -- j is a van
-low : (i : In-loop) → i.before.loop.j < most_vans
-low i = let l = i.before.before.before.before.before.requires.0.laid in omega (arith, i.loop-test.true, l.vans, l.fine.vans-high)
+low : (i : In-loop) → i.loop-j.j < most_vans
+low i = let l = i.requires.0.laid in omega (arith, i.loop-j-test.true, l.vans, l.fine.vans-high)
 
-mul-figures-in : tie.Need-overflow-mul-figures-in invariant-loop decreases-loop
+mul-figures-in : tie.Need-offset_bounds-figures-j invariant-loop decreases-loop
 mul-figures-in c = omega (arith, low c.before)
 
-index-1-figures-in : tie.Need-bounds-1-figures-in invariant-loop decreases-loop
+index-1-figures-in : tie.Need-bounds-figures-j invariant-loop decreases-loop
 index-1-figures-in c = low c.before
 
-figures-in-requires : tie.Need-figures-in-requires invariant-loop decreases-loop
-figures-in-requires c κs = let i = c.before.before in i.before.before.before.before.before.requires.0.figured.wide i.before.loop.j (low i)
+figures-in-requires : tie.Need-figures_in-f-requires invariant-loop decreases-loop
+figures-in-requires c κs = let i = c in i.requires.0.figured.wide i.loop-j.j (low c.before)
 
-mul-owes : tie.Need-overflow-mul-owes invariant-loop decreases-loop
-mul-owes c = omega (arith, low c.before.before.before)
+mul-owes : tie.Need-offset_bounds-routes-j invariant-loop decreases-loop
+mul-owes c = omega (arith, low c.before.before)
 
-index-1-owes : tie.Need-bounds-1-owes invariant-loop decreases-loop
-index-1-owes c = low c.before.before.before
+index-1-owes : tie.Need-bounds-routes-j invariant-loop decreases-loop
+index-1-owes c = low c.before.before
 
 owes-requires : tie.Need-owes-requires invariant-loop decreases-loop
 owes-requires c κs =
-    let g = c.before in
-    let i = g.before.before.before in
-    let p = i.before.before.before.before.before.requires.0 in
-    let r = ready-row i.before.loop.j p (omega (arith, i.loop-test.true, p.laid.vans)) in
-    rw g.figures-in.ensures (r.long, r.most, near-nodes r)
+    let g = c in
+    let i = g in
+    let p = i.requires.0 in
+    let r = ready-row i.loop-j.j p (omega (arith, i.loop-j-test.true, p.laid.vans)) in
+    rw g.figures_in-f.ensures (r.long, r.most, near-nodes r)
 
-returns-2 : tie.Need-returns-2 invariant-loop decreases-loop
+returns-2 : tie.Need-returns-then-owes invariant-loop decreases-loop
 returns-2 c = λ levels.
-    let g = c.before.before.before in
-    let t = g.before.before in
-    let i = t.before in
-    let o = i.before.before in
-    let d = o.before.before.before in
+    let g = c in
+    let t = g in
+    let i = t in
+    let o = i in
+    let d = o in
     let a = d.args in
-    any-stops (vans_of a.sheet.now) i.before.loop.j (row_owes (day_of a.sheet.now) a.routes.now a.figures.now a.van a.x) (omega (arith, i.loop-test.true, d.requires.0.laid.vans))
-    (rw (ne_eqb _ _ t.if2.true) (sym (rw g.figures-in.ensures at (c.before.owes.ensures (day_of a.sheet.now) o.partners.ensures)) ∙ c.if3.true))
-    ∙ same d levels
+    any-stops (vans_of a.sheet.now) i.loop-j.j (row_owes (day_of a.sheet.now) a.routes.now a.figures.now a.van a.x) (omega (arith, i.loop-j-test.true, d.requires.0.laid.vans))
+    (rw (ne_eqb _ _ t.if-j-van.true) (sym (rw g.figures_in-f.ensures at (c.owes.ensures (day_of a.sheet.now) o.partners-partners.ensures)) ∙ c.if-owes.true))
+    ∙ same c.before.before.before.before.before.before.before.before.before levels
 
-add-j : tie.Need-overflow-add-j invariant-loop decreases-loop
+add-j : tie.Need-overflow_add-j invariant-loop decreases-loop
 add-j c = omega (arith, low c.before)
 
-loop-less : tie.Need-loop-smaller invariant-loop decreases-loop
-loop-less c = omega (arith, c.before.loop-test.true)
+loop-less : tie.Need-loop-j-smaller invariant-loop decreases-loop
+loop-less c = omega (arith, c.loop-j-test.true)
 
-loop-again : tie.Need-loop-preserved invariant-loop decreases-loop
+loop-again : tie.Need-loop-j-preserved invariant-loop decreases-loop
 loop-again c =
-    let i = c.before in
-    let o = i.before.before in (
-      omega (arith, i.loop-test.true),
-      any-goes _ _ i.before.loop.invariant.1
-          (⊎_elim
-          (λ w. rw (ne_eqb _ _ w.0.taken) (sym (rw w.2.ensures at (w.4.ensures (day_of o.before.before.before.args.sheet.now) o.partners.ensures)) ∙ w.5.left))
-          (λ w. rw (eq-eqb _ _ w.left) refl) c.if2.branch),
+    let i = c in
+    let o = i in (
+      omega (arith, i.loop-j-test.true),
+      any-goes _ _ i.loop-j.invariant.1
+          (elim c.if-j-van.branch [ then-j-van+else-owes w ↦ rw (ne_eqb _ _ w.if-j-van.true) (sym (rw w.figures_in-f.ensures at (w.owes.ensures (day_of o.args.sheet.now) o.partners-partners.ensures)) ∙ w.if-owes.false) | else-j-van w ↦ rw (eq-eqb _ _ w.if-j-van.false) refl ]),
     )
 
-returns-3 : tie.Need-returns-3 invariant-loop decreases-loop
+returns-3 : tie.Need-returns invariant-loop decreases-loop
 returns-3 c = λ levels.
-    let d = c.before.before.before.before.before in
+    let d = c in
     let e = d.requires.0.laid.vans in
     let a = d.args in
-    let l = c.before.loop in
-    any-done (vans_of a.sheet.now) l.j (row_owes (day_of a.sheet.now) a.routes.now a.figures.now a.van a.x) (omega (arith, l.invariant.0, e)) (omega (arith, c.loop-test.false, e)) l.invariant.1
-    ∙ same d levels
+    let l = c.loop-j in
+    any-done (vans_of a.sheet.now) l.j (row_owes (day_of a.sheet.now) a.routes.now a.figures.now a.van a.x) (omega (arith, l.invariant.0, e)) (omega (arith, c.loop-j-test.false, e)) l.invariant.1
+    ∙ same c.before.before.before.before.before levels
 
-pub is-claimed-spec : {M : Type 1} → statement M
-is-claimed-spec =
+pub is_claimed_spec : {M : Type 1} → statement M
+is_claimed_spec =
     tie.close
     (tie.spec
     invariant-loop

@@ -30,92 +30,92 @@ low : (d : tie.Start) → d.args.van < most_vans
 low d = omega (arith, d.requires.2, d.requires.0.laid.fine.vans-high)
 
 abbrev Asked : Type 0
-Asked = lts.After-place-shut (figures-in-reads.Asked, figures-in-reads.Learnt, place-shut-reads.Asked, place-shut-reads.Learnt, is-claimed-reads.Asked, is-claimed-reads.Learnt, has-room-reads.Asked, has-room-reads.Learnt) reads.Pre reads.Post
+Asked = lts.After-place_shut-shut (figures-in-reads.Asked, figures-in-reads.Learnt, place-shut-reads.Asked, place-shut-reads.Learnt, is-claimed-reads.Asked, is-claimed-reads.Learnt, has-room-reads.Asked, has-room-reads.Learnt) reads.Pre reads.Post
 
 -- what was asked of the place
 shut : (k : Asked) (levels : List (List ℕ))
-    → let d = k.before.before.before.before.before.before in k.place-shut.result ≡ place_shut (n_of d.args.sheet.now) (board_in (fleet d levels) d.args.van) d.args.p d.args.x
+    → let d = k in k.place_shut-shut.result ≡ place_shut (n_of d.args.sheet.now) (board_in (fleet c.before.before.before levels) d.args.van) d.args.p d.args.x
 shut k levels =
-    let d = k.before.before.before.before.before.before in
-    shut_row d.args.routes.now d.args.sets.now levels d.args.figures.now d.args.van d.args.p d.args.x d.pre.0.laid.nodes (low d) (rw k.before.before.before.figures-in.ensures at k.place-shut.ensures)
+    let d = k in
+    shut_row d.args.routes.now d.args.sets.now levels d.args.figures.now d.args.van d.args.p d.args.x d.requires.0.laid.nodes (low c.before.before.before) (rw k.figures_in-f.ensures at k.place_shut-shut.ensures)
 
-mul-figures-in : tie.Need-overflow-mul-figures-in
+mul-figures-in : tie.Need-offset_bounds-figures-van
 mul-figures-in c = omega (arith, low c.before)
 
-index-1-figures-in : tie.Need-bounds-1-figures-in
+index-1-figures-in : tie.Need-bounds-figures-van
 index-1-figures-in c = low c.before
 
-figures-in-requires : tie.Need-figures-in-requires
-figures-in-requires c κs = let d = c.before.before in d.requires.0.figured.wide d.args.van (low d)
+figures-in-requires : tie.Need-figures_in-f-requires
+figures-in-requires c κs = let d = c in d.requires.0.figured.wide d.args.van (low c.before)
 
-mul-place-shut : tie.Need-overflow-mul-place-shut
-mul-place-shut c = omega (arith, low c.before.before.before)
+mul-place-shut : tie.Need-offset_bounds-routes-van
+mul-place-shut c = omega (arith, low c.before.before)
 
-index-1-place-shut : tie.Need-bounds-1-place-shut
-index-1-place-shut c = low c.before.before.before
+index-1-place-shut : tie.Need-bounds-routes-van
+index-1-place-shut c = low c.before.before
 
-mul-place-shut-2 : tie.Need-overflow-mul-place-shut-2
-mul-place-shut-2 c = omega (arith, low c.before.before.before.before)
+mul-place-shut-2 : tie.Need-offset_bounds-sets-van
+mul-place-shut-2 c = omega (arith, low c.before.before)
 
-index-1-place-shut-2 : tie.Need-bounds-1-place-shut-2
-index-1-place-shut-2 c = low c.before.before.before.before
+index-1-place-shut-2 : tie.Need-bounds-sets-van
+index-1-place-shut-2 c = low c.before.before
 
-place-shut-requires : tie.Need-place-shut-requires
+place-shut-requires : tie.Need-place_shut-shut-requires
 place-shut-requires c κs =
-    let g = c.before.before in
-    let d = g.before.before.before in
-    rw g.figures-in.ensures (readable_row d.args.van d.requires.0 d.requires.2)
+    let g = c in
+    let d = g in
+    rw g.figures_in-f.ensures (readable_row d.args.van d.requires.0 d.requires.2)
 
-returns : tie.Need-returns
+returns : tie.Need-returns-then-shut-ne0
 returns c = λ levels t h.
-    let k = c.before in
-    let d = k.before.before.before.before.before.before in
-    bar-shut (day_of d.args.sheet.now) (vans_of d.args.sheet.now) (fleet d levels) t d.args.van d.args.p d.args.x (shut k levels) c.if1.true
+    let k = c in
+    let d = k in
+    bar-shut (day_of d.args.sheet.now) (vans_of d.args.sheet.now) (fleet c.before.before.before.before levels) t d.args.van d.args.p d.args.x (shut c.before levels) c.if-shut-ne0.true
 
-is-claimed-requires : tie.Need-is-claimed-requires
-is-claimed-requires c κs = let d = c.before.before.before.before.before.before.before in (d.requires.0, d.requires.2)
+is-claimed-requires : tie.Need-is_claimed-requires
+is-claimed-requires c κs = let d = c in (d.requires.0, d.requires.2)
 
-returns-2 : tie.Need-returns-2
+returns-2 : tie.Need-returns-then-is_claimed
 returns-2 c = λ levels t h.
-    let o = c.before.before in
-    let k = o.before in
-    let d = k.before.before.before.before.before.before in
-    bar-claimed (day_of d.args.sheet.now) (vans_of d.args.sheet.now) (fleet d levels) t d.args.van d.args.p d.args.x (sym (shut k levels) ∙ o.if1.false)
-    (sym (c.before.is-claimed.ensures levels) ∙ c.if2.true)
+    let o = c in
+    let k = o in
+    let d = k in
+    bar-claimed (day_of d.args.sheet.now) (vans_of d.args.sheet.now) (fleet c.before.before.before.before.before.before levels) t d.args.van d.args.p d.args.x (sym (shut c.before.before.before levels) ∙ o.if-shut-ne0.false)
+    (sym (c.is_claimed.ensures levels) ∙ c.if-is_claimed.true)
 
-has-room-requires : tie.Need-has-room-requires
+has-room-requires : tie.Need-has_room-requires
 has-room-requires c κs =
-    let o = c.before.before in
-    let k = o.before in
-    let d = k.before.before.before.before.before.before in
+    let o = c in
+    let k = o in
+    let d = k in
     let l = d.requires.0.laid in
-    let split = not-shut (n_of d.args.sheet.now) (board_in (fleet d d.args.sets.now) d.args.van) d.args.p d.args.x (sym (shut k d.args.sets.now) ∙ o.if1.false) in
+    let split = not-shut (n_of d.args.sheet.now) (board_in (fleet c.before.before.before.before.before.before d.args.sets.now) d.args.van) d.args.p d.args.x (sym (shut c.before.before.before d.args.sets.now) ∙ o.if-shut-ne0.false) in
     (omega (arith, l.vans, l.fine.vans-high), omega (arith, (is-inner (n_of d.args.sheet.now) d.args.x split.0.node).1, l.fine.n-high), d.requires.1, d.requires.0.figured)
 
-returns-3 : tie.Need-returns-3
+returns-3 : tie.Need-returns-then-has_room
 returns-3 c = λ levels t h.
-    let r = c.before in
-    let m = r.before in
-    let o = m.before.before in
-    let k = o.before in
-    let d = k.before.before.before.before.before.before in
-    bar-room (day_of d.args.sheet.now) (vans_of d.args.sheet.now) (fleet d levels) t d.args.van d.args.p d.args.x (sym (shut k levels) ∙ o.if1.false)
-    (sym (m.before.is-claimed.ensures levels) ∙ m.if2.false)
-    (sym c.if3.true ∙ room-vans d.args.sets.now d.args.figures.now d.args.room d.args.van d.args.x d.requires.0.laid.vans r.has_room.ensures d.args.routes.now levels t h)
+    let r = c in
+    let m = r in
+    let o = m in
+    let k = o in
+    let d = k in
+    bar-room (day_of d.args.sheet.now) (vans_of d.args.sheet.now) (fleet c.before.before.before.before.before.before.before.before levels) t d.args.van d.args.p d.args.x (sym (shut c.before.before.before.before.before levels) ∙ o.if-shut-ne0.false)
+    (sym (m.is_claimed.ensures levels) ∙ m.if-is_claimed.false)
+    (sym c.if-has_room.true ∙ room-vans d.args.sets.now d.args.figures.now d.args.room d.args.van d.args.x d.requires.0.laid.vans r.has_room.ensures d.args.routes.now levels t h)
 
-returns-4 : tie.Need-returns-4
+returns-4 : tie.Need-returns-else-has_room
 returns-4 c = λ levels t h.
-    let r = c.before in
-    let m = r.before in
-    let o = m.before.before in
-    let k = o.before in
-    let d = k.before.before.before.before.before.before in
-    bar-room (day_of d.args.sheet.now) (vans_of d.args.sheet.now) (fleet d levels) t d.args.van d.args.p d.args.x (sym (shut k levels) ∙ o.if1.false)
-    (sym (m.before.is-claimed.ensures levels) ∙ m.if2.false)
-    (sym c.if3.false ∙ room-vans d.args.sets.now d.args.figures.now d.args.room d.args.van d.args.x d.requires.0.laid.vans r.has_room.ensures d.args.routes.now levels t h)
+    let r = c in
+    let m = r in
+    let o = m in
+    let k = o in
+    let d = k in
+    bar-room (day_of d.args.sheet.now) (vans_of d.args.sheet.now) (fleet c.before.before.before.before.before.before.before.before levels) t d.args.van d.args.p d.args.x (sym (shut c.before.before.before.before.before levels) ∙ o.if-shut-ne0.false)
+    (sym (m.is_claimed.ensures levels) ∙ m.if-is_claimed.false)
+    (sym c.if-has_room.false ∙ room-vans d.args.sets.now d.args.figures.now d.args.room d.args.van d.args.x d.requires.0.laid.vans r.has_room.ensures d.args.routes.now levels t h)
 
-pub place-bar-spec : {M : Type 1} → statement M
-place-bar-spec =
+pub place_bar_spec : {M : Type 1} → statement M
+place_bar_spec =
     tie.close
     (tie.spec
     mul-figures-in

@@ -8,55 +8,55 @@ use Rattle.telling.specs.Told.{anew}
 use Rattle.telling.proofs.stale.Statement.{statement}
 use Rattle.telling.proofs.stale.Tie as tie
 
-abbrev invariant-loop : tie.invariant-loop
+abbrev invariant-loop : tie.invariant-loop-j
 invariant-loop figures told v is₀ j₀ is j = (j ≤ v) × (v ≤ 8) × (is ≡ any_below j (anew false figures told))
 
-abbrev decreases-loop : tie.decreases-loop
+abbrev decreases-loop : tie.decreases-loop-j
 decreases-loop figures told v is₀ j₀ is j = v - j
 
-loop-holds : tie.Need-loop-init invariant-loop decreases-loop
+loop-holds : tie.Need-loop-j-init invariant-loop decreases-loop
 unfolding any_below
 loop-holds c = (omega arith, c.requires.1, refl)
 
-mul-figures-in : tie.Need-overflow-mul-figures-in invariant-loop decreases-loop
+mul-figures-in : tie.Need-offset_bounds-figures-j invariant-loop decreases-loop
 mul-figures-in c = omega arith
 
-index-1-figures-in : tie.Need-bounds-1-figures-in invariant-loop decreases-loop
+index-1-figures-in : tie.Need-bounds-figures-j invariant-loop decreases-loop
 index-1-figures-in c = omega arith
 
-figures-in-requires : tie.Need-figures-in-requires invariant-loop decreases-loop
-figures-in-requires c κs = let d = c.before.before in d.before.requires.0.wide d.loop.j (omega arith)
+figures-in-requires : tie.Need-figures_in-f-requires invariant-loop decreases-loop
+figures-in-requires c κs = let d = c in d.requires.0.wide d.loop-j.j (omega arith)
 
-mul_is : tie.Need-overflow-mul-is invariant-loop decreases-loop
+mul_is : tie.Need-offset_bounds-told-j invariant-loop decreases-loop
 mul_is c = omega arith
 
-index-1-is : tie.Need-bounds-1-is invariant-loop decreases-loop
+index-1-is : tie.Need-bounds-told-j invariant-loop decreases-loop
 index-1-is c = omega arith
 
-index-2-is : tie.Need-bounds-2-is invariant-loop decreases-loop
+index-2-is : tie.Need-bounds-told-1 invariant-loop decreases-loop
 index-2-is c = omega arith
 
-add-j : tie.Need-overflow-add-j invariant-loop decreases-loop
+add-j : tie.Need-overflow_add-j invariant-loop decreases-loop
 add-j c = omega arith
 
-loop-less : tie.Need-loop-smaller invariant-loop decreases-loop
+loop-less : tie.Need-loop-j-smaller invariant-loop decreases-loop
 loop-less c = omega arith
 
-loop-again : tie.Need-loop-preserved invariant-loop decreases-loop
+loop-again : tie.Need-loop-j-preserved invariant-loop decreases-loop
 loop-again c =
-    let g = c.before.before in
-    let d = g.before.before.before in
-    let a = d.before.args in
-    (omega arith, d.loop.invariant.1, rw (any_next d.loop.j (anew false a.figures.now a.told.now), d.loop.invariant.2, g.figures-in.ensures) refl)
+    let g = c in
+    let d = g in
+    let a = d.args in
+    (omega arith, d.loop-j.invariant.1, rw (any_next d.loop-j.j (anew false a.figures.now a.told.now), d.loop-j.invariant.2, g.figures_in-f.ensures) refl)
 
 returns : tie.Need-returns invariant-loop decreases-loop
 returns c =
-    let d = c.before in
-    let a = d.before.args in
-    d.loop.invariant.2 ∙ ap (λ (k : ℕ). any_below k (anew false a.figures.now a.told.now)) (omega (arith, d.loop.invariant.0, c.loop-test.false))
+    let d = c in
+    let a = d.args in
+    d.loop-j.invariant.2 ∙ ap (λ (k : ℕ). any_below k (anew false a.figures.now a.told.now)) (omega (arith, d.loop-j.invariant.0, c.loop-j-test.false))
 
-pub stale-spec : {M : Type 1} → statement M
-stale-spec =
+pub stale_spec : {M : Type 1} → statement M
+stale_spec =
     tie.close
     (tie.spec
     invariant-loop

@@ -20,72 +20,72 @@ sums told j = record {
   alive = all_below j (λ i. not (eqb (get_or (get_or told i []) 2 0) 0));
 }
 
-abbrev invariant-loop : tie.invariant-loop
+abbrev invariant-loop : tie.invariant-loop-j
 invariant-loop told v places₀ records₀ alive₀ j₀ places records alive j =
     (j ≤ v) × (v ≤ 8) × (places ≤ 4096 * j) × (records ≤ 4096 * j) × (places ≡ sum_below j (λ i. get_or (get_or told i []) 0 0))
     × (records ≡ sum_below j (λ i. get_or (get_or told i []) 1 0)) × (all_below j (λ i. not (eqb (get_or (get_or told i []) 2 0) 0)) ≡ alive)
 
-abbrev decreases-loop : tie.decreases-loop
+abbrev decreases-loop : tie.decreases-loop-j
 decreases-loop told v places₀ records₀ alive₀ j₀ places records alive j = v - j
 
-loop-holds : tie.Need-loop-init invariant-loop decreases-loop
+loop-holds : tie.Need-loop-j-init invariant-loop decreases-loop
 loop-holds c = (omega arith, c.requires.0, omega arith, omega arith, sym (sum-none _), sym (sum-none _), below_none _)
 
-mul-places : tie.Need-overflow-mul-places invariant-loop decreases-loop
+mul-places : tie.Need-offset_bounds-told-j invariant-loop decreases-loop
 mul-places c = omega arith
 
-index-1-places : tie.Need-bounds-1-places invariant-loop decreases-loop
+index-1-places : tie.Need-bounds-told-j invariant-loop decreases-loop
 index-1-places c = omega arith
 
-index-2-places : tie.Need-bounds-2-places invariant-loop decreases-loop
+index-2-places : tie.Need-bounds-told-0 invariant-loop decreases-loop
 index-2-places c = omega arith
 
-add-places : tie.Need-overflow-add-places invariant-loop decreases-loop
-add-places c = let l = c.before in omega (arith, (l.before.before.requires.1 l.before.loop.j l.loop-test.true).0)
+add-places : tie.Need-overflow_add-places invariant-loop decreases-loop
+add-places c = let l = c in omega (arith, (l.requires.1 l.loop-j.j l.loop-j-test.true).0)
 
-mul-records : tie.Need-overflow-mul-records invariant-loop decreases-loop
+mul-records : tie.Need-offset_bounds-told-j-in-loop-j invariant-loop decreases-loop
 mul-records c = omega arith
 
-index-1-records : tie.Need-bounds-1-records invariant-loop decreases-loop
+index-1-records : tie.Need-bounds-told-j-in-loop-j invariant-loop decreases-loop
 index-1-records c = omega arith
 
-index-2-records : tie.Need-bounds-2-records invariant-loop decreases-loop
+index-2-records : tie.Need-bounds-told-1 invariant-loop decreases-loop
 index-2-records c = omega arith
 
-add-records : tie.Need-overflow-add-records invariant-loop decreases-loop
-add-records c = let l = c.before.before in omega (arith, (l.before.before.requires.1 l.before.loop.j l.loop-test.true).1)
+add-records : tie.Need-overflow_add-records invariant-loop decreases-loop
+add-records c = let l = c in omega (arith, (l.requires.1 l.loop-j.j l.loop-j-test.true).1)
 
-mul-alive : tie.Need-overflow-mul-alive invariant-loop decreases-loop
+mul-alive : tie.Need-offset_bounds-told-j-in-loop-j-2 invariant-loop decreases-loop
 mul-alive c = omega arith
 
-index-1-alive : tie.Need-bounds-1-alive invariant-loop decreases-loop
+index-1-alive : tie.Need-bounds-told-j-in-loop-j-2 invariant-loop decreases-loop
 index-1-alive c = omega arith
 
-index-2-alive : tie.Need-bounds-2-alive invariant-loop decreases-loop
+index-2-alive : tie.Need-bounds-told-2 invariant-loop decreases-loop
 index-2-alive c = omega arith
 
-add-j : tie.Need-overflow-add-j invariant-loop decreases-loop
+add-j : tie.Need-overflow_add-j invariant-loop decreases-loop
 add-j c = omega arith
 
-loop-less : tie.Need-loop-smaller invariant-loop decreases-loop
+loop-less : tie.Need-loop-j-smaller invariant-loop decreases-loop
 loop-less c = omega arith
 
-loop-again : tie.Need-loop-preserved invariant-loop decreases-loop
+loop-again : tie.Need-loop-j-preserved invariant-loop decreases-loop
 loop-again c =
-    let l = c.before.before.before in
-    let v = l.before.loop.invariant in
-    let b = l.before.before.requires.1 l.before.loop.j l.loop-test.true in
+    let l = c in
+    let v = l.loop-j.invariant in
+    let b = l.requires.1 l.loop-j.j l.loop-j-test.true in
     (omega arith, v.1, omega (arith, b.0), omega (arith, b.1), sum-next _ _ v.4 refl, sum-next _ _ v.5 refl, flag-goes _ _ v.6 refl)
 
 returns : tie.Need-returns invariant-loop decreases-loop
 returns c =
-    let v = c.before.loop.invariant in
-    let a = c.before.before.args in
-    let e : c.before.loop.j ≡ a.v = omega arith in
+    let v = c.loop-j.invariant in
+    let a = c.args in
+    let e : c.loop-j.j ≡ a.v = omega arith in
     (λ u. record { places = v.4 u; records = v.5 u; alive = sym v.6 u }) ∙ ap (sums a.told.now) e
 
-pub sum-up-spec : {M : Type 1} → statement M
-sum-up-spec =
+pub sum_up_spec : {M : Type 1} → statement M
+sum_up_spec =
     tie.close
     (tie.spec
     invariant-loop

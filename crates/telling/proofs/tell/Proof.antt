@@ -9,42 +9,42 @@ use borrow.Author.Rules.{rules}
 use Rattle.telling.proofs.tell.Statement.{statement}
 use Rattle.telling.proofs.tell.Tie as tie
 
-count-requires : tie.Need-count-requires
-count-requires c κs = nodes-most c.before.requires.0.0.laid
+count-requires : tie.Need-count-places-requires
+count-requires c κs = nodes-most c.requires.0.0.laid
 
-course-of-requires : tie.Need-course-of-requires
-course-of-requires c κs = let p = c.before.before.before.requires in ((routed p.0.0 p.0.2, p.0.3), p.1)
+course-of-requires : tie.Need-course_of-course-requires
+course-of-requires c κs = let p = c.requires in ((routed p.0.0 p.0.2, p.0.3), p.1)
 
-stand-requires : tie.Need-stand-requires
-stand-requires c κs = let p = c.before.before.before.before.requires.0 in (p.2.long, p.2.near, p.0.sized)
+stand-requires : tie.Need-stand-alive-requires
+stand-requires c κs = let p = c.requires.0 in (p.2.long, p.2.near, p.0.sized)
 
-element-write-row : tie.Need-element-write-row
+element-write-row : tie.Need-bounds-row-0
 element-write-row c = search rules
 
-element-write-row-2 : tie.Need-element-write-row-2
+element-write-row-2 : tie.Need-bounds-row-1
 element-write-row-2 c = search rules
 
-one-if-requires : tie.Need-one-if-requires
+one-if-requires : tie.Need-one_if-requires
 one-if-requires c κs = search rules
 
-element-write-row-3 : tie.Need-element-write-row-3
+element-write-row-3 : tie.Need-bounds-row-2
 element-write-row-3 c = search rules
 
 returns : tie.Need-returns
 unfolding route_of open_at set_of
 returns c =
-    let w = c.before.before in
-    let k = w.before.before in
-    let d = k.before.before in
+    let w = c in
+    let k = w in
+    let d = k in
     let r = d.requires.0.0 in
-    let kept = w.course-of.ensures in
-    let stands = c.before.stand.ensures d.args.van _ _ _ _ r d.requires.0.2 (subst (Coursed _ _ _ _) (sym kept.1) kept.0.course) in (
-      λ levels. rw (k.count.ensures.0 ∙ places-end _ _ (nodes-most r.laid) (past-nodes r), c.one-if.ensures, stands) (told-written d.args.row.now _ _ _ d.requires.0.1),
+    let kept = w.course_of-course.ensures in
+    let stands = c.stand-alive.ensures d.args.van _ _ _ _ r d.requires.0.2 (subst (Coursed _ _ _ _) (sym kept.1) kept.0.course) in (
+      λ levels. rw (k.count-places.ensures.0 ∙ places-end _ _ (nodes-most r.laid) (past-nodes r), c.one_if.ensures, stands) (told-written d.args.row.now _ _ _ d.requires.0.1),
       kept.0,
     )
 
-pub tell-spec : {M : Type 1} → statement M
-tell-spec =
+pub tell_spec : {M : Type 1} → statement M
+tell_spec =
     tie.close
     (tie.spec
     count-requires

@@ -17,11 +17,11 @@ use Rattle.turns.proofs.each.turn.Reads as turn-reads
 use Rattle.fleet.proofs.rows.figures_in.Reads as figures-in-reads
 use Rattle.fleet.proofs.rows.put_figures.Reads as put-figures-reads
 
-abbrev invariant-loop : tie.invariant-loop
+abbrev invariant-loop : tie.invariant-loop-j
 invariant-loop n v share routes₀ sets₀ levels₀ figures₀ trail₀ step fits₀ j₀ routes sets levels figures trail fits j =
     Taken n v step (fleet_with routes₀ sets₀ levels₀ figures₀) trail₀ j routes sets levels figures trail fits
 
-abbrev decreases-loop : tie.decreases-loop
+abbrev decreases-loop : tie.decreases-loop-j
 decreases-loop n v share routes₀ sets₀ levels₀ figures₀ trail₀ step fits₀ j₀ routes sets levels figures trail fits j = v - j
 
 -- van j's words are within the trail
@@ -29,110 +29,110 @@ spot : (v share j : ℕ) (t t' : List ℕ) → share ≡ share_of v t → length
 spot v share j t t' e l h = rw (e, l) (part-fits v t j h)
 
 abbrev In-loop : Type 0
-In-loop = lts.In-loop (figures-in-reads.Asked, figures-in-reads.Learnt, turn-reads.Asked, turn-reads.Learnt, put-figures-reads.Asked, put-figures-reads.Learnt) reads.Pre reads.Post invariant-loop decreases-loop
+In-loop = lts.In-loop-j (figures-in-reads.Asked, figures-in-reads.Learnt, turn-reads.Asked, turn-reads.Learnt, put-figures-reads.Asked, put-figures-reads.Learnt) reads.Pre reads.Post invariant-loop decreases-loop
 
-inside : (c : In-loop) → c.before.loop.j * c.before.before.before.args.share + c.before.before.before.args.share ≤ length c.before.loop.trail
+inside : (c : In-loop) → c.loop-j.j * c.args.share + c.args.share ≤ length c.loop-j.trail
 inside c =
-    let d = c.before.before.before in
-    spot d.args.v d.args.share c.before.loop.j d.args.trail.now c.before.loop.trail d.requires.0.2 c.before.loop.invariant.long c.loop-test.true
+    let d = c in
+    spot d.args.v d.args.share c.loop-j.j d.args.trail.now c.loop-j.trail d.requires.0.2 c.loop-j.invariant.long c.loop-j-test.true
 
 -- j is a van
-low : (i : In-loop) → i.before.loop.j < 8
-low i = omega (arith, i.loop-test.true, i.before.before.before.requires.0.1)
+low : (i : In-loop) → i.loop-j.j < 8
+low i = omega (arith, i.loop-j-test.true, i.requires.0.1)
 
-loop-holds : tie.Need-loop-init invariant-loop decreases-loop
-loop-holds c = taken_none _ _ _ _ _ _ _ _ c.before.requires.0.3
+loop-holds : tie.Need-loop-j-init invariant-loop decreases-loop
+loop-holds c = taken_none _ _ _ _ _ _ _ _ c.requires.0.3
 
-mul-from : tie.Need-overflow-mul-from invariant-loop decreases-loop
-mul-from c = omega (arith, inside c, c.before.loop.invariant.long, c.before.before.before.well-formed)
+mul-from : tie.Need-overflow_mul-from invariant-loop decreases-loop
+mul-from c = omega (arith, inside c, c.loop-j.invariant.long, c.well_formed)
 
-add-end : tie.Need-overflow-add-end invariant-loop decreases-loop
-add-end c = omega (arith, inside c, c.before.loop.invariant.long, c.before.before.before.well-formed)
+add-end : tie.Need-overflow_add-end invariant-loop decreases-loop
+add-end c = omega (arith, inside c, c.loop-j.invariant.long, c.well_formed)
 
-mul-figures-in : tie.Need-overflow-mul-figures-in invariant-loop decreases-loop
+mul-figures-in : tie.Need-offset_bounds-figures-j invariant-loop decreases-loop
 mul-figures-in c = omega (arith, low c)
 
-index-1-figures-in : tie.Need-bounds-1-figures-in invariant-loop decreases-loop
+index-1-figures-in : tie.Need-bounds-figures-j invariant-loop decreases-loop
 index-1-figures-in c = low c
 
-figures-in-requires : tie.Need-figures-in-requires invariant-loop decreases-loop
-figures-in-requires c κs = let i = c.before in i.before.loop.invariant.rows.3.wide i.before.loop.j (low i)
+figures-in-requires : tie.Need-figures_in-f-requires invariant-loop decreases-loop
+figures-in-requires c κs = let i = c in i.loop-j.invariant.rows.3.wide i.loop-j.j (low c.before)
 
-mul-turn : tie.Need-overflow-mul-turn invariant-loop decreases-loop
+mul-turn : tie.Need-offset_bounds-routes-j invariant-loop decreases-loop
 mul-turn c = omega (arith, low c.before.before)
 
-index-1-turn : tie.Need-bounds-1-turn invariant-loop decreases-loop
+index-1-turn : tie.Need-bounds-routes-j invariant-loop decreases-loop
 index-1-turn c = low c.before.before
 
-mul-turn-2 : tie.Need-overflow-mul-turn-2 invariant-loop decreases-loop
+mul-turn-2 : tie.Need-offset_bounds-sets-j invariant-loop decreases-loop
 mul-turn-2 c = omega (arith, low c.before.before.before)
 
-index-1-turn-2 : tie.Need-bounds-1-turn-2 invariant-loop decreases-loop
+index-1-turn-2 : tie.Need-bounds-sets-j invariant-loop decreases-loop
 index-1-turn-2 c = low c.before.before.before
 
-mul-turn-3 : tie.Need-overflow-mul-turn-3 invariant-loop decreases-loop
+mul-turn-3 : tie.Need-offset_bounds-levels-j invariant-loop decreases-loop
 mul-turn-3 c = omega (arith, low c.before.before.before.before)
 
-index-1-turn-3 : tie.Need-bounds-1-turn-3 invariant-loop decreases-loop
+index-1-turn-3 : tie.Need-bounds-levels-j invariant-loop decreases-loop
 index-1-turn-3 c = low c.before.before.before.before
 
-mul-turn-4 : tie.Need-overflow-mul-turn-4 invariant-loop decreases-loop
-mul-turn-4 c = let i = c.before.before.before.before.before in omega (arith, inside i, i.before.loop.invariant.long, i.before.before.before.well-formed)
+mul-turn-4 : tie.Need-offset_bounds-trail-from invariant-loop decreases-loop
+mul-turn-4 c = let i = c in omega (arith, inside c.before.before.before.before.before, i.loop-j.invariant.long, i.well_formed)
 
-sub-turn : tie.Need-overflow-sub-turn invariant-loop decreases-loop
+sub-turn : tie.Need-slice_bounds-turn-count invariant-loop decreases-loop
 sub-turn c = omega arith
 
-part-turn-start : tie.Need-slice-bounds-turn-start invariant-loop decreases-loop
+part-turn-start : tie.Need-slice_bounds-turn-start invariant-loop decreases-loop
 part-turn-start c = omega arith
 
-part-turn-end : tie.Need-slice-bounds-turn-end invariant-loop decreases-loop
+part-turn-end : tie.Need-slice_bounds-turn-end invariant-loop decreases-loop
 part-turn-end c = inside c.before.before.before.before.before
 
-turn-requires : tie.Need-turn-requires invariant-loop decreases-loop
+turn-requires : tie.Need-turn-o-requires invariant-loop decreases-loop
 turn-requires c κs =
-    let g = c.before.before.before.before in
-    let i = g.before.before in
-    let d = i.before.before.before in
-    rw g.figures-in.ensures (taken-asks d.args.share i.before.loop.invariant d.requires.0.2 i.loop-test.true d.requires.0.1 (d.requires.1 i.before.loop.j i.loop-test.true))
+    let g = c in
+    let i = g in
+    let d = i in
+    rw g.figures_in-f.ensures (taken-asks d.args.share i.loop-j.invariant d.requires.0.2 i.loop-j-test.true d.requires.0.1 (d.requires.1 i.loop-j.j i.loop-j-test.true))
 
 -- the loop, once van j has taken its turn
-abbrev turned : tie.After-g invariant-loop decreases-loop → In-loop
+abbrev turned : tie.After-g-1 invariant-loop decreases-loop → In-loop
 turned c = c.before.before.before.before.before.before.before.before.before.before
 
-mul-put-figures : tie.Need-overflow-mul-put-figures invariant-loop decreases-loop
+mul-put-figures : tie.Need-offset_bounds-figures-j-in-loop-j invariant-loop decreases-loop
 mul-put-figures c = omega (arith, low (turned c))
 
-index-1-put-figures : tie.Need-bounds-1-put-figures invariant-loop decreases-loop
+index-1-put-figures : tie.Need-bounds-figures-j-in-loop-j invariant-loop decreases-loop
 index-1-put-figures c = low (turned c)
 
-put-figures-requires : tie.Need-put-figures-requires invariant-loop decreases-loop
-put-figures-requires c κs = let i = turned c.before in i.before.loop.inv.rows.3.wide i.before.loop.j (low i)
+put-figures-requires : tie.Need-put_figures-requires invariant-loop decreases-loop
+put-figures-requires c κs = let i = turned c.before in i.loop-j.invariant.rows.3.wide i.loop-j.j (low i)
 
-add-j : tie.Need-overflow-add-j invariant-loop decreases-loop
+add-j : tie.Need-overflow_add-j invariant-loop decreases-loop
 add-j c = omega (arith, low (turned c.before.before.before))
 
-loop-less : tie.Need-loop-smaller invariant-loop decreases-loop
-loop-less c = omega (arith, (turned c.before.before.before).loop-test.true)
+loop-less : tie.Need-loop-j-smaller invariant-loop decreases-loop
+loop-less c = omega (arith, (turned c.before.before.before).loop-j-test.true)
 
-loop-again : tie.Need-loop-preserved invariant-loop decreases-loop
+loop-again : tie.Need-loop-j-preserved invariant-loop decreases-loop
 loop-again c =
-    let p = c.before in
-    let r = p.before.before.before.before in
-    let k = r.before in
-    let g = k.before.before.before.before.before in
-    let i = g.before.before in
-    let d = i.before.before.before in
-    rw p.put-figures.ensures
-    (taken-goes d.args.share i.before.loop.invariant d.requires.0.2 i.loop-test.true d.requires.0.1 k.turn.result (rw g.figures-in.ensures at k.turn.ensures) r.trail.given.0)
+    let p = c in
+    let r = p in
+    let k = r in
+    let g = k in
+    let i = g in
+    let d = i in
+    rw p.put_figures.ensures
+    (taken-goes d.args.share i.loop-j.invariant d.requires.0.2 i.loop-j-test.true d.requires.0.1 k.turn-o.result (rw g.figures_in-f.ensures at k.turn-o.ensures) r.trail-1.given.0)
 
-same_length : tie.Need-same-length invariant-loop decreases-loop
-same_length c = c.before.loop.invariant.long
+same_length : tie.Need-shape_of-trail invariant-loop decreases-loop
+same_length c = c.loop-j.invariant.long
 
 returns : tie.Need-returns invariant-loop decreases-loop
 returns c =
-    let d = c.before.before.before in
-    let b = c.before.loop.invariant in
-    (together-is _ _ _ _ _ _ _ (taken-all _ _ _ _ _ _ b c.loop-test.false d.requires.0.1), flag-done _ _ _ b.most c.loop-test.false b.flag, b.rows)
+    let d = c in
+    let b = c.loop-j.invariant in
+    (together-is _ _ _ _ _ _ _ (taken-all _ _ _ _ _ _ b c.loop-j-test.false d.requires.0.1), flag-done _ _ _ b.most c.loop-j-test.false b.flag, b.rows)
 
 pub each_spec : {M : Type 1} → statement M
 each_spec =

@@ -14,62 +14,62 @@ state d = state_with d.args.route.now d.args.sets.now d.args.levels.now d.args.f
 
 place-requires : tie.Need-place-requires
 place-requires c κs =
-    let m = c.before.before.before in
-    let d = m.before.before.before.before.before in
-    (turning-sound d.requires, place-free d.requires m.before.before.if1.true m.if2.true)
+    let m = c in
+    let d = m in
+    (turning-sound d.requires, place-free d.requires m.if-step-eq-PLACE.true m.if-j-step.true)
 
-same_length : tie.Need-same-length
+same_length : tie.Need-shape_of-trail-then-j-step
 same_length c = search rules
 
-returns : tie.Need-returns
+returns : tie.Need-returns-then-j-step
 unfolding turn_of
 returns c =
-    let k = c.before.before in
-    let m = k.before.before.before.before in
-    let d = m.before.before.before.before.before in
-    rw (eq-eqb _ _ m.before.before.if1.true, eq-eqb _ _ m.if2.true) (k.place.ensures d.args.levels.now)
+    let k = c in
+    let m = k in
+    let d = m in
+    rw (eq-eqb _ _ m.if-step-eq-PLACE.true, eq-eqb _ _ m.if-j-step.true) (k.place.ensures d.args.levels.now)
 
-shut-out-requires : tie.Need-shut-out-requires
+shut-out-requires : tie.Need-shut_out-requires
 shut-out-requires c κs =
-    let m = c.before.before in
-    let d = m.before.before.before.before.before in
-    shut-out-asks _ (board_of (state d)) _ _ _ _ d.requires.small (exclude-free d.requires m.before.before.if1.true m.if2.false)
+    let m = c in
+    let d = m in
+    shut-out-asks _ (board_of (state c.before.before.before.before.before.before.before)) _ _ _ _ d.requires.small (exclude-free d.requires m.if-step-eq-PLACE.true m.if-j-step.false)
 
-same-length-2 : tie.Need-same-length-2
+same-length-2 : tie.Need-shape_of-trail-then-step-eq-PLACE
 same-length-2 c = search rules
 
-returns-2 : tie.Need-returns-2
+returns-2 : tie.Need-returns-then-step-eq-PLACE
 unfolding turn_of
 returns-2 c =
-    let k = c.before.before in
-    let m = k.before.before.before in
-    let d = m.before.before.before.before.before in
-    rw (eq-eqb _ _ m.before.before.if1.true, ne_eqb _ _ m.if2.false)
-    (k.shut_out.ensures d.args.n d.args.route.now d.args.levels.now (exclude-free d.requires m.before.before.if1.true m.if2.false))
+    let k = c in
+    let m = k in
+    let d = m in
+    rw (eq-eqb _ _ m.if-step-eq-PLACE.true, ne_eqb _ _ m.if-j-step.false)
+    (k.shut_out.ensures d.args.n d.args.route.now d.args.levels.now (exclude-free d.requires m.if-step-eq-PLACE.true m.if-j-step.false))
 
 level-requires : tie.Need-level-requires
 level-requires c κs = search rules
 
-returns-3 : tie.Need-returns-3
+returns-3 : tie.Need-returns-then-step-eq-LEVEL
 unfolding turn_of
 returns-3 c =
-    let m = c.before.before in
-    let d = m.before.before.before.before.before in
-    rw (ne_eqb _ _ m.before.before.if1.false, eq-eqb _ _ m.if3.true) (c.level.ensures d.args.route.now d.args.sets.now d.args.trail.now)
+    let m = c in
+    let d = m in
+    rw (ne_eqb _ _ m.if-step-eq-PLACE.false, eq-eqb _ _ m.if-step-eq-LEVEL.true) (c.level.ensures d.args.route.now d.args.sets.now d.args.trail.now)
 
 back-requires : tie.Need-back-requires
 back-requires c κs =
-    let d = c.before.before.before.before.before.before.before.before.before in
+    let d = c in
     ((turning-sound d.requires, d.requires.held.levels), d.requires.form)
 
-same-length-3 : tie.Need-same-length-3
+same-length-3 : tie.Need-shape_of-trail
 same-length-3 c = search rules
 
-returns-4 : tie.Need-returns-4
+returns-4 : tie.Need-returns
 unfolding turn_of
 returns-4 c =
-    let m = c.before.before.before.before.before in
-    rw (ne_eqb _ _ m.before.before.if1.false, ne_eqb _ _ m.if3.false) c.back.ensures
+    let m = c in
+    rw (ne_eqb _ _ m.if-step-eq-PLACE.false, ne_eqb _ _ m.if-step-eq-LEVEL.false) c.back.ensures
 
 pub turn_spec : {M : Type 1} → statement M
 turn_spec =
