@@ -6,16 +6,16 @@
 set -eu
 root=$(cd "$(dirname "$0")/.." && pwd)
 bin=$root/tests/second/target/release
-home=$(rt doc)
-clang=${home%/docs/START-HERE.md}/on/$(uname -m)/toolchain/bin/clang
+home=$(dirname "$(rt doc)")
 work=$(mktemp -d)
 trap 'rm -rf "$work"' EXIT
 (cd "$root/tests/second" && cargo build --release --offline --quiet)
 for name in straight plain; do ${CC:-cc} -O0 -w -o "$work/$name" "$root/bench/$name.c"; done
 "$root/bench/module.sh" "$work/planner.bc"
-"$clang" --target="$(uname -m)-unknown-linux-gnu" --no-default-config -no-canonical-prefixes -fintegrated-cc1 -fPIE -O0 -w \
+"$home/toolchain/bin/clang" --target=x86_64-unknown-linux-gnu --no-default-config -no-canonical-prefixes -fintegrated-cc1 -fPIE -O0 -w \
     -mllvm -trap-unreachable -mllvm -no-trap-after-noreturn -c -x ir "$work/planner.bc" -o "$work/planner.o"
-${CC:-cc} -o "$work/planner" "$work/planner.o"
+"$home/bin/rattle-link" --target x86_64-unknown-linux-gnu --toolchain "$home/toolchain" -o "$work/planner" "$work/planner.o" \
+    "$home/c/libos_c.a" "$home/c/liblibc_c.a" > "$work/out"
 
 # Calls of a function in a run that opens a day so many times: program, function, day, times (one digit)
 calls() {

@@ -4,16 +4,13 @@
 set -euo pipefail
 root=$(cd "$(dirname "${BASH_SOURCE[0]}")/.." && pwd)
 cd "$root"
-home=$(rt doc)
-home=${home%/docs/START-HERE.md}
-tools=$home/on/$(uname -m)/toolchain
+home=$(dirname "$(rt doc)")
+tools=$home/toolchain
 mkdir -p target/bench
-"$tools/bin/clang" --target=x86_64-unknown-linux-gnu -march=x86-64 --no-default-config -nostdinc -no-canonical-prefixes -fintegrated-cc1 \
+# x86-64-v2 is what the kit builds the planner for.
+"$tools/bin/clang" --target=x86_64-unknown-linux-gnu -march=x86-64-v2 --no-default-config -nostdinc -no-canonical-prefixes -fintegrated-cc1 \
     -ffunction-sections -fPIE -O3 -c bench/plain.c -o target/bench/plain.o
-"$home/on/$(uname -m)/bin/rattle-link" --target x86_64-unknown-linux-gnu --toolchain "$tools" -o target/bench/plain target/bench/plain.o
-[ -x target/bin/measure ] || rt check measure >&2
+"$home/bin/rattle-link" --target x86_64-unknown-linux-gnu --toolchain "$tools" -o target/bench/plain target/bench/plain.o
+./run measure < /dev/null > target/bench/empty
 (cd tests/second && cargo build --release --offline --quiet)
-emulator=$tools/bin/qemu-x86_64
-[ -x "$emulator" ] || emulator=
-loader="$emulator $tools/lib/ld-linux-x86-64.so.2 --library-path $tools/lib"
-tests/second/target/release/ratios "$loader target/bench/plain" "$loader target/bin/measure" ${1:-}
+tests/second/target/release/ratios target/bench/plain crates/measure/out/measure ${1:-}

@@ -1,13 +1,16 @@
 // The program `measure`: one of the planner's calls, many times over. What to send it stands at the head of bench/plain.c.
+#![tactic(auto)]
+
 ghost use Rattle.std.specs.Prelude.{◌≡◌, ◌<◌, ◌≤◌, length};
 
 use board::State;
 use board::places::count;
 use dock::{TEXT, TRAIL};
 use fleet::Fleet;
-use libc::{STDIN_FILENO, STDOUT_FILENO};
+use intake::read_full;
 use listing::put_number;
 use rules::{Node, Step};
+use std::io;
 use std::num::{wrapping_add_u32, wrapping_add_u64};
 
 fn wide(b: u8) -> u32 {
@@ -282,20 +285,20 @@ fn task_of(operation: usize, fleet: Fleet, v: usize, n: usize) -> Task {
     }
 }
 
-fn write(out: &[u8], used: usize) {
+fn write(rt: &impl Print, out: &[u8], used: usize) -> io::Result<()> {
     if out.len() < used {
-        return;
+        return Ok(());
     }
-    io::write_all(STDOUT_FILENO, &out[..used]);
+    rt.write_all(&out[..used])
 }
 
 // The one line: `result` and the sum.
-fn tell(sum: u64) {
+fn tell(rt: &impl Print, sum: u64) -> io::Result<()> {
     let mut line = [0u8; 32];
     let used = put_number(&mut line, 0, sum);
-    io::write_all(STDOUT_FILENO, b"result ");
-    write(&line, used);
-    io::write_all(STDOUT_FILENO, b"\n");
+    rt.write_all(b"result ")?;
+    write(rt, &line, used)?;
+    rt.write_all(b"\n")
 }
 
 // Whether there is no such operation, or it asks for a sheet that opens and this one is refused.
@@ -308,26 +311,24 @@ fn cannot(operation: usize, refusal: usize) -> bool {
 }
 
 // One operation on a sheet; the listing alone for operation 0.
-fn measure(operation: usize, count: usize, sheet: &mut [u8]) {
+fn measure(rt: &impl Print, operation: usize, count: usize, sheet: &mut [u8]) -> io::Result<()> {
     let mut trail = [0u64; TRAIL];
     let mut out = [0u8; TEXT];
     if operation == 0 {
         let used = dock::lines::list(sheet, &mut trail, &mut out);
-        write(&out, used);
-        return;
+        return write(rt, &out, used);
     }
     let opened = planner::open(sheet);
     if cannot(operation, opened.answer) {
-        io::write_all(STDOUT_FILENO, b"cannot\n");
-        return;
+        return rt.write_all(b"cannot\n");
     }
     if operation == 7 {
-        tell(repeat_listing(count, sheet, &mut trail, &mut out));
-        return;
+        return tell(rt, repeat_listing(count, sheet, &mut trail, &mut out));
     }
     let found = day::checked(sheet);
     let at = found.layout;
     repeat_on(
+        rt,
         operation,
         count,
         sheet,
@@ -335,7 +336,7 @@ fn measure(operation: usize, count: usize, sheet: &mut [u8]) {
         at.nodes,
         at.vans,
         &mut trail,
-    );
+    )
 }
 
 // Words of the trail that v vans are lent.
@@ -350,6 +351,7 @@ fn lent_words(v: usize) -> usize
 
 // One of the operations 1 to 6, 8 and 9 on a sheet of n nodes and v vans.
 fn repeat_on(
+    rt: &impl Print,
     operation: usize,
     count: usize,
     sheet: &mut [u8],
@@ -357,37 +359,33 @@ fn repeat_on(
     n: usize,
     v: usize,
     trail: &mut [u64],
-) {
+) -> io::Result<()> {
     let words = lent_words(v);
     if trail.len() < words {
-        return;
+        return Ok(());
     }
     let lent: &mut [u64] = &mut trail[..words];
     let fleet = start(operation, sheet, fresh, v, lent, n);
     let task = task_of(operation, fleet, v, n);
     if operation == 1 {
-        tell(repeat_opening(count, sheet));
-        return;
+        return tell(rt, repeat_opening(count, sheet));
     }
     if operation == 6 {
-        tell(repeat_verdict(count, sheet, fleet));
-        return;
+        return tell(rt, repeat_verdict(count, sheet, fleet));
     }
     if operation == 8 {
-        tell(repeat_places(count, sheet, fleet));
-        return;
+        return tell(rt, repeat_places(count, sheet, fleet));
     }
-    tell(repeat_step(count, sheet, fleet, lent, task));
+    tell(rt, repeat_step(count, sheet, fleet, lent, task))
 }
 
-fn main() {
+fn main(rt: HostRuntime) -> io::Result<()> {
     let mut input = [0u8; 61460];
-    let n = io::read_full(STDIN_FILENO, &mut input);
+    let n = read_full(&mut rt.stdin(), &mut input)?;
     if n < 16 {
-        io::write_all(STDOUT_FILENO, b"cannot\n");
-        return;
+        return rt.write_all(b"cannot\n");
     }
     let operation = number(&input, 0);
     let count = number(&input, 2);
-    measure(operation, count, &mut input[16..n]);
+    measure(&rt, operation, count, &mut input[16..n])
 }

@@ -1,11 +1,14 @@
 // The program `probe`: the planner's face for anyone who wants to try it on anything. Cases on standard input, a line of numbers each.
-ghost use Rattle.std.specs.Prelude.{◌≡◌, ◌≤◌, ◌<◌, length};
+#![tactic(auto)]
+
+ghost use Rattle.std.specs.Prelude.{◌≡◌, ◌≤◌, ◌<◌, length, IfOk};
 
 use board::State;
 use fleet::Fleet;
-use libc::{STDIN_FILENO, STDOUT_FILENO};
+use intake::read_full;
 use listing::put_number;
 use rules::Node;
+use std::io::{self, Read};
 
 // The most bytes of a sheet and words of a trail, and the bytes of what stands before them.
 const SHEET: usize = 61440;
@@ -143,22 +146,22 @@ fn case_of(head: &[u8]) -> Case {
 }
 
 // Writes the first bytes of the buffer.
-fn write(out: &[u8], used: usize) {
+fn write(rt: &impl Print, out: &[u8], used: usize) -> io::Result<()> {
     if out.len() < used {
-        return;
+        return Ok(());
     }
-    io::write_all(STDOUT_FILENO, &out[..used]);
+    rt.write_all(&out[..used])
 }
 
 // Writes what the buffer holds if little room is left, and answers how much it then holds.
-fn room(out: &[u8], used: usize) -> usize
-    ensures { result ≤ 64000 }
+fn room(rt: &impl Print, out: &[u8], used: usize) -> io::Result<usize>
+    ensures { IfOk result (λ held. held ≤ 64000) }
 {
     if used <= 64000 {
-        return used;
+        return Ok(used);
     }
-    write(out, used);
-    0
+    write(rt, out, used)?;
+    Ok(0)
 }
 
 // One byte, as long as there is room.
@@ -171,13 +174,13 @@ fn put_byte(out: &mut [u8], at: usize, b: u8) -> usize {
 }
 
 // A number, and a space behind it.
-fn put(out: &mut [u8], used: usize, v: u64) -> usize {
-    let at = room(out, used);
+fn put(rt: &impl Print, out: &mut [u8], used: usize, v: u64) -> io::Result<usize> {
+    let at = room(rt, out, used)?;
     if out.len() < 65536 {
-        return at;
+        return Ok(at);
     }
     let next = put_number(out, at, v);
-    put_byte(out, next, b' ')
+    Ok(put_byte(out, next, b' '))
 }
 
 // The line's last space becomes its end.
@@ -188,68 +191,73 @@ fn end_line(out: &mut [u8], used: usize) -> usize {
     put_byte(out, used - 1, b'\n')
 }
 
-fn put_numbers(out: &mut [u8], used: usize, a: &[usize; Node::MOST]) -> usize
+fn put_numbers(
+    rt: &impl Print,
+    out: &mut [u8],
+    used: usize,
+    a: &[usize; Node::MOST],
+) -> io::Result<usize>
     requires { length a.now ≡ 64 }
 {
     let mut next = used;
     let mut i = 0;
     while i < Node::MOST {
-        next = put(out, next, a[i] as u64);
+        next = put(rt, out, next, a[i] as u64)?;
         i += 1;
     }
-    next
+    Ok(next)
 }
 
-fn put_words(out: &mut [u8], used: usize, a: &[u64]) -> usize {
+fn put_words(rt: &impl Print, out: &mut [u8], used: usize, a: &[u64]) -> io::Result<usize> {
     let mut next = used;
     let mut i = 0;
     while i < a.len() {
-        next = put(out, next, a[i]);
+        next = put(rt, out, next, a[i])?;
         i += 1;
     }
-    next
+    Ok(next)
 }
 
-fn put_bytes(out: &mut [u8], used: usize, a: &[u8]) -> usize {
-    let mut next = put(out, used, a.len() as u64);
+fn put_bytes(rt: &impl Print, out: &mut [u8], used: usize, a: &[u8]) -> io::Result<usize> {
+    let mut next = put(rt, out, used, a.len() as u64)?;
     let mut i = 0;
     while i < a.len() {
-        next = put(out, next, wide(a[i]));
+        next = put(rt, out, next, wide(a[i]))?;
         i += 1;
     }
-    next
+    Ok(next)
 }
 
-fn put_state(out: &mut [u8], used: usize, state: State) -> usize {
-    let a = put_numbers(out, used, &state.route);
-    let b = put(out, a, state.stops as u64);
-    let c = put_words(out, b, &state.sets);
-    let d = put(out, c, state.marks);
-    let e = put_numbers(out, d, &state.levels);
-    let f = put(out, e, state.depth as u64);
-    put(out, f, state.records as u64)
+fn put_state(rt: &impl Print, out: &mut [u8], used: usize, state: State) -> io::Result<usize> {
+    let a = put_numbers(rt, out, used, &state.route)?;
+    let b = put(rt, out, a, state.stops as u64)?;
+    let c = put_words(rt, out, b, &state.sets)?;
+    let d = put(rt, out, c, state.marks)?;
+    let e = put_numbers(rt, out, d, &state.levels)?;
+    let f = put(rt, out, e, state.depth as u64)?;
+    put(rt, out, f, state.records as u64)
 }
 
 // The eight states, and then the marks "must go somewhere".
-fn put_fleet(out: &mut [u8], used: usize, fleet: Fleet) -> usize {
+fn put_fleet(rt: &impl Print, out: &mut [u8], used: usize, fleet: Fleet) -> io::Result<usize> {
     let vans = fleet.vans;
     let mut next = used;
     let mut j = 0;
     while j < Fleet::VANS {
         let s = vans[j];
-        next = put_state(out, next, s);
+        next = put_state(rt, out, next, s)?;
         j += 1;
     }
     let first = vans[0];
-    put(out, next, first.must)
+    put(rt, out, next, first.must)
 }
 
-fn put_told(out: &mut [u8], used: usize, told: Told) -> usize {
-    let a = put(out, used, told.answer as u64);
-    let b = put(out, a, told.rounds as u64);
-    let c = put(out, b, told.places as u64);
-    let d = put(out, c, told.alive as u64);
-    put_fleet(out, d, told.fleet)
+fn put_told(rt: &impl Print, out: &mut [u8], used: usize, told: Told) -> io::Result<usize> {
+    let a = put(rt, out, used, told.answer as u64)?;
+    let b = put(rt, out, a, told.rounds as u64)?;
+    let c = put(rt, out, b, told.places as u64)?;
+    let d = put(rt, out, c, told.alive as u64)?;
+    put_fleet(rt, out, d, told.fleet)
 }
 
 fn one_if(b: bool) -> usize {
@@ -294,15 +302,22 @@ fn ask(sheet: &[u8], case: Case, trail: &mut [u64]) -> Told {
 }
 
 // The line of a case.
-fn answer(sheet: &[u8], case: Case, trail: &mut [u64], out: &mut [u8], used: usize) -> usize {
+fn answer(
+    rt: &impl Print,
+    sheet: &[u8],
+    case: Case,
+    trail: &mut [u64],
+    out: &mut [u8],
+    used: usize,
+) -> io::Result<usize> {
     if case.question == 4 {
-        let a = put_bytes(out, used, planner::section(sheet, case.word));
-        return end_line(out, a);
+        let a = put_bytes(rt, out, used, planner::section(sheet, case.word))?;
+        return Ok(end_line(out, a));
     }
     let told = ask(sheet, case, trail);
-    let a = put_told(out, used, told);
-    let b = put_words(out, a, trail);
-    end_line(out, b)
+    let a = put_told(rt, out, used, told)?;
+    let b = put_words(rt, out, a, trail)?;
+    Ok(end_line(out, b))
 }
 
 // The words of the trail out of their bytes.
@@ -322,89 +337,97 @@ struct Next {
 }
 
 // The line of a case that cannot be read, and the end.
-fn bad(out: &mut [u8], used: usize) -> Next {
+fn bad(rt: &impl Print, out: &mut [u8], used: usize) -> io::Result<Next> {
     let text = b"bad case\n";
-    let mut next = room(out, used);
+    let mut next = room(rt, out, used)?;
     let mut i = 0;
     while i < 9 {
         next = put_byte(out, next, text[i]);
         i += 1;
     }
-    Next {
+    Ok(Next {
         used: next,
         more: false,
-    }
+    })
 }
 
 // Whether the input has n bytes more, which then stand in front.
-fn fill(buf: &mut [u8], n: usize) -> bool {
+fn fill(input: &mut impl Read, buf: &mut [u8], n: usize) -> io::Result<bool> {
     if buf.len() < n {
-        return false;
+        return Ok(false);
     }
-    io::read_full(STDIN_FILENO, &mut buf[..n]) == n
+    let got = read_full(input, &mut buf[..n])?;
+    Ok(got == n)
 }
 
 // The line of a case whose bytes and trail words were read.
 fn line(
+    rt: &impl Print,
     bytes: &[u8],
     packed: &[u8],
     case: Case,
     trail: &mut [u64],
     out: &mut [u8],
     used: usize,
-) -> Next {
+) -> io::Result<Next> {
     let b = case.bytes;
     let t = case.words;
     if bytes.len() < b {
-        return bad(out, used);
+        return bad(rt, out, used);
     }
     if trail.len() < t {
-        return bad(out, used);
+        return bad(rt, out, used);
     }
     let part: &mut [u64] = &mut trail[..t];
     unpack(part, packed);
-    let next = answer(&bytes[..b], case, part, out, used);
-    Next {
+    let next = answer(rt, &bytes[..b], case, part, out, used)?;
+    Ok(Next {
         used: next,
         more: true,
-    }
+    })
 }
 
 // The rest of a case: its bytes, its trail words, its line.
-fn rest(case: Case, out: &mut [u8], used: usize) -> Next {
+fn rest(
+    rt: &impl Print,
+    input: &mut impl Read,
+    case: Case,
+    out: &mut [u8],
+    used: usize,
+) -> io::Result<Next> {
     let mut bytes = [0u8; SHEET];
     let mut packed = [0u8; 8 * TRAIL];
     let mut trail = [0u64; TRAIL];
     if TRAIL < case.words {
-        return bad(out, used);
+        return bad(rt, out, used);
     }
     if 4 < case.question {
-        return bad(out, used);
+        return bad(rt, out, used);
     }
-    if !fill(&mut bytes, case.bytes) {
-        return bad(out, used);
+    if !fill(input, &mut bytes, case.bytes)? {
+        return bad(rt, out, used);
     }
-    if !fill(&mut packed, 8 * case.words) {
-        return bad(out, used);
+    if !fill(input, &mut packed, 8 * case.words)? {
+        return bad(rt, out, used);
     }
-    line(&bytes, &packed, case, &mut trail, out, used)
+    line(rt, &bytes, &packed, case, &mut trail, out, used)
 }
 
 // One case.
-fn turn(out: &mut [u8], used: usize) -> Next {
+fn turn(rt: &impl Print, input: &mut impl Read, out: &mut [u8], used: usize) -> io::Result<Next> {
     let mut head = [0u8; HEAD];
-    let n = io::read_full(STDIN_FILENO, &mut head);
+    let n = read_full(input, &mut head)?;
     if n == 0 {
-        return Next {
+        return Ok(Next {
             used: used,
             more: false,
-        };
+        });
     }
     if n < HEAD {
-        return bad(out, used);
+        return bad(rt, out, used);
     }
     let case = case_of(&head);
-    rest(case, out, used)
+    rest(rt, input, case, out, used)
 }
 
 // The turns that are left.
@@ -416,18 +439,18 @@ fn fewer(turns: u64, more: bool) -> u64
 }
 
 // Nothing says that an input ends, so the turns are counted down from a number that no run uses up.
-fn run(out: &mut [u8]) {
+fn run(rt: &impl Print, input: &mut impl Read, out: &mut [u8]) -> io::Result<()> {
     let mut used = 0;
     let mut turns = u64::MAX;
     while turns > 0 {
-        let next = turn(out, used);
+        let next = turn(rt, input, out, used)?;
         used = next.used;
         turns = fewer(turns, next.more);
     }
-    write(out, used);
+    write(rt, out, used)
 }
 
-fn main() {
+fn main(rt: HostRuntime) -> io::Result<()> {
     let mut out = [0u8; 65536];
-    run(&mut out);
+    run(&rt, &mut rt.stdin(), &mut out)
 }

@@ -1,11 +1,15 @@
 // The program `round`: a day sheet on standard input, the listing of its steps on standard output.
-ghost use Rattle.std.specs.Prelude.{◌≡◌, ◌≤◌, length, take, replicate};
+#![tactic(auto)]
+
+ghost use Rattle.std.specs.Prelude.{◌≡◌, ◌≤◌, length, take, replicate, OnOk, IfSome};
+ghost use Rattle.std.specs.Io.KnownBytes.{Appends};
 ghost use Rattle.dock.specs.Listing.{printed};
 
 use dock::{TEXT, TRAIL};
-use libc::{STDIN_FILENO, STDOUT_FILENO};
+use intake::read_full;
 use listing::put_refused;
 use rules::Refusal;
+use std::io::{self, Read, Write};
 
 // The bytes of the longest sheet. One more is read, by which a longer input is known.
 const SHEET: usize = 60396;
@@ -22,18 +26,27 @@ fn put_printed(input: &[u8], trail: &mut [u64], out: &mut [u8]) -> usize
 }
 
 // Writes what is printed for the input.
-fn write(input: &[u8], out: &[u8], used: usize)
+fn write<W: Write>(output: &mut W, input: &[u8], out: &[u8], used: usize) -> io::Result<()>
     requires { (take used out.now ≡ printed input.now) × (used ≤ length out.now) }
+    ensures { OnOk result (Appends (W.contents output.old) (W.contents output.new) (printed input.now)) }
 {
-    io::write_all(STDOUT_FILENO, &out[..used]);
+    output.write_all(&out[..used])
 }
 
-fn main() {
+// Reads a sheet to its end, or to the byte by which it is too long, and writes what is printed for it.
+fn run<R: Read, W: Write>(input: &mut R, output: &mut W) -> io::Result<()>
+    ensures { OnOk result (IfSome (R.remaining input.old)
+        (λ sheet. Appends (W.contents output.old) (W.contents output.new) (printed sheet))) }
+{
     let mut bytes = [0u8; SHEET + 1];
     let mut trail = [0u64; TRAIL];
     let mut out = [0u8; TEXT];
-    let n = io::read_full(STDIN_FILENO, &mut bytes);
-    let input = &bytes[..n];
-    let used = put_printed(input, &mut trail, &mut out);
-    write(input, &out, used);
+    let n = read_full(input, &mut bytes)?;
+    let sheet = &bytes[..n];
+    let used = put_printed(sheet, &mut trail, &mut out);
+    write(output, sheet, &out, used)
+}
+
+fn main(rt: HostRuntime) -> io::Result<()> {
+    run(&mut rt.stdin(), &mut rt.stdout())
 }

@@ -5,15 +5,15 @@ use std::collections::BTreeSet;
 use crate::read::{File, House, Item, Kind};
 
 /// The names in a text: runs of letters, digits, dashes and primes; a name with a dot is a member of a module, or a field. An operator `▸`
-/// has the name `_▸_`.
+/// has the name `◌▸◌`.
 fn names(text: &str) -> Vec<String> {
     let code: Vec<&str> = text.lines().map(|l| l.split(" -- ").next().unwrap_or("")).collect();
     let code =
         code.iter().filter(|l| !l.trim_start().starts_with("--")).cloned().collect::<Vec<&str>>().join("\n");
     let mut all = vec![];
     for token in code.split(|c: char| c.is_whitespace() || "(){};,".contains(c)) {
-        let plain = token.chars().all(|c| c.is_alphanumeric() || "-_.′″₀₁₂₃₄".contains(c));
-        all.push(if plain { token.to_string() } else { format!("_{token}_") });
+        let plain = token.chars().all(|c| c.is_alphanumeric() || "-_.'₀₁₂₃₄".contains(c));
+        all.push(if plain { token.to_string() } else { format!("◌{token}◌") });
     }
     all.retain(|name| !name.is_empty());
     all

@@ -16,13 +16,13 @@ const TABLE: &str = "Paper";
 /// Where a reader begins: module and name.
 const ROOTS: [(&str, &str); 9] = [
     ("planner/specs/Promises.antt", "Promised"),
-    ("planner/specs/Face.antt", "openOf"),
-    ("planner/specs/Face.antt", "stepOf"),
-    ("planner/specs/Face.antt", "countOf"),
-    ("planner/specs/Face.antt", "judgeOf"),
-    ("day/specs/Section.antt", "sectionOf"),
+    ("planner/specs/Face.antt", "open_of"),
+    ("planner/specs/Face.antt", "step_of"),
+    ("planner/specs/Face.antt", "count_of"),
+    ("planner/specs/Face.antt", "judge_of"),
+    ("day/specs/Section.antt", "section_of"),
     ("paper/specs/Paper.antt", TABLE),
-    ("dock/specs/Listing.antt", "listingOf"),
+    ("dock/specs/Listing.antt", "listing_of"),
     ("dock/specs/Listing.antt", "printed"),
 ];
 

@@ -38,11 +38,9 @@ pub struct House {
     pub files: Vec<File>,
 }
 
-/// The file that a module's name stands for: `Rattle·rules.specs.Day` and `Rattle·rules·specs.specs.Day` are one.
+/// The file that a module's name stands for, as `rules/specs/Day.antt` for `Rattle.rules.specs.Day`.
 pub fn module_file(module: &str) -> Option<String> {
-    let rest = module.strip_prefix("Rattle·")?;
-    let rest = rest.replace("·specs.specs.", ".specs.").replace("·proofs.proofs.", ".proofs.");
-    let (krate, rest) = rest.split_once('.')?;
+    let (krate, rest) = module.strip_prefix("Rattle.")?.split_once('.')?;
     match rest.strip_prefix("specs.declared.") {
         Some(_) => Some(format!("{krate}/src")),
         None => Some(format!("{krate}/{}.antt", rest.replace('.', "/"))),
@@ -181,8 +179,11 @@ fn code_items(text: &str) -> Vec<Item> {
         let Some(rest) = rest else { continue };
         let name: String = rest.chars().take_while(|c| c.is_alphanumeric()).collect();
         let end = (i..lines.len()).find(|&j| lines[j] == "}" || lines[j].ends_with(';')).unwrap_or(i);
-        let above = (0..i).rev().take_while(|&j| lines[j].starts_with("//")).count();
-        let says = comment(&lines[i - above..i], "//");
+        // what it derives stands between it and its comment
+        let derives = (0..i).rev().take_while(|&j| lines[j].starts_with("#[")).count();
+        let head = i - derives;
+        let above = (0..head).rev().take_while(|&j| lines[j].starts_with("//")).count();
+        let says = comment(&lines[head - above..head], "//");
         items.push(Item {
             name,
             kind: Kind::Definition,
