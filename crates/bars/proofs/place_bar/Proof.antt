@@ -34,10 +34,10 @@ Asked = lts.After-place_shut-shut (figures-in-reads.Asked, figures-in-reads.Lear
 
 -- what was asked of the place
 shut : (k : Asked) (levels : List (List ℕ))
-    → let d = k in k.place_shut-shut.result ≡ place_shut (n_of d.args.sheet.now) (board_in (fleet c.before.before.before levels) d.args.van) d.args.p d.args.x
+    → let d = k in k.place_shut-shut.result ≡ place_shut (n_of d.args.sheet.now) (board_in (fleet k.before.before.before levels) d.args.van) d.args.p d.args.x
 shut k levels =
     let d = k in
-    shut_row d.args.routes.now d.args.sets.now levels d.args.figures.now d.args.van d.args.p d.args.x d.requires.0.laid.nodes (low c.before.before.before) (rw k.figures_in-f.ensures at k.place_shut-shut.ensures)
+    shut_row d.args.routes.now d.args.sets.now levels d.args.figures.now d.args.van d.args.p d.args.x d.requires.0.laid.nodes (low k.before.before.before) (rw k.figures_in-f.ensures at k.place_shut-shut.ensures)
 
 mul-figures-in : tie.Need-offset_bounds-figures-van
 mul-figures-in c = omega (arith, low c.before)
