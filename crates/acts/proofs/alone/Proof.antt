@@ -33,96 +33,96 @@ inside d = rw (share-as d.args.trail.now d.requires.0.laid.vans) (part-fits (van
 low : (d : tie.Start) → d.args.step.van < most_vans
 low d = omega (arith, d.requires.3, d.requires.0.laid.fine.vans-high)
 
-div-share : tie.Need-nonzero-div-share
+div-share : tie.Need-nonzero_div-share
 div-share c = search rules
 
-mul-from : tie.Need-overflow-mul-from
-mul-from c = let d = c.before.before.before in omega (arith, inside d, d.well-formed)
+mul-from : tie.Need-overflow_mul-from
+mul-from c = let d = c in omega (arith, inside c.before.before.before, d.well_formed)
 
-add-end : tie.Need-overflow-add-end
-add-end c = let d = c.before.before.before in omega (arith, inside d, d.well-formed)
+add-end : tie.Need-overflow_add-end
+add-end c = let d = c in omega (arith, inside c.before.before.before, d.well_formed)
 
-mul-figures-in : tie.Need-overflow-mul-figures-in
+mul-figures-in : tie.Need-offset_bounds-figures-i
 mul-figures-in c = search rules
 
-index-1-figures-in : tie.Need-bounds-1-figures-in
+index-1-figures-in : tie.Need-bounds-figures-i
 index-1-figures-in c = search rules
 
-figures-in-requires : tie.Need-figures-in-requires
-figures-in-requires c κs = let d = c.before.before.before.before in d.requires.0.figured.wide d.args.step.van (low d)
+figures-in-requires : tie.Need-figures_in-f-requires
+figures-in-requires c κs = let d = c in d.requires.0.figured.wide d.args.step.van (low c.before.before.before.before)
 
-mul-change : tie.Need-overflow-mul-change
+mul-change : tie.Need-offset_bounds-routes-i
 mul-change c = search rules
 
-index-1-change : tie.Need-bounds-1-change
+index-1-change : tie.Need-bounds-routes-i
 index-1-change c = search rules
 
-mul-change-2 : tie.Need-overflow-mul-change-2
+mul-change-2 : tie.Need-offset_bounds-sets-i
 mul-change-2 c = search rules
 
-index-1-change-2 : tie.Need-bounds-1-change-2
+index-1-change-2 : tie.Need-bounds-sets-i
 index-1-change-2 c = search rules
 
-mul-change-3 : tie.Need-overflow-mul-change-3
+mul-change-3 : tie.Need-offset_bounds-levels-i
 mul-change-3 c = search rules
 
-index-1-change-3 : tie.Need-bounds-1-change-3
+index-1-change-3 : tie.Need-bounds-levels-i
 index-1-change-3 c = search rules
 
-mul-change-4 : tie.Need-overflow-mul-change-4
-mul-change-4 c = let d = c.before.before.before.before.before.before.before.before in omega (arith, inside d, d.well-formed)
+mul-change-4 : tie.Need-offset_bounds-trail-from
+mul-change-4 c = let d = c in omega (arith, inside c.before.before.before.before.before.before.before.before, d.well_formed)
 
-sub-change : tie.Need-overflow-sub-change
+sub-change : tie.Need-slice_bounds-change-count
 sub-change c = search rules
 
-part-change-start : tie.Need-slice-bounds-change-start
+part-change-start : tie.Need-slice_bounds-change-start
 part-change-start c = search rules
 
-part-change-end : tie.Need-slice-bounds-change-end
+part-change-end : tie.Need-slice_bounds-change-end
 part-change-end c = inside c.before.before.before.before.before.before.before.before
 
-change-requires : tie.Need-change-requires
+change-requires : tie.Need-change-o-requires
 change-requires c κs =
-    let g = c.before.before.before.before in
-    let d = g.before.before.before.before.before in
-    (rw g.figures-in.ensures (known-van d.requires.0 d.args.step.van (from d) (from d + share d) d.requires.3 (spot d)), d.requires.2)
+    let g = c in
+    let d = g in
+    (rw g.figures_in-f.ensures (known-van d.requires.0 d.args.step.van (from c.before.before.before.before.before.before.before.before.before) (from c.before.before.before.before.before.before.before.before.before + share c.before.before.before.before.before.before.before.before.before) d.requires.3 (spot c.before.before.before.before.before.before.before.before.before)), d.requires.2)
 
 -- the beginning, once the van has acted
-abbrev begun : tie.After-g → tie.Start
+abbrev begun : tie.After-g-1 → tie.Start
 begun c = c.before.before.before.before.before.before.before.before.before.before.before.before.before
 
-mul-put-figures : tie.Need-overflow-mul-put-figures
+mul-put-figures : tie.Need-offset_bounds-figures-i-2
 mul-put-figures c = omega (arith, low (begun c))
 
-index-1-put-figures : tie.Need-bounds-1-put-figures
+index-1-put-figures : tie.Need-bounds-figures-i-2
 index-1-put-figures c = low (begun c)
 
-put-figures-requires : tie.Need-put-figures-requires
-put-figures-requires c κs = let d = begun c.before in d.pre.0.figured.wide d.args.step.van (low d)
+put-figures-requires : tie.Need-put_figures-requires
+put-figures-requires c κs = let d = begun c.before in d.requires.0.figured.wide d.args.step.van (low d)
 
-same_length : tie.Need-same-length
+same_length : tie.Need-shape_of-trail
 same_length c = search rules
 
 returns : tie.Need-returns
 returns c =
-    let r = c.before.before.before.before in
-    let k = r.before in
-    let g = k.before.before.before.before.before in
-    let d = g.before.before.before.before.before in
+    let r = c in
+    let k = r in
+    let g = k in
+    let d = g in
     let a = d.args in
     let p = d.requires.0 in
-    rw c.put-figures.ensures
-    (did _ (rows_stay a.routes.now a.sets.now a.levels.now a.figures.now (known-eight p) a.step.van (low d) _ _ _ k.change.result.after)
+    rw c.put_figures.ensures
+    (did _ (rows_stay a.routes.now a.sets.now a.levels.now a.figures.now (known-eight p) a.step.van (low c.before.before.before.before.before.before.before.before.before.before.before.before.before.before.before) _ _ _ k.change-o.result.after)
     (van-alone (van_of a.sheet.now) (day_of a.sheet.now) (vans_of a.sheet.now) (fleet_with a.routes.now a.sets.now a.levels.now a.figures.now) a.trail.now a.step d.requires.3 d.requires.1
-    ∙ alone-did (vans_of a.sheet.now) a.step.van (from d) (from d + share d) a.routes.now a.sets.now a.levels.now a.figures.now a.trail.now
-    (λ s u. act_of (van_of a.sheet.now a.step.van) (day_of a.sheet.now) s u a.step.kind a.step.first a.step.second) k.change.result
-    d.requires.3 p.laid.fine.vans-high (spot d) (known-eight p)
+    ∙ alone-did (vans_of a.sheet.now) a.step.van (from c.before.before.before.before.before.before.before.before.before.before.before.before.before.before.before) (from c.before.before.before.before.before.before.before.before.before.before.before.before.before.before.before + share c.before.before.before.before.before.before.before.before.before.before.before.before.before.before.before) a.routes.now a.sets.now a.levels.now a.figures.now a.trail.now
+    (λ s u. act_of (van_of a.sheet.now a.step.van) (day_of a.sheet.now) s u a.step.kind a.step.first a.step.second) k.change-o.result
+    d.requires.3 p.laid.fine.vans-high (spot c.before.before.before.before.before.before.before.before.before.before.before.before.before.before.before) (known-eight p)
     (λ s u. act-leaves (van_of a.sheet.now a.step.van) (day_of a.sheet.now) s u a.step.kind a.step.first a.step.second)
-    (rw g.figures-in.ensures at (k.change.ensures (van_of a.sheet.now a.step.van)))
-    r.trail.given.0))
+    (rw g.figures_in-f.ensures at (k.change-o.ensures (van_of a.sheet.now a.step.van)))
+    r.trail-1.given.0))
 
-pub alone-spec : {M : Type 1} → statement M
-alone-spec =
+pub alone_spec : {M : Type 1} → statement M
+alone_spec =
     tie.close
     (tie.spec
     div-share

@@ -33,107 +33,107 @@ unfit a b e = rw e refl
 shared : (a b : Bool) → a ≡ true → b ≡ false → a && b ≡ false
 shared a b e q = rw (e, q) refl
 
-div-share : tie.Need-nonzero-div-share
+div-share : tie.Need-nonzero_div-share
 div-share c = search rules
 
-index-1-figures-in : tie.Need-bounds-1-figures-in
+index-1-figures-in : tie.Need-bounds-figures-0
 index-1-figures-in c = search rules
 
-figures-in-requires : tie.Need-figures-in-requires
-figures-in-requires c κs = c.before.before.before.requires.0.figured.wide 0 (omega arith)
+figures-in-requires : tie.Need-figures_in-one-requires
+figures-in-requires c κs = c.requires.0.figured.wide 0 (omega arith)
 
 answered-requires : tie.Need-answered-requires
 answered-requires c κs = search rules
 
-returns : tie.Need-returns
+returns : tie.Need-returns-then-one-lt1
 returns c =
-    let g = c.before.before.before in
-    let d = g.before.before.before.before in
+    let g = c in
+    let d = g in
     let a = d.args in
     did_of a.routes.now a.sets.now a.levels.now a.figures.now a.trail.now c.answered.ensures (known-eight d.requires.0)
-    (barred-by (back_bar (n_of a.sheet.now) (vans_of a.sheet.now) (fleet d) a.trail.now (turns d).0.fleet) (fleet d) a.trail.now (turns d) (act-back (van_of a.sheet.now) (day_of a.sheet.now) (vans_of a.sheet.now) (fleet d) a.trail.now a.step d.requires.1)
-    (back_none (n_of a.sheet.now) (vans_of a.sheet.now) (fleet d) a.trail.now (turns d).0.fleet
-    (omega (arith, rw g.figures-in.ensures at c.before.if1.true, depth-row a.routes.now a.sets.now a.levels.now a.figures.now)))
+    (barred-by (back_bar (n_of a.sheet.now) (vans_of a.sheet.now) (fleet c.before.before.before.before.before.before.before) a.trail.now (turns c.before.before.before.before.before.before.before).0.fleet) (fleet c.before.before.before.before.before.before.before) a.trail.now (turns c.before.before.before.before.before.before.before) (act-back (van_of a.sheet.now) (day_of a.sheet.now) (vans_of a.sheet.now) (fleet c.before.before.before.before.before.before.before) a.trail.now a.step d.requires.1)
+    (back_none (n_of a.sheet.now) (vans_of a.sheet.now) (fleet c.before.before.before.before.before.before.before) a.trail.now (turns c.before.before.before.before.before.before.before).0.fleet
+    (omega (arith, rw g.figures_in-one.ensures at c.if-one-lt1.true, depth-row a.routes.now a.sets.now a.levels.now a.figures.now)))
     (λ z. omega (arith, z)))
 
 each-requires : tie.Need-each-requires
 each-requires c κs =
-    let d = c.before.before.before.before.before.before.before.before.before.before.before in
+    let d = c in
     let a = d.args in
     let l = d.requires.0.laid in (
       (omega (arith, l.vans, l.fine.vans-low), omega (arith, l.vans, l.fine.vans-high), share-as a.trail.now refl, known-eight d.requires.0),
       known-turning d.requires.0 a.step (λ j h z. absurd (omega (arith, z, d.requires.1))),
     )
 
-answered-requires-2 : tie.Need-answered-requires-2
+answered-requires-2 : tie.Need-answered-requires-then-not-each
 answered-requires-2 c κs = search rules
 
-same_length : tie.Need-same-length
+same_length : tie.Need-shape_of-trail-then-not-each
 same_length c = search rules
 
-returns-2 : tie.Need-returns-2
+returns-2 : tie.Need-returns-then-not-each
 returns-2 c =
-    let m = c.before.before.before.before in
-    let o = m.before.before.before.before.before.before in
-    let i = o.before.before in
-    let d = i.before.before.before.before in
-    let b = backed d.args.step _ _ m.each.result d.requires.0 d.requires.1 (omega (arith, rw i.figures-in.ensures at o.if1.false)) (m.each.ensures.0, m.each.ensures.1) in
+    let m = c in
+    let o = m in
+    let i = o in
+    let d = i in
+    let b = backed d.args.step _ _ m.each.result d.requires.0 d.requires.1 (omega (arith, rw i.figures_in-one.ensures at o.if-one-lt1.false)) (m.each.ensures.0, m.each.ensures.1) in
     let l = d.requires.0.laid in
-    let n = unfit m.each.result (shares_none (n_of d.args.sheet.now) (vans_of d.args.sheet.now) _) (not-true _ c.before.if2.true) in
-    did-misfit _ _ _ _ d.requires.1 (omega (arith, l.vans, l.fine.vans-low)) c.answered2.ensures m.each.ensures.2 b.same (b.no n) (λ o. b.one (sym l.vans ∙ o) n)
+    let n = unfit m.each.result (shares_none (n_of d.args.sheet.now) (vans_of d.args.sheet.now) _) (c.if-not-each.true) in
+    did-misfit _ _ _ _ d.requires.1 (omega (arith, l.vans, l.fine.vans-low)) c.answered-then-not-each.ensures m.each.ensures.2 b.same (b.no n) (λ o. b.one (sym l.vans ∙ o) n)
 
-share-none-requires : tie.Need-share-none-requires
+share-none-requires : tie.Need-share_none-requires
 share-none-requires c κs =
-    let m = c.before.before.before.before.before.before in
-    let o = m.before.before.before.before.before.before in
-    let i = o.before.before in
-    let d = i.before.before.before.before in
+    let m = c in
+    let o = m in
+    let i = o in
+    let d = i in
     let l = d.requires.0.laid in
-    let b = backed d.args.step _ _ m.each.result d.requires.0 d.requires.1 (omega (arith, rw i.figures-in.ensures at o.if1.false)) (m.each.ensures.0, m.each.ensures.1) in (
+    let b = backed d.args.step _ _ m.each.result d.requires.0 d.requires.1 (omega (arith, rw i.figures_in-one.ensures at o.if-one-lt1.false)) (m.each.ensures.0, m.each.ensures.1) in (
       (omega (arith, l.vans, l.fine.vans-high), omega (arith, l.nodes, l.fine.n-low), m.each.ensures.2.3),
-      λ j h. nodes-row m.each.new.1.1.1.0 m.each.new.1.1.1.1.0 m.each.new.1.1.1.1.1.0 m.each.new.1.1.1.1.1.1.0 j (omega (arith, h, l.vans, l.fine.vans-high)) l.nodes (b.boards j (omega (arith, h, l.vans))),
+      λ j h. nodes-row m.each.new.routes m.each.new.sets m.each.new.levels m.each.new.figures j (omega (arith, h, l.vans, l.fine.vans-high)) l.nodes (b.boards j (omega (arith, h, l.vans))),
     )
 
-answered-requires-3 : tie.Need-answered-requires-3
+answered-requires-3 : tie.Need-answered-requires-then-share_none
 answered-requires-3 c κs = search rules
 
-answered-requires-4 : tie.Need-answered-requires-4
+answered-requires-4 : tie.Need-answered-requires-else-share_none
 answered-requires-4 c κs = search rules
 
-same-length-2 : tie.Need-same-length-2
+same-length-2 : tie.Need-shape_of-trail-then-share_none
 same-length-2 c = search rules
 
-returns-3 : tie.Need-returns-3
+returns-3 : tie.Need-returns-then-share_none
 returns-3 c =
-    let g = c.before.before in
-    let w = g.before.before.before.before in
-    let m = w.before.before.before in
-    let o = m.before.before.before.before.before.before in
-    let i = o.before.before in
-    let d = i.before.before.before.before in
+    let g = c in
+    let w = g in
+    let m = w in
+    let o = m in
+    let i = o in
+    let d = i in
     let l = d.requires.0.laid in
-    let b = backed d.args.step _ _ m.each.result d.requires.0 d.requires.1 (omega (arith, rw i.figures-in.ensures at o.if1.false)) (m.each.ensures.0, m.each.ensures.1) in
-    did_of _ _ _ _ _ c.answered3.ensures m.each.ensures.2
-    (b.yes (not-false _ w.if2.false) (ap₂ (λ (n v : ℕ). shares_none n v (fleet_with m.each.new.1.1.1.0 m.each.new.1.1.1.1.0 m.each.new.1.1.1.1.1.0 m.each.new.1.1.1.1.1.1.0)) (sym l.nodes) (sym l.vans) ∙ sym (g.share-none.ensures m.each.new.1.1.1.1.1.0) ∙ c.before.if3.true))
+    let b = backed d.args.step _ _ m.each.result d.requires.0 d.requires.1 (omega (arith, rw i.figures_in-one.ensures at o.if-one-lt1.false)) (m.each.ensures.0, m.each.ensures.1) in
+    did_of _ _ _ _ _ c.answered-then-share_none.ensures m.each.ensures.2
+    (b.yes (w.if-not-each.false) (ap₂ (λ (n v : ℕ). shares_none n v (fleet_with m.each.new.routes m.each.new.sets m.each.new.levels m.each.new.figures)) (sym l.nodes) (sym l.vans) ∙ sym (g.share_none.ensures m.each.new.levels) ∙ c.if-share_none.true))
 
-same-length-3 : tie.Need-same-length-3
+same-length-3 : tie.Need-shape_of-trail-else-share_none
 same-length-3 c = search rules
 
-returns-4 : tie.Need-returns-4
+returns-4 : tie.Need-returns-else-share_none
 returns-4 c =
-    let g = c.before.before in
-    let w = g.before.before.before.before in
-    let m = w.before.before.before in
-    let o = m.before.before.before.before.before.before in
-    let i = o.before.before in
-    let d = i.before.before.before.before in
+    let g = c in
+    let w = g in
+    let m = w in
+    let o = m in
+    let i = o in
+    let d = i in
     let l = d.requires.0.laid in
-    let b = backed d.args.step _ _ m.each.result d.requires.0 d.requires.1 (omega (arith, rw i.figures-in.ensures at o.if1.false)) (m.each.ensures.0, m.each.ensures.1) in
-    let n = shared m.each.result _ (not-false _ w.if2.false) (ap₂ (λ (n v : ℕ). shares_none n v (fleet_with m.each.new.1.1.1.0 m.each.new.1.1.1.1.0 m.each.new.1.1.1.1.1.0 m.each.new.1.1.1.1.1.1.0)) (sym l.nodes) (sym l.vans) ∙ sym (g.share-none.ensures m.each.new.1.1.1.1.1.0) ∙ c.before.if3.false) in
-    did-misfit _ _ _ _ d.requires.1 (omega (arith, l.vans, l.fine.vans-low)) c.answered4.ensures m.each.ensures.2 b.same (b.no n) (λ o. b.one (sym l.vans ∙ o) n)
+    let b = backed d.args.step _ _ m.each.result d.requires.0 d.requires.1 (omega (arith, rw i.figures_in-one.ensures at o.if-one-lt1.false)) (m.each.ensures.0, m.each.ensures.1) in
+    let n = shared m.each.result _ (w.if-not-each.false) (ap₂ (λ (n v : ℕ). shares_none n v (fleet_with m.each.new.routes m.each.new.sets m.each.new.levels m.each.new.figures)) (sym l.nodes) (sym l.vans) ∙ sym (g.share_none.ensures m.each.new.levels) ∙ c.if-share_none.false) in
+    did-misfit _ _ _ _ d.requires.1 (omega (arith, l.vans, l.fine.vans-low)) c.answered-else-share_none.ensures m.each.ensures.2 b.same (b.no n) (λ o. b.one (sym l.vans ∙ o) n)
 
-pub back-spec : {M : Type 1} → statement M
-back-spec =
+pub back_spec : {M : Type 1} → statement M
+back_spec =
     tie.close
     (tie.spec
     div-share

@@ -12,43 +12,43 @@ use Rattle.acts.proofs.in_van.Tie as tie
 answered-requires : tie.Need-answered-requires
 answered-requires c κs = search rules
 
-returns : tie.Need-returns
+returns : tie.Need-returns-then-at-step
 returns c =
-    let d = c.before.before.before.before.before.before in
+    let d = c in
     let a = d.args in
     did_of a.routes.now a.sets.now a.levels.now a.figures.now a.trail.now c.answered.ensures (known-eight d.requires)
     (van-out (van_of a.sheet.now) (day_of a.sheet.now) (vans_of a.sheet.now) (fleet_with a.routes.now a.sets.now a.levels.now a.figures.now) a.trail.now a.step
-    (omega (arith, c.before.if1.true, d.requires.laid.vans)))
+    (omega (arith, c.if-at-step.true, d.requires.laid.vans)))
 
 place-requires : tie.Need-place-requires
 place-requires c κs = search rules
 
-same_length : tie.Need-same-length
+same_length : tie.Need-shape_of-trail-then-step-eq-PLACE
 same_length c = search rules
 
-returns-2 : tie.Need-returns-2
+returns-2 : tie.Need-returns-then-step-eq-PLACE
 returns-2 c = search rules
 
-settle-alone-requires : tie.Need-settle-alone-requires
+settle-alone-requires : tie.Need-settle_alone-requires
 settle-alone-requires c κs = search rules
 
-same-length-2 : tie.Need-same-length-2
+same-length-2 : tie.Need-shape_of-trail-then-step-eq-SETTLE
 same-length-2 c = search rules
 
-returns-3 : tie.Need-returns-3
+returns-3 : tie.Need-returns-then-step-eq-SETTLE
 returns-3 c = search rules
 
 alone-requires : tie.Need-alone-requires
 alone-requires c κs = search rules
 
-same-length-3 : tie.Need-same-length-3
+same-length-3 : tie.Need-shape_of-trail
 same-length-3 c = search rules
 
-returns-4 : tie.Need-returns-4
+returns-4 : tie.Need-returns
 returns-4 c = search rules
 
-pub in-van-spec : {M : Type 1} → statement M
-in-van-spec =
+pub in_van_spec : {M : Type 1} → statement M
+in_van_spec =
     tie.close
     (tie.spec
     answered-requires

@@ -22,30 +22,30 @@ fleet d = fleet_with d.args.routes.now d.args.sets.now d.args.levels.now d.args.
 abbrev turns : tie.Start → RanAll
 turns d = turns_of (n_of d.args.sheet.now) (vans_of d.args.sheet.now) (fleet d) d.args.trail.now d.args.step
 
-div-share : tie.Need-nonzero-div-share
+div-share : tie.Need-nonzero_div-share
 div-share c = search rules
 
-index-1-figures-in : tie.Need-bounds-1-figures-in
+index-1-figures-in : tie.Need-bounds-figures-0
 index-1-figures-in c = search rules
 
-figures-in-requires : tie.Need-figures-in-requires
-figures-in-requires c κs = c.before.before.before.requires.0.figured.wide 0 (omega arith)
+figures-in-requires : tie.Need-figures_in-one-requires
+figures-in-requires c κs = c.requires.0.figured.wide 0 (omega arith)
 
 answered-requires : tie.Need-answered-requires
 answered-requires c κs = search rules
 
-returns : tie.Need-returns
+returns : tie.Need-returns-then-one-ge-LEVELS
 returns c =
-    let g = c.before.before.before in
-    let d = g.before.before.before.before in
+    let g = c in
+    let d = g in
     let a = d.args in
     did_of a.routes.now a.sets.now a.levels.now a.figures.now a.trail.now c.answered.ensures (known-eight d.requires.0)
-    (barred-by (level_bar (fleet d)) (fleet d) a.trail.now (turns d) (act-level (van_of a.sheet.now) (day_of a.sheet.now) (vans_of a.sheet.now) (fleet d) a.trail.now a.step d.requires.1)
-    (level-full (fleet d) (omega (arith, rw g.figures-in.ensures at c.before.if1.true, depth-row a.routes.now a.sets.now a.levels.now a.figures.now))) (λ z. omega (arith, z)))
+    (barred-by (level_bar (fleet c.before.before.before.before.before.before.before)) (fleet c.before.before.before.before.before.before.before) a.trail.now (turns c.before.before.before.before.before.before.before) (act-level (van_of a.sheet.now) (day_of a.sheet.now) (vans_of a.sheet.now) (fleet c.before.before.before.before.before.before.before) a.trail.now a.step d.requires.1)
+    (level-full (fleet c.before.before.before.before.before.before.before) (omega (arith, rw g.figures_in-one.ensures at c.if-one-ge-LEVELS.true, depth-row a.routes.now a.sets.now a.levels.now a.figures.now))) (λ z. omega (arith, z)))
 
 each-requires : tie.Need-each-requires
 each-requires c κs =
-    let d = c.before.before.before.before.before.before.before.before.before.before.before in
+    let d = c in
     let a = d.args in
     let l = d.requires.0.laid in (
       (omega (arith, l.vans, l.fine.vans-low), omega (arith, l.vans, l.fine.vans-high), share-as a.trail.now refl, known-eight d.requires.0),
@@ -55,24 +55,24 @@ each-requires c κs =
 answered-requires-2 : tie.Need-answered-requires-2
 answered-requires-2 c κs = search rules
 
-same_length : tie.Need-same-length
+same_length : tie.Need-shape_of-trail
 same_length c = search rules
 
-returns-2 : tie.Need-returns-2
+returns-2 : tie.Need-returns
 returns-2 c =
-    let m = c.before.before.before in
-    let o = m.before.before.before.before.before.before in
-    let g = o.before.before in
-    let d = g.before.before.before.before in
+    let m = c in
+    let o = m in
+    let g = o in
+    let d = g in
     let a = d.args in
     let l = d.requires.0.laid in
-    did_of _ _ _ _ _ c.answered2.ensures m.each.ensures.2
-    (unbarred-by (level_bar (fleet d)) (fleet d) a.trail.now (turns d) (act-level (van_of a.sheet.now) (day_of a.sheet.now) (vans_of a.sheet.now) (fleet d) a.trail.now a.step d.requires.1)
-    (level-open (fleet d) (omega (arith, rw g.figures-in.ensures at o.if1.false, depth-row a.routes.now a.sets.now a.levels.now a.figures.now)))
-    (turned_as (fleet d) a.trail.now a.step _ _ l.nodes l.vans (m.each.ensures.0, m.each.ensures.1)).0)
+    did_of _ _ _ _ _ c.answered-2.ensures m.each.ensures.2
+    (unbarred-by (level_bar (fleet c.before.before.before.before.before.before.before.before.before.before.before.before.before.before.before)) (fleet c.before.before.before.before.before.before.before.before.before.before.before.before.before.before.before) a.trail.now (turns c.before.before.before.before.before.before.before.before.before.before.before.before.before.before.before) (act-level (van_of a.sheet.now) (day_of a.sheet.now) (vans_of a.sheet.now) (fleet c.before.before.before.before.before.before.before.before.before.before.before.before.before.before.before) a.trail.now a.step d.requires.1)
+    (level-open (fleet c.before.before.before.before.before.before.before.before.before.before.before.before.before.before.before) (omega (arith, rw g.figures_in-one.ensures at o.if-one-ge-LEVELS.false, depth-row a.routes.now a.sets.now a.levels.now a.figures.now)))
+    (turned_as (fleet c.before.before.before.before.before.before.before.before.before.before.before.before.before.before.before) a.trail.now a.step _ _ l.nodes l.vans (m.each.ensures.0, m.each.ensures.1)).0)
 
-pub level-spec : {M : Type 1} → statement M
-level-spec =
+pub level_spec : {M : Type 1} → statement M
+level_spec =
     tie.close
     (tie.spec
     div-share

@@ -28,57 +28,57 @@ inside d =
     let s = share-as d.args.trail.now l.vans in
     omega (arith, s, part-fits (vans_of d.args.sheet.now) d.args.trail.now 0 l.fine.vans-low)
 
-div-share : tie.Need-nonzero-div-share
+div-share : tie.Need-nonzero_div-share
 div-share c = search rules
 
-index-1-figures-in : tie.Need-bounds-1-figures-in
+index-1-figures-in : tie.Need-bounds-figures-0
 index-1-figures-in c = search rules
 
-figures-in-requires : tie.Need-figures-in-requires
-figures-in-requires c κs = c.before.before.before.before.requires.0.figured.wide 0 (omega arith)
+figures-in-requires : tie.Need-figures_in-f-requires
+figures-in-requires c κs = c.requires.0.figured.wide 0 (omega arith)
 
-sub-oblige : tie.Need-overflow-sub-oblige
+sub-oblige : tie.Need-slice_bounds-oblige-count
 sub-oblige c = search rules
 
-part-oblige-start : tie.Need-slice-bounds-oblige-start
+part-oblige-start : tie.Need-slice_bounds-oblige-start
 part-oblige-start c = search rules
 
-part-oblige-end : tie.Need-slice-bounds-oblige-end
+part-oblige-end : tie.Need-slice_bounds-oblige-end
 part-oblige-end c = inside c.before.before.before.before.before
 
-oblige-requires : tie.Need-oblige-requires
+oblige-requires : tie.Need-oblige-o-requires
 oblige-requires c κs = search rules
 
-index-1-put-figures : tie.Need-bounds-1-put-figures
+index-1-put-figures : tie.Need-bounds-figures-0-2
 index-1-put-figures c = search rules
 
-put-figures-requires : tie.Need-put-figures-requires
-put-figures-requires c κs = c.before.before.before.before.before.before.before.before.before.before.before.requires.0.figured.wide 0 (omega arith)
+put-figures-requires : tie.Need-put_figures-requires
+put-figures-requires c κs = c.requires.0.figured.wide 0 (omega arith)
 
-same_length : tie.Need-same-length
+same_length : tie.Need-shape_of-trail
 same_length c = search rules
 
 returns : tie.Need-returns
 returns c =
-    let r = c.before.before.before.before in
-    let k = r.before in
-    let g = k.before.before in
-    let d = g.before.before.before.before.before in
+    let r = c in
+    let k = r in
+    let g = k in
+    let d = g in
     let a = d.args in
     let p = d.requires.0 in
-    rw c.put-figures.ensures
-    (did _ ((known-eight p).0, (known-eight p).1, (known-eight p).2, figured-set a.figures.now 0 k.oblige.result.after p.figured)
+    rw c.put_figures.ensures
+    (did _ ((known-eight p).0, (known-eight p).1, (known-eight p).2, figured-set a.figures.now 0 k.oblige-o.result.after p.figured)
     (act-oblige (van_of a.sheet.now) (day_of a.sheet.now) (vans_of a.sheet.now) (fleet_with a.routes.now a.sets.now a.levels.now a.figures.now) a.trail.now a.step d.requires.1
-    ∙ alone-noted (vans_of a.sheet.now) 0 0 (share d) a.routes.now a.sets.now a.levels.now a.figures.now a.trail.now
-    (λ s u. oblige_step (n_of a.sheet.now) s u a.step.first) k.oblige.result
-    p.laid.fine.vans-low p.laid.fine.vans-high (spot-first (vans_of a.sheet.now) (share d) a.trail.now (share-as a.trail.now p.laid.vans)) (known-eight p)
+    ∙ alone-noted (vans_of a.sheet.now) 0 0 (share c.before.before.before.before.before.before.before.before.before.before.before.before) a.routes.now a.sets.now a.levels.now a.figures.now a.trail.now
+    (λ s u. oblige_step (n_of a.sheet.now) s u a.step.first) k.oblige-o.result
+    p.laid.fine.vans-low p.laid.fine.vans-high (spot-first (vans_of a.sheet.now) (share c.before.before.before.before.before.before.before.before.before.before.before.before) a.trail.now (share-as a.trail.now p.laid.vans)) (known-eight p)
     (λ s u. oblige-leaves (n_of a.sheet.now) s u a.step.first)
-    (sym (ap (λ (n : ℕ). oblige_step n (row_state a.routes.now a.sets.now a.levels.now a.figures.now 0) (take (share d - 0) (drop 0 a.trail.now)) a.step.first) p.laid.nodes)
-    ∙ rw g.figures-in.ensures at (k.oblige.ensures (get_or a.routes.now 0 []) (get_or a.sets.now 0 []) (get_or a.levels.now 0 [])))
-    r.trail.given.0))
+    (sym (ap (λ (n : ℕ). oblige_step n (row_state a.routes.now a.sets.now a.levels.now a.figures.now 0) (take (share c.before.before.before.before.before.before.before.before.before.before.before.before - 0) (drop 0 a.trail.now)) a.step.first) p.laid.nodes)
+    ∙ rw g.figures_in-f.ensures at (k.oblige-o.ensures (get_or a.routes.now 0 []) (get_or a.sets.now 0 []) (get_or a.levels.now 0 [])))
+    r.trail-1.given.0))
 
-pub oblige-spec : {M : Type 1} → statement M
-oblige-spec =
+pub oblige_spec : {M : Type 1} → statement M
+oblige_spec =
     tie.close
     (tie.spec
     div-share

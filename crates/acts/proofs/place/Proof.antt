@@ -26,61 +26,61 @@ number d = let a = d.args in place_bar (day_of a.sheet.now) (vans_of a.sheet.now
 abbrev turns : tie.Start → RanAll
 turns d = turns_of (n_of d.args.sheet.now) (vans_of d.args.sheet.now) (fleet d) d.args.trail.now d.args.step
 
-div-share : tie.Need-nonzero-div-share
+div-share : tie.Need-nonzero_div-share
 div-share c = search rules
 
-place-bar-requires : tie.Need-place-bar-requires
+place-bar-requires : tie.Need-place_bar-code-requires
 place-bar-requires c κs =
-    let p = c.before.before.before.before.before.requires in
+    let p = c.requires in
     (known-ready p.0, p.0.rows.1, p.2)
 
 answered-requires : tie.Need-answered-requires
 answered-requires c κs = search rules
 
-returns : tie.Need-returns
+returns : tie.Need-returns-then-code-ne0
 returns c =
-    let k = c.before.before in
-    let d = k.before.before.before.before.before.before in
+    let k = c in
+    let d = k in
     let a = d.args in
-    let bar = k.place-bar.ensures a.levels.now a.trail.now (room_as a.trail.now d.requires.0.laid.vans) in
+    let bar = k.place_bar-code.ensures a.levels.now a.trail.now (room_as a.trail.now d.requires.0.laid.vans) in
     did_of a.routes.now a.sets.now a.levels.now a.figures.now a.trail.now c.answered.ensures (known-eight d.requires.0)
-    (barred-by (number d) (fleet d) a.trail.now (turns d) (van-place (van_of a.sheet.now) (day_of a.sheet.now) (vans_of a.sheet.now) (fleet d) a.trail.now a.step d.requires.2 d.requires.1) (sym bar) c.before.if1.true)
+    (barred-by (number c.before.before.before.before.before) (fleet c.before.before.before.before.before) a.trail.now (turns c.before.before.before.before.before) (van-place (van_of a.sheet.now) (day_of a.sheet.now) (vans_of a.sheet.now) (fleet c.before.before.before.before.before) a.trail.now a.step d.requires.2 d.requires.1) (sym bar) c.if-code-ne0.true)
 
 each-requires : tie.Need-each-requires
 each-requires c κs =
-    let o = c.before.before.before.before.before in
-    let k = o.before in
-    let d = k.before.before.before.before.before.before in
+    let o = c in
+    let k = o in
+    let d = k in
     let a = d.args in
     let l = d.requires.0.laid in
-    let bar = k.place-bar.ensures a.levels.now a.trail.now (room_as a.trail.now l.vans) in
-    let u = bar-free (day_of a.sheet.now) (vans_of a.sheet.now) (fleet d) a.trail.now a.step.van a.step.first a.step.second (sym bar ∙ o.if1.false) in (
+    let bar = k.place_bar-code.ensures a.levels.now a.trail.now (room_as a.trail.now l.vans) in
+    let u = bar-free (day_of a.sheet.now) (vans_of a.sheet.now) (fleet c.before.before.before.before.before.before.before.before.before) a.trail.now a.step.van a.step.first a.step.second (sym bar ∙ o.if-code-ne0.false) in (
       (omega (arith, l.vans, l.fine.vans-low), omega (arith, l.vans, l.fine.vans-high), share-as a.trail.now refl, known-eight d.requires.0),
       known-turning d.requires.0 a.step
-          (λ j h z. free-turns (n_of a.sheet.now) (vans_of a.sheet.now) (fleet d) a.trail.now l.fine.n-high d.requires.0.form a.step d.requires.2 (day_of a.sheet.now) refl u j h),
+          (λ j h z. free-turns (n_of a.sheet.now) (vans_of a.sheet.now) (fleet c.before.before.before.before.before.before.before.before.before) a.trail.now l.fine.n-high d.requires.0.form a.step d.requires.2 (day_of a.sheet.now) refl u j h),
     )
 
 answered-requires-2 : tie.Need-answered-requires-2
 answered-requires-2 c κs = search rules
 
-same_length : tie.Need-same-length
+same_length : tie.Need-shape_of-trail
 same_length c = search rules
 
-returns-2 : tie.Need-returns-2
+returns-2 : tie.Need-returns
 returns-2 c =
-    let m = c.before.before.before in
-    let o = m.before.before.before.before.before.before in
-    let k = o.before in
-    let d = k.before.before.before.before.before.before in
+    let m = c in
+    let o = m in
+    let k = o in
+    let d = k in
     let a = d.args in
     let l = d.requires.0.laid in
-    let bar = k.place-bar.ensures a.levels.now a.trail.now (room_as a.trail.now l.vans) in
-    did_of _ _ _ _ _ c.answered2.ensures m.each.ensures.2
-    (unbarred-by (number d) (fleet d) a.trail.now (turns d) (van-place (van_of a.sheet.now) (day_of a.sheet.now) (vans_of a.sheet.now) (fleet d) a.trail.now a.step d.requires.2 d.requires.1) (sym bar ∙ o.if1.false)
-    (turned_as (fleet d) a.trail.now a.step _ _ l.nodes l.vans (m.each.ensures.0, m.each.ensures.1)).0)
+    let bar = k.place_bar-code.ensures a.levels.now a.trail.now (room_as a.trail.now l.vans) in
+    did_of _ _ _ _ _ c.answered-2.ensures m.each.ensures.2
+    (unbarred-by (number c.before.before.before.before.before.before.before.before.before.before.before.before.before) (fleet c.before.before.before.before.before.before.before.before.before.before.before.before.before) a.trail.now (turns c.before.before.before.before.before.before.before.before.before.before.before.before.before) (van-place (van_of a.sheet.now) (day_of a.sheet.now) (vans_of a.sheet.now) (fleet c.before.before.before.before.before.before.before.before.before.before.before.before.before) a.trail.now a.step d.requires.2 d.requires.1) (sym bar ∙ o.if-code-ne0.false)
+    (turned_as (fleet c.before.before.before.before.before.before.before.before.before.before.before.before.before) a.trail.now a.step _ _ l.nodes l.vans (m.each.ensures.0, m.each.ensures.1)).0)
 
-pub place-spec : {M : Type 1} → statement M
-place-spec =
+pub place_spec : {M : Type 1} → statement M
+place_spec =
     tie.close
     (tie.spec
     div-share
