@@ -42,7 +42,7 @@ use Rattle.planner.proofs.Courses.{took-shift, facts, SinceAll, start_of, held-s
 abbrev Formed : List ℕ → Fleet → List ℕ → Type 0
 Formed sheet f t = form_with_all (n_of sheet) (vans_of sheet) f t ≡ true
 
-run-start : {sheet : List ℕ} {f f₁ : Fleet} {t t₁ : List ℕ} {X : ℕ → List ℕ} → Run sheet f t f₁ t₁ X → Formed sheet f₁ t₁ → Formed sheet f t
+run-start : {sheet : List ℕ} {f : Fleet} {t : List ℕ} {f₁ : Fleet} {t₁ : List ℕ} {X : ℕ → List ℕ} → Run sheet f t f₁ t₁ X → Formed sheet f₁ t₁ → Formed sheet f t
 run-start promises.begin c = c
 run-start {sheet} (promises.place {f' = q} {t' = u} i p x r e) c = run-start r (acting sheet q u (in_van_word i kinds.PLACE) p x e).1
 run-start {sheet} (promises.exclude {f' = q} {t' = u} i x b r e) c = run-start r (acting sheet q u (in_van_word i kinds.EXCLUDE) x b e).1
@@ -50,7 +50,7 @@ run-start {sheet} (promises.require {f' = q} {t' = u} i x b r e) c = run-start r
 run-start {sheet} (promises.settling {f' = q} {t' = u} i a b k r e) c = run-start r (acting sheet q u (in_van_word i kinds.SETTLE) a b e).1
 run-start {sheet} (promises.oblige {f' = q} {t' = u} i x b r e) c = run-start r (acting sheet q u (in_van_word i kinds.OBLIGE) x b e).1
 
-settles-start : {sheet : List ℕ} {f f₁ : Fleet} {t t₁ : List ℕ} {i : ℕ} → Settles sheet f t i f₁ t₁ → Formed sheet f₁ t₁ → Formed sheet f t
+settles-start : {sheet : List ℕ} {f : Fleet} {t : List ℕ} {i : ℕ} {f₁ : Fleet} {t₁ : List ℕ} → Settles sheet f t i f₁ t₁ → Formed sheet f₁ t₁ → Formed sheet f t
 settles-start promises.none c = c
 settles-start {sheet} (promises.then {f' = q} {t' = u} {i = i} a b k p e) c = settles-start p (acting sheet q u (in_van_word i kinds.SETTLE) a b e).1
 
@@ -162,7 +162,7 @@ module _ (sheet : List ℕ) (f : Fleet) (t : List ℕ) (held : HeldAll f) (z : c
     pub must : (x : ℕ) → has (state_in q 0).must x ≡ has (state_in g 0).must x
     pub after : After q u
 
-  pub settling-all : {i : ℕ} {g : Fleet} {u : List ℕ} {r : Fleet} {w : List ℕ} → After g u → Settles sheet g u i r w → Settled i g r w
+  pub settling-all : {g : Fleet} {u : List ℕ} {i : ℕ} {r : Fleet} {w : List ℕ} → After g u → Settles sheet g u i r w → Settled i g r w
   settling-all h promises.none = record { done = λ j l. absurd (omega (arith, l)); left = λ j p l. refl; must = λ x. refl; after = h }
   settling-all {g = g} h (promises.then {f' = q} {f'' = r} {t' = u} {t'' = w} {i = i} a b k p e) =
       let s = settling-all h p in

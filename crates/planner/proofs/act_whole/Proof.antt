@@ -5,28 +5,28 @@ use borrow.Author.Rules.{rules}
 use Rattle.planner.proofs.act_whole.Statement.{statement}
 use Rattle.planner.proofs.act_whole.Tie as tie
 
-back-or-stay-requires : tie.Need-back-or-stay-requires
+back-or-stay-requires : tie.Need-back_or_stay-requires
 back-or-stay-requires c κs = search rules
 
-same_length : tie.Need-same-length
+same_length : tie.Need-shape_of-trail-then-step-at
 same_length c = search rules
 
-returns : tie.Need-returns
+returns : tie.Need-returns-then-step-at
 returns c = search rules
 
 act-requires : tie.Need-act-requires
 act-requires c κs = search rules
 
-same-length-2 : tie.Need-same-length-2
+same-length-2 : tie.Need-shape_of-trail
 same-length-2 c = search rules
 
-returns-2 : tie.Need-returns-2
+returns-2 : tie.Need-returns
 returns-2 c =
-    let m = c.before.before in
-    let e = m.before.before.before.before.before.before in
-    (m.act.ensures.whole (λ k v q. false-true (sym e.if1.false ∙ rw (eq-eqb _ _ k, lt-ltb _ _ v) refl)), m.act.ensures.eight.3)
+    let m = c in
+    let e = m in
+    (m.act.ensures.whole (λ k v q. false-true (sym e.if-step-at.false ∙ rw (eq-eqb _ _ k, lt-ltb _ _ v) refl)), m.act.ensures.eight.3)
 
-pub act-whole-spec : {M : Type 1} → statement M
-act-whole-spec =
+pub act_whole_spec : {M : Type 1} → statement M
+act_whole_spec =
     tie.close
     (tie.spec back-or-stay-requires same_length returns act-requires same-length-2 returns-2)

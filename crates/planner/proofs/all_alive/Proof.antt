@@ -1,3 +1,4 @@
+use Rattle.std.proofs.lemmas.Bool.{not_from_false, not_from_true}
 use mathlib.Core.Path.{◌≡◌, ap, ◌∙◌}
 use mathlib.Core.Bool.{true}
 use mathlib.Core.List.{[]}
@@ -16,90 +17,90 @@ use Rattle.planner.proofs.RowFacts.{row_lives, rows-live}
 use Rattle.planner.proofs.all_alive.Statement.{statement}
 use Rattle.planner.proofs.all_alive.Tie as tie
 
-abbrev invariant-loop : tie.invariant-loop
+abbrev invariant-loop : tie.invariant-loop-j
 invariant-loop sheet at jobs routes sets figures v j₀ j = (j ≤ v) × (v ≤ 8) × (all_below j (row_lives sheet routes sets figures) ≡ true)
 
-abbrev decreases-loop : tie.decreases-loop
+abbrev decreases-loop : tie.decreases-loop-j
 decreases-loop sheet at jobs routes sets figures v j₀ j = v - j
 
-loop-holds : tie.Need-loop-init invariant-loop decreases-loop
-loop-holds c = let l = c.before.requires.0.laid in (omega arith, omega (arith, l.vans, l.fine.vans-high), below_none _)
+loop-holds : tie.Need-loop-j-init invariant-loop decreases-loop
+loop-holds c = let l = c.requires.0.laid in (omega arith, omega (arith, l.vans, l.fine.vans-high), below_none _)
 
-mul-figures-in : tie.Need-overflow-mul-figures-in invariant-loop decreases-loop
+mul-figures-in : tie.Need-offset_bounds-figures-j invariant-loop decreases-loop
 mul-figures-in c = omega arith
 
-index-1-figures-in : tie.Need-bounds-1-figures-in invariant-loop decreases-loop
+index-1-figures-in : tie.Need-bounds-figures-j invariant-loop decreases-loop
 index-1-figures-in c = omega arith
 
-figures-in-requires : tie.Need-figures-in-requires invariant-loop decreases-loop
-figures-in-requires c κs = let d = c.before.before in d.before.before.requires.0.figured.wide d.loop.j (omega arith)
+figures-in-requires : tie.Need-figures_in-f-requires invariant-loop decreases-loop
+figures-in-requires c κs = let d = c in d.requires.0.figured.wide d.loop-j.j (omega arith)
 
-van-requires : tie.Need-van-requires invariant-loop decreases-loop
-van-requires c κs = let t = c.before.before in (t.before.before.before.requires.0.laid, t.loop-test.true)
+van-requires : tie.Need-van-van-requires invariant-loop decreases-loop
+van-requires c κs = let t = c in (t.requires.0.laid, t.loop-j-test.true)
 
-mul-alive : tie.Need-overflow-mul-alive invariant-loop decreases-loop
+mul-alive : tie.Need-offset_bounds-routes-j invariant-loop decreases-loop
 mul-alive c = omega arith
 
-index-1-alive : tie.Need-bounds-1-alive invariant-loop decreases-loop
+index-1-alive : tie.Need-bounds-routes-j invariant-loop decreases-loop
 index-1-alive c = omega arith
 
-mul-alive-2 : tie.Need-overflow-mul-alive-2 invariant-loop decreases-loop
+mul-alive-2 : tie.Need-offset_bounds-sets-j invariant-loop decreases-loop
 mul-alive-2 c = omega arith
 
-index-1-alive-2 : tie.Need-bounds-1-alive-2 invariant-loop decreases-loop
+index-1-alive-2 : tie.Need-bounds-sets-j invariant-loop decreases-loop
 index-1-alive-2 c = omega arith
 
 -- the van at hand
-low : (c : tie.After-figures-in invariant-loop decreases-loop) → let d = c.before.before.before in d.loop.j < vans_of d.before.before.args.sheet.now
-low c = let d = c.before.before.before in omega (arith, c.before.before.loop-test.true, d.before.before.requires.0.laid.vans)
+low : (c : tie.After-figures_in-f invariant-loop decreases-loop) → let d = c in d.loop-j.j < vans_of d.args.sheet.now
+low c = let d = c in omega (arith, c.loop-j-test.true, d.requires.0.laid.vans)
 
-abbrev loop-at : tie.After-alive invariant-loop decreases-loop → tie.At-loop invariant-loop decreases-loop
-loop-at c = c.before.before.before.before.before.before.before
+abbrev loop-at : tie.After-alive invariant-loop decreases-loop → tie.At-loop-j invariant-loop decreases-loop
+loop-at c = c.before.before.before.before
 
 -- what is asked of it
-passed : (c : tie.After-alive invariant-loop decreases-loop) → let d = loop-at c in let a = d.before.before.args in c.alive.result ≡ row_lives a.sheet.now a.routes.now a.sets.now a.figures.now d.loop.j
+passed : (c : tie.After-alive invariant-loop decreases-loop) → let d = loop-at c in let a = d.args in c.alive.result ≡ row_lives a.sheet.now a.routes.now a.sets.now a.figures.now d.loop-j.j
 passed c =
-    let g = c.before.before.before.before in
+    let g = c in
     let d = loop-at c in
-    let a = d.before.before.args in
-    rw g.figures-in.ensures at (c.alive.ensures [])
-    ∙ ap (λ (w : Van). alive w (day_of a.sheet.now) (plan_in (row_state a.routes.now a.sets.now [] a.figures.now d.loop.j))) c.before.before.before.van.ensures.0
+    let a = d.args in
+    rw g.figures_in-f.ensures at (c.alive.ensures [])
+    ∙ ap (λ (w : Van). alive w (day_of a.sheet.now) (plan_in (row_state a.routes.now a.sets.now [] a.figures.now d.loop-j.j))) c.van-van.ensures.0
 
 alive-requires : tie.Need-alive-requires invariant-loop decreases-loop
 alive-requires c κs =
-    let g = c.before.before.before in
-    let d = g.before.before.before in
-    let s = d.before.before in
-    rw g.figures-in.ensures (ready-row d.loop.j s.requires.0 (low g), s.requires.1)
+    let g = c in
+    let d = g in
+    let s = d in
+    rw g.figures_in-f.ensures (ready-row d.loop-j.j s.requires.0 (low c.before), s.requires.1)
 
-returns : tie.Need-returns invariant-loop decreases-loop
+returns : tie.Need-returns-then-not-alive invariant-loop decreases-loop
 returns c = λ levels.
-    let o = c.before in
-    let d = loop-at o in
-    let s = d.before.before in
+    let o = c in
+    let d = loop-at c.before in
+    let s = d in
     let a = s.args in
-    below-stops _ d.loop.j _ (low o.before.before.before.before) (passed o) c.if1.true ∙ rows-live a.sheet.now a.routes.now a.sets.now levels a.figures.now (vans_of a.sheet.now) s.pre.0.laid.fine.vans-high
+    below-stops _ d.loop-j.j _ (low c.before.before.before) (passed c.before) (not_from_false _ c.if-not-alive.true) ∙ rows-live a.sheet.now a.routes.now a.sets.now levels a.figures.now (vans_of a.sheet.now) s.requires.0.laid.fine.vans-high
 
-add-j : tie.Need-overflow-add-j invariant-loop decreases-loop
+add-j : tie.Need-overflow_add-j invariant-loop decreases-loop
 add-j c = omega arith
 
-loop-less : tie.Need-loop-smaller invariant-loop decreases-loop
+loop-less : tie.Need-loop-j-smaller invariant-loop decreases-loop
 loop-less c = omega arith
 
-loop-again : tie.Need-loop-preserved invariant-loop decreases-loop
-loop-again c = let o = c.before in let d = loop-at o in (omega arith, d.loop.inv.1, below-goes d.loop.j _ d.loop.inv.2 (passed o) c.if1.false)
+loop-again : tie.Need-loop-j-preserved invariant-loop decreases-loop
+loop-again c = let o = c in let d = loop-at c.before in (omega arith, d.loop-j.invariant.1, below-goes d.loop-j.j _ d.loop-j.invariant.2 (passed c.before) (not_from_true _ c.if-not-alive.false))
 
-returns-2 : tie.Need-returns-2 invariant-loop decreases-loop
+returns-2 : tie.Need-returns invariant-loop decreases-loop
 returns-2 c = λ levels.
-    let d = c.before in
-    let s = d.before.before in
+    let d = c in
+    let s = d in
     let a = s.args in
     let l = s.requires.0.laid in
-    let v = d.loop.invariant in
-    below-done (vans_of a.sheet.now) d.loop.j _ (omega (arith, l.vans, v.0)) (omega (arith, l.vans, c.loop-test.false)) v.2 ∙ rows-live a.sheet.now a.routes.now a.sets.now levels a.figures.now (vans_of a.sheet.now) l.fine.vans-high
+    let v = d.loop-j.invariant in
+    below-done (vans_of a.sheet.now) d.loop-j.j _ (omega (arith, l.vans, v.0)) (omega (arith, l.vans, c.loop-j-test.false)) v.2 ∙ rows-live a.sheet.now a.routes.now a.sets.now levels a.figures.now (vans_of a.sheet.now) l.fine.vans-high
 
-pub all-alive-spec : {M : Type 1} → statement M
-all-alive-spec =
+pub all_alive_spec : {M : Type 1} → statement M
+all_alive_spec =
     tie.close
     (tie.spec
     invariant-loop

@@ -12,47 +12,47 @@ use borrow.Author.Rules.{rules}
 use Rattle.planner.proofs.open.Statement.{statement}
 use Rattle.planner.proofs.open.Tie as tie
 
-answer : (c : tie.After-opening) → c.opening.result.answer ≡ open_refusal c.before.before.args.sheet.now
-answer c = found-answer _ _ c.opening.ensures
+answer : (c : tie.After-opening-found) → c.opening-found.result.answer ≡ open_refusal c.args.sheet.now
+answer c = found-answer _ _ c.opening-found.ensures
 
 -- where an accepted sheet has what
-laid : (c : tie.After-opening) → c.opening.result.answer ≡ 0 → Laid c.before.before.args.sheet.now c.opening.result.layout
-laid c z = open-laid _ c.opening.ensures z
+laid : (c : tie.After-opening-found) → c.opening-found.result.answer ≡ 0 → Laid c.args.sheet.now c.opening-found.result.layout
+laid c z = open-laid _ c.opening-found.ensures z
 
-opening-requires : tie.Need-opening-requires
+opening-requires : tie.Need-opening-found-requires
 opening-requires c κs = search rules
 
 none-requires : tie.Need-none-requires
 none-requires c κs = search rules
 
-returns : tie.Need-returns
+returns : tie.Need-returns-then-found-ne0
 unfolding open_of
-returns c = let t = c.before in rw (c.none.ensures, sym (answer t.before.before), ne_eqb _ _ t.if1.true)
+returns c = let t = c in rw (c.none.ensures, sym (answer c.before.before.before), ne_eqb _ _ t.if-found-ne0.true)
 
-first-van-requires : tie.Need-first-van-requires
-first-van-requires c κs = let e = c.before.before.before in laid e.before.before e.if1.false
+first-van-requires : tie.Need-first_van-requires
+first-van-requires c κs = let e = c in laid c.before.before.before.before.before e.if-found-ne0.false
 
-of-one-requires : tie.Need-of-one-requires
+of-one-requires : tie.Need-of_one-requires
 of-one-requires c κs = search rules
 
-returns-2 : tie.Need-returns-2
+returns-2 : tie.Need-returns-then-at-eq1
 unfolding open_of
 returns-2 c =
-    let t = c.before.before in
-    let e = t.before.before.before in
-    let o = e.before.before in
-    let l = laid o e.if1.false in
-    rw (c.of_one.ensures, c.before.first-van.ensures, sym (answer o) ∙ e.if1.false, sym l.nodes, sym l.vans ∙ t.if2.true) (ap (λ (f : Fleet). record { answer = 0; fleet = f }) (fresh-one c.before.before.before.before.before.before.before.opening.result.layout.nodes (admitted o.before.before.args.sheet.now)))
+    let t = c in
+    let e = t in
+    let o = e in
+    let l = laid c.before.before.before.before.before.before.before e.if-found-ne0.false in
+    rw (c.of_one.ensures, c.first_van.ensures, sym (answer c.before.before.before.before.before.before.before) ∙ e.if-found-ne0.false, sym l.nodes, sym l.vans ∙ t.if-at-eq1.true) (ap (λ (f : Fleet). record { answer = 0; fleet = f }) (fresh-one c.opening-found.result.layout.nodes (admitted o.args.sheet.now)))
 
 fresh-requires : tie.Need-fresh-requires
-fresh-requires c κs = let e = c.before.before.before in laid e.before.before e.if1.false
+fresh-requires c κs = let e = c in laid c.before.before.before.before.before e.if-found-ne0.false
 
-returns-3 : tie.Need-returns-3
+returns-3 : tie.Need-returns
 unfolding open_of
 returns-3 c =
-    let e = c.before.before.before.before in
-    let o = e.before.before in
-    rw (c.fresh.ensures, sym (answer o) ∙ e.if1.false, (laid o e.if1.false).nodes, (laid o e.if1.false).vans)
+    let e = c in
+    let o = e in
+    rw (c.fresh.ensures, sym (answer c.before.before.before.before.before.before) ∙ e.if-found-ne0.false, (laid c.before.before.before.before.before.before e.if-found-ne0.false).nodes, (laid c.before.before.before.before.before.before e.if-found-ne0.false).vans)
 
 pub open_spec : {M : Type 1} → statement M
 open_spec =

@@ -22,86 +22,86 @@ use Rattle.planner.proofs.step.Statement.{statement}
 use Rattle.planner.proofs.step.Tie as tie
 
 -- the beginning, once the fleet is taken
-abbrev begun : tie.After-take-figures → tie.Start
+abbrev begun : tie.After-take_figures → tie.Start
 begun c = c.before.before.before.before.before.before.before.before.before.before
 
-held : (c : tie.After-take-figures) → HeldAll (begun c).args.fleet
-held c = is-held-all _ _ (begun c).well-formed.1.0
+held : (c : tie.After-take_figures) → HeldAll (begun c).args.fleet
+held c = is-held-all _ _ (begun c).well_formed.1.0
 
-taken : (c : tie.After-take-figures) → Taken (begun c).args.fleet c.before.before.before.before.before.before.take-routes.new.1.0 c.before.before.before.before.take-sets.new.1.0 c.before.before.take-levels.new.1.0 c.take-figures.new.1.0
-taken c = rows_taken _ (held c) c.before.before.before.before.before.before.take-routes.ensures c.before.before.before.before.take-sets.ensures c.before.before.take-levels.ensures c.take-figures.ensures
+taken : (c : tie.After-take_figures) → Taken (begun c).args.fleet c.take_routes.new.rows c.take_sets.new.rows c.take_levels.new.rows c.take_figures.new.rows
+taken c = rows_taken _ (held c) c.take_routes.ensures c.take_sets.ensures c.take_levels.ensures c.take_figures.ensures
 
 -- what the step gives
-gives : (m : tie.After-turn) → let a = (begun m.before.before.before.before.before.before.before).args in
+gives : (m : tie.After-turn-o) → let a = (begun m.before.before.before.before.before.before.before).args in
     step_of a.sheet.now a.fleet a.trail.now a.word a.first a.second
-    ≡ ran_all m.turn.result m.turn.new.1.1.0 m.turn.new.1.1.1.0 m.turn.new.1.1.1.1.0 m.turn.new.1.1.1.1.1.0 m.turn.new.1.1.1.1.1.1.0
+    ≡ ran_all m.turn-o.result m.turn-o.new.routes m.turn-o.new.sets m.turn-o.new.levels m.turn-o.new.figures m.turn-o.new.trail
 gives m =
     let a = (begun m.before.before.before.before.before.before.before).args in
-    ap (λ (f : Fleet). step_of a.sheet.now f a.trail.now a.word a.first a.second) (sym (taken m.before.before.before.before.before.before.before).is) ∙ m.turn.ensures.0
+    ap (λ (f : Fleet). step_of a.sheet.now f a.trail.now a.word a.first a.second) (sym (taken m.before.before.before.before.before.before.before).is) ∙ m.turn-o.ensures.0
 
-take-routes-requires : tie.Need-take-routes-requires
+take-routes-requires : tie.Need-take_routes-requires
 take-routes-requires c κs = search rules
 
-take-sets-requires : tie.Need-take-sets-requires
+take-sets-requires : tie.Need-take_sets-requires
 take-sets-requires c κs = search rules
 
-take-levels-requires : tie.Need-take-levels-requires
+take-levels-requires : tie.Need-take_levels-requires
 take-levels-requires c κs = search rules
 
-take-figures-requires : tie.Need-take-figures-requires
+take-figures-requires : tie.Need-take_figures-requires
 take-figures-requires c κs = zero-rows 5
 
-checked-requires : tie.Need-checked-requires
+checked-requires : tie.Need-checked-read-requires
 checked-requires c κs = search rules
 
-turn-requires : tie.Need-turn-requires
+turn-requires : tie.Need-turn-o-requires
 turn-requires c κs =
-    let k = c.before.before.before.before.before in
-    let t = taken k.before in
-    (k.checked.ensures, t.held, t.rows.0, t.rows.1, t.rows.2, t.rows.3)
+    let k = c in
+    let t = taken c.before.before.before.before.before.before in
+    (k.checked-read.ensures, t.held, t.rows.0, t.rows.1, t.rows.2, t.rows.3)
 
-index-1-pack : tie.Need-bounds-1-pack
+index-1-pack : tie.Need-bounds-routes-0
 index-1-pack c = search rules
 
-index-1-pack-2 : tie.Need-bounds-1-pack-2
+index-1-pack-2 : tie.Need-bounds-sets-0
 index-1-pack-2 c = search rules
 
-index-1-pack-3 : tie.Need-bounds-1-pack-3
+index-1-pack-3 : tie.Need-bounds-levels-0
 index-1-pack-3 c = search rules
 
-index-1-pack-4 : tie.Need-bounds-1-pack-4
+index-1-pack-4 : tie.Need-bounds-figures-0
 index-1-pack-4 c = search rules
 
 pack-requires : tie.Need-pack-requires
-pack-requires c κs = c.before.before.before.before.before.before.before.before.before.turn.ensures.1.wide 0 (omega arith)
+pack-requires c κs = c.turn-o.ensures.1.wide 0 (omega arith)
 
-of-one-requires : tie.Need-of-one-requires
+of-one-requires : tie.Need-of_one-requires
 of-one-requires c κs = search rules
 
-same_length : tie.Need-same-length
+same_length : tie.Need-shape_of-trail-then-o-read
 same_length c = search rules
 
-returns : tie.Need-returns
+returns : tie.Need-returns-then-o-read
 returns c =
-    let t = c.before.before.before.before.before.before in
-    let m = c.before.before.before.before.before.before.before.before.before.before.before in
-    let k = m.before.before.before.before.before.before in
-    let a = (begun k.before).args in
-    let q = and-true (eqb m.turn.result.answer 0) _ t.if1.true in
-    let took = gives m ∙ ap (λ (i : ℕ). acted_all i m.turn.result.rounds (fleet_with m.turn.new.1.1.0 m.turn.new.1.1.1.0 m.turn.new.1.1.1.1.0 m.turn.new.1.1.1.1.1.0) m.turn.new.1.1.1.1.1.1.0) (eqb-true _ _ q.0) in
-    let l = call-laid _ k.checked.ensures (found-answer _ _ k.checked.ensures ∙ (acting a.sheet.now a.fleet a.trail.now a.word a.first a.second took).0) in
-    let one = one_left a.sheet.now a.fleet a.trail.now a.word a.first a.second (held k.before) took (sym l.vans ∙ eqb-true _ _ q.1) in
-    rw (c.of_one.ensures, c.before.pack.ensures)
-    (took ∙ ap (λ (f : Fleet). acted_all 0 m.turn.result.rounds f m.turn.new.1.1.1.1.1.1.0) (one ∙ ap (λ (s : State). one_van s) (state-of (row_state m.turn.new.1.1.0 m.turn.new.1.1.1.0 m.turn.new.1.1.1.1.0 m.turn.new.1.1.1.1.1.0) 0 (omega arith))))
+    let t = c in
+    let m = c in
+    let k = m in
+    let a = (begun c.before.before.before.before.before.before.before.before.before.before.before.before.before.before.before.before.before.before).args in
+    let q = and-true (eqb m.turn-o.result.answer 0) _ t.if-o-read.true in
+    let took = gives c.before.before.before.before.before.before.before.before.before.before.before ∙ ap (λ (i : ℕ). acted_all i m.turn-o.result.rounds (fleet_with m.turn-o.new.routes m.turn-o.new.sets m.turn-o.new.levels m.turn-o.new.figures) m.turn-o.new.trail) (eqb-true _ _ q.0) in
+    let l = call-laid _ k.checked-read.ensures (found-answer _ _ k.checked-read.ensures ∙ (acting a.sheet.now a.fleet a.trail.now a.word a.first a.second took).0) in
+    let one = one_left a.sheet.now a.fleet a.trail.now a.word a.first a.second (held c.before.before.before.before.before.before.before.before.before.before.before.before.before.before.before.before.before.before) took (sym l.vans ∙ eqb-true _ _ q.1) in
+    rw (c.of_one.ensures, c.pack.ensures)
+    (took ∙ ap (λ (f : Fleet). acted_all 0 m.turn-o.result.rounds f m.turn-o.new.trail) (one ∙ ap (λ (s : State). one_van s) (state-of (row_state m.turn-o.new.routes m.turn-o.new.sets m.turn-o.new.levels m.turn-o.new.figures) 0 (omega arith))))
 
-fleet-of-requires : tie.Need-fleet-of-requires
+fleet-of-requires : tie.Need-fleet_of-requires
 fleet-of-requires c κs = search rules
 
-same-length-2 : tie.Need-same-length-2
+same-length-2 : tie.Need-shape_of-trail
 same-length-2 c = search rules
 
-returns-2 : tie.Need-returns-2
-returns-2 c = rw c.fleet-of.ensures (gives c.before.before.before.before.before.before.before.before.before.before)
+returns-2 : tie.Need-returns
+returns-2 c = rw c.fleet_of.ensures (gives c.before.before.before.before.before.before.before.before.before.before)
 
 pub step_spec : {M : Type 1} → statement M
 step_spec =

@@ -31,88 +31,88 @@ abbrev fleet : tie.Start → Fleet
 fleet d = let a = d.args in fleet_with a.routes.now a.sets.now a.levels.now a.figures.now
 
 -- the beginning, once the call was asked
-abbrev begun : tie.After-asked → tie.Start
-begun c = c.before.before.before.before.before.before.before
+abbrev begun : tie.After-asked-code → tie.Start
+begun c = c.before.before.before
 
-asks : (c : tie.After-asked) → c.asked.result ≡ ask_refusal (begun c).args.sheet.now (fleet (begun c))
-asks c = c.asked.ensures _ (begun c).requires.0
+asks : (c : tie.After-asked-code) → c.asked-code.result ≡ ask_refusal (begun c).args.sheet.now (fleet (begun c))
+asks c = c.asked-code.ensures _ (begun c).requires.0
 
 -- what is known once nothing is refused
-clear : (c : tie.After-asked) → c.asked.result ≡ 0 → let sheet = (begun c).args.sheet.now in
+clear : (c : tie.After-asked-code) → c.asked-code.result ≡ 0 → let sheet = (begun c).args.sheet.now in
     (call_refusal sheet ≡ 0) × (in_form_all (n_of sheet) (vans_of sheet) (fleet (begun c)) ≡ true)
 clear c z = ask-clear _ _ (sym (asks c) ∙ z)
 
-laid : (c : tie.After-asked) → c.asked.result ≡ 0 → Laid (begun c).args.sheet.now (begun c).args.read.layout
-laid c z = let d = begun c in call-laid _ d.pre.0 (found-answer _ _ d.pre.0 ∙ (clear c z).0)
+laid : (c : tie.After-asked-code) → c.asked-code.result ≡ 0 → Laid (begun c).args.sheet.now (begun c).args.read.layout
+laid c z = let d = begun c in call-laid _ d.requires.0 (found-answer _ _ d.requires.0 ∙ (clear c z).0)
 
 -- the room as it was found
-room : (c : tie.After-within-room) → let d = begun c.before.before.before.before.before in
-    c.within-room.result ≡ all_below d.args.read.layout.vans (λ j. leb (state_in (fleet d) j).records (length d.args.trail.now / d.args.read.layout.vans / 2))
-room c = let a = (begun c.before.before.before.before.before).args in c.within-room.ensures a.routes.now a.sets.now a.levels.now
+room : (c : tie.After-within_room) → let d = begun c.before.before.before.before in
+    c.within_room.result ≡ all_below d.args.read.layout.vans (λ j. leb (state_in (fleet d) j).records (length d.args.trail.now / d.args.read.layout.vans / 2))
+room c = let a = (begun c.before.before.before.before).args in c.within_room.ensures a.routes.now a.sets.now a.levels.now
 
 -- the form with the room
-formed : (c : tie.Else2) → let d = begun c.before.before.before.before.before.before in
+formed : (c : tie.Else-not-within_room) → let d = begun c.before.before.before.before.before in
     form_with_all (n_of d.args.sheet.now) (vans_of d.args.sheet.now) (fleet d) d.args.trail.now ≡ true
 formed c =
-    let w = c.before in
-    let e = w.before.before.before.before in
-    let k = e.before in
-    form_both (laid k e.if1.false) _ _ (room w) (clear k e.if1.false).1 (not-false _ c.if2.false)
+    let w = c in
+    let e = w in
+    let k = e in
+    form_both (laid c.before.before.before.before.before e.if-code-ne0.false) _ _ (room c.before) (clear c.before.before.before.before.before e.if-code-ne0.false).1 (c.if-not-within_room.false)
 
-asked-requires : tie.Need-asked-requires
-asked-requires c κs = let p = c.before.before.before.before.before.before.requires in (λ z. sized (call-laid _ p.0 z), p.2, p.3, p.5)
+asked-requires : tie.Need-asked-code-requires
+asked-requires c κs = let p = c.requires in (λ z. sized (call-laid _ p.0 z), p.2, p.3, p.5)
 
 refused-requires : tie.Need-refused-requires
 refused-requires c κs = search rules
 
-returns : tie.Need-returns
+returns : tie.Need-returns-then-code-ne0
 returns c =
-    let k = c.before.before in
-    let n = c.before.if1.true in
-    rw c.refused.ensures (refused-asked _ _ _ _ _ _ (asks k) n, (begun k).requires.5)
+    let k = c in
+    let n = c.if-code-ne0.true in
+    rw c.refused.ensures (refused-asked _ _ _ _ _ _ (asks c.before.before) n, (begun c.before.before).requires.5)
 
-div-room : tie.Need-nonzero-div-room
-div-room c = let e = c.before.before in omega (arith, (sized (laid e.before e.if1.false)).some)
+div-room : tie.Need-nonzero_div-room
+div-room c = let e = c in omega (arith, (sized (laid c.before.before.before e.if-code-ne0.false)).some)
 
-within-room-requires : tie.Need-within-room-requires
-within-room-requires c κs = let e = c.before.before.before in ((sized (laid e.before e.if1.false)).most, (begun e.before).requires.5)
+within-room-requires : tie.Need-within_room-requires
+within-room-requires c κs = let e = c in ((sized (laid c.before.before.before e.if-code-ne0.false)).most, (begun c.before.before.before).requires.5)
 
-refused-requires-2 : tie.Need-refused-requires-2
+refused-requires-2 : tie.Need-refused-requires-then-not-within_room
 refused-requires-2 c κs = search rules
 
-returns-2 : tie.Need-returns-2
+returns-2 : tie.Need-returns-then-not-within_room
 returns-2 c =
-    let w = c.before.before in
-    let e = w.before.before.before.before in
-    let k = e.before in
-    let z = e.if1.false in
-    rw c.refused2.ensures (refused-room _ _ _ _ _ _ (sym (asks k) ∙ z) (room-found (laid k z) _ _ (room w)) (not-true _ c.before.if2.true), (begun k).requires.5)
+    let w = c in
+    let e = w in
+    let k = e in
+    let z = e.if-code-ne0.false in
+    rw c.refused-then-not-within_room.ensures (refused-room _ _ _ _ _ _ (sym (asks c.before.before.before.before.before.before) ∙ z) (room-found (laid c.before.before.before.before.before.before z) _ _ (room c.before.before)) (c.if-not-within_room.true), (begun c.before.before.before.before.before.before).requires.5)
 
-said-requires : tie.Need-said-requires
+said-requires : tie.Need-said-said-requires
 said-requires c κs = search rules
 
-act-whole-requires : tie.Need-act-whole-requires
+act-whole-requires : tie.Need-act_whole-requires
 act-whole-requires c κs =
-    let n = c.before.before.before.before.before.before in
-    let e = n.before.before.before.before.before in
-    let k = e.before in
-    let p = (begun k).requires in
-    record { clear = (clear k e.if1.false).0; laid = laid k e.if1.false; form = formed n; held = p.1; rows = (p.2, p.3, p.4); figured = p.5 }
+    let n = c in
+    let e = n in
+    let k = e in
+    let p = (begun c.before.before.before.before.before.before.before.before.before.before.before).requires in
+    record { clear = (clear c.before.before.before.before.before.before.before.before.before.before.before e.if-code-ne0.false).0; laid = laid c.before.before.before.before.before.before.before.before.before.before.before e.if-code-ne0.false; form = formed c.before.before.before.before.before.before; held = p.1; rows = (p.2, p.3, p.4); figured = p.5 }
 
-same_length : tie.Need-same-length
+same_length : tie.Need-shape_of-trail
 same_length c = search rules
 
-returns-3 : tie.Need-returns-3
+returns-3 : tie.Need-returns
 returns-3 c =
-    let x = c.before.before in
-    let s = x.before.before.before.before.before.before in
-    let n = s.before in
-    let e = n.before.before.before.before.before in
-    let k = e.before in
-    let a = (begun k).args in
-    let f = fleet (begun k) in
-    let acts = call-yes a.sheet.now f a.trail.now a.word a.first a.second (call-made a.sheet.now f a.trail.now (clear k e.if1.false).0 (formed n)) in
-    (acts ∙ ap (λ (q : Step). act_all (van_of a.sheet.now) (day_of a.sheet.now) (vans_of a.sheet.now) f a.trail.now q) (sym s.said.ensures) ∙ x.act-whole.ensures.0, x.act-whole.ensures.1)
+    let x = c in
+    let s = x in
+    let n = s in
+    let e = n in
+    let k = e in
+    let a = (begun c.before.before.before.before.before.before.before.before.before.before.before.before.before.before).args in
+    let f = fleet (begun c.before.before.before.before.before.before.before.before.before.before.before.before.before.before) in
+    let acts = call-yes a.sheet.now f a.trail.now a.word a.first a.second (call-made a.sheet.now f a.trail.now (clear c.before.before.before.before.before.before.before.before.before.before.before.before.before.before e.if-code-ne0.false).0 (formed c.before.before.before.before.before.before.before.before.before)) in
+    (acts ∙ ap (λ (q : Step). act_all (van_of a.sheet.now) (day_of a.sheet.now) (vans_of a.sheet.now) f a.trail.now q) (sym s.said-said.ensures) ∙ x.act_whole.ensures.0, x.act_whole.ensures.1)
 
 pub turn_spec : {M : Type 1} → statement M
 turn_spec =
