@@ -5,69 +5,69 @@ use borrow.Author.Rules.{rules}
 use Rattle.trial.proofs.try_place.Statement.{statement}
 use Rattle.trial.proofs.try_place.Tie as tie
 
-step-requires : tie.Need-step-requires
+step-requires : tie.Need-step-level-requires
 step-requires c κs = search rules
 
-same_length : tie.Need-same-length
+same_length : tie.Need-shape_of-trail-then-level-ne0
 same_length c = search rules
 
-returns : tie.Need-returns
-returns c = no-level _ _ _ _ _ _ c.before.before.before.before.step.ensures c.if1.true
+returns : tie.Need-returns-then-level-ne0
+returns c = no-level _ _ _ _ _ _ c.step-level.ensures c.if-level-ne0.true
 
-mul-word : tie.Need-overflow-mul-word
+mul-word : tie.Need-overflow_mul-word
 mul-word c = search rules
 
-add_step : tie.Need-overflow-add-step
+add_step : tie.Need-overflow_add-word
 add_step c = search rules
 
-step-requires-2 : tie.Need-step-requires-2
+step-requires-2 : tie.Need-step-placed-requires
 step-requires-2 c κs = search rules
 
-add-step-2 : tie.Need-overflow-add-step-2
+add-step-2 : tie.Need-overflow_add-word-2
 add-step-2 c = search rules
 
-step-requires-3 : tie.Need-step-requires-3
+step-requires-3 : tie.Need-step-settled-requires
 step-requires-3 c κs = search rules
 
-verdict-requires : tie.Need-verdict-requires
+verdict-requires : tie.Need-verdict-judged-requires
 verdict-requires c κs = search rules
 
-same-length-2 : tie.Need-same-length-2
+same-length-2 : tie.Need-shape_of-trail-then-placed-settled
 same-length-2 c = search rules
 
-returns-2 : tie.Need-returns-2
+returns-2 : tie.Need-returns-then-placed-settled
 returns-2 c =
-    let g = c.before in
-    let j = g.before.before.before.before in
-    let settled = j.before.before.before in
-    let placed = settled.before.before.before.before in
-    let opened = placed.before.before in
-    kept _ _ _ _ _ _ opened.before.before.before.before.step.ensures opened.if1.false placed.step2.ensures settled.step3.ensures (rw j.verdict.ensures at g.if2.true)
+    let g = c in
+    let j = g in
+    let settled = j in
+    let placed = settled in
+    let opened = placed in
+    kept _ _ _ _ _ _ opened.step-level.ensures opened.if-level-ne0.false placed.step-placed.ensures settled.step-settled.ensures (rw j.verdict-judged.ensures at g.if-placed-settled.true)
 
-step-requires-4 : tie.Need-step-requires-4
+step-requires-4 : tie.Need-step-back-requires
 step-requires-4 c κs = search rules
 
-same-length-3 : tie.Need-same-length-3
+same-length-3 : tie.Need-shape_of-trail
 same-length-3 c =
-    let b = c.before.before in
-    let v = b.before.before.before.before.before.before.before.before.before in
-    let f = v.before.before.before.before in
-    b.trail4.given ∙ v.trail3.given ∙ f.trail2.given ∙ f.before.before.before.before.before.before.trail.given
+    let b = c in
+    let v = b in
+    let f = v in
+    b.trail-4-1.given ∙ v.trail-3-1.given ∙ f.trail-2-1.given ∙ f.trail-1.given
 
-returns-3 : tie.Need-returns-3
+returns-3 : tie.Need-returns
 returns-3 c =
-    let back = c.before.before.before in
-    let g = back.before.before in
-    let j = g.before.before.before.before in
-    let settled = j.before.before.before in
-    let placed = settled.before.before.before.before in
-    let opened = placed.before.before in
-    let d = opened.before.before.before.before.before.before.before.before in
-    given_back _ _ _ _ _ _ opened.before.before.before.before.step.ensures opened.if1.false placed.step2.ensures settled.step3.ensures
-    (is-held-all d.args.fleet _ d.well-formed.1.0) (rw j.verdict.ensures at g.if2.false) back.step4.ensures
+    let back = c in
+    let g = back in
+    let j = g in
+    let settled = j in
+    let placed = settled in
+    let opened = placed in
+    let d = opened in
+    given_back _ _ _ _ _ _ opened.step-level.ensures opened.if-level-ne0.false placed.step-placed.ensures settled.step-settled.ensures
+    (is-held-all d.args.fleet _ d.well_formed.1.0) (rw j.verdict-judged.ensures at g.if-placed-settled.false) back.step-back.ensures
 
-pub try-place-spec : {M : Type 1} → statement M
-try-place-spec =
+pub try_place_spec : {M : Type 1} → statement M
+try_place_spec =
     tie.close
     (tie.spec
     step-requires

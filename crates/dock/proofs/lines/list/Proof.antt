@@ -12,47 +12,47 @@ use Prim.Native.Char.{code}
 use Rattle.dock.proofs.lines.list.Statement.{statement}
 use Rattle.dock.proofs.lines.list.Tie as tie
 
-zero : (c : tie.Else1) → open_refusal c.before.before.before.before.before.before.args.sheet.now ≡ 0
-zero c = sym (found-answer _ _ c.before.before.opening.ensures) ∙ c.if1.false
+zero : (c : tie.Else-found-ne0) → open_refusal c.args.sheet.now ≡ 0
+zero c = sym (found-answer _ _ c.opening-found.ensures) ∙ c.if-found-ne0.false
 
-laid : (c : tie.Else1) → Laid c.before.before.before.before.before.before.args.sheet.now c.before.before.opening.result.layout
-laid c = open-laid _ c.before.before.opening.ensures c.if1.false
+laid : (c : tie.Else-found-ne0) → Laid c.args.sheet.now c.opening-found.result.layout
+laid c = open-laid _ c.opening-found.ensures c.if-found-ne0.false
 
-opening-requires : tie.Need-opening-requires
+opening-requires : tie.Need-opening-found-requires
 opening-requires c κs = search rules
 
-put-refused-requires : tie.Need-put-refused-requires
+put-refused-requires : tie.Need-put_refused-requires
 put-refused-requires c κs = search rules
 
-same_length : tie.Need-same-length
+same_length : tie.Need-shape_of-out-then-found-ne0
 same_length c = search rules
 
-returns : tie.Need-returns
+returns : tie.Need-returns-then-found-ne0
 unfolding refused_line
 returns c =
-    let q = c.before.before in
-    let t = q.before.before in
-    let k = field-takes (bytes "refused") _ (code "\n") q.Put-refused.ensures in
-    (listing-refused _ _ (found-answer _ _ t.before.before.opening.ensures) t.if1.true q.Put-refused.ensures, omega (arith, k.0))
+    let q = c in
+    let t = q in
+    let k = field-takes (bytes "refused") _ (code "\n") q.put_refused.ensures in
+    (listing-refused _ _ (found-answer _ _ t.opening-found.ensures) t.if-found-ne0.true q.put_refused.ensures, omega (arith, k.0))
 
-put-all-requires : tie.Need-put-all-requires
+put-all-requires : tie.Need-put_all-requires
 put-all-requires c κs =
-    let e = c.before.before in
-    (call-zero _ (zero e), laid e, e.before.before.before.before.before.before.requires)
+    let e = c in
+    (call-zero _ (zero c.before.before.before), laid c.before.before.before, e.requires)
 
-same-length-2 : tie.Need-same-length-2
+same-length-2 : tie.Need-shape_of-trail
 same-length-2 c = search rules
 
-same-length-3 : tie.Need-same-length-3
+same-length-3 : tie.Need-shape_of-out
 same-length-3 c = search rules
 
-returns-2 : tie.Need-returns-2
+returns-2 : tie.Need-returns
 returns-2 c =
-    let a = c.before.before.before.before in
-    (listing-open _ _ (zero a.before.before.before) a.put_all_lem.ensures.0, a.put_all_lem.ensures.1)
+    let a = c in
+    (listing-open _ _ (zero c.before.before.before.before.before.before.before.before) a.put_all_lem.ensures.0, a.put_all_lem.ensures.1)
 
-pub list-spec : {M : Type 1} → statement M
-list-spec =
+pub list_spec : {M : Type 1} → statement M
+list_spec =
     tie.close
     (tie.spec
     opening-requires

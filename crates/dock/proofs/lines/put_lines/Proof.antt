@@ -19,43 +19,43 @@ use Rattle.dock.proofs.LineLaws.{come-none, come-next, lines_none, lines_next}
 use borrow.Author.Rules.{rules}
 use Rattle.dock.proofs.lines.put_lines.Statement.{statement}
 use Rattle.dock.proofs.lines.put_lines.Tie as tie
-
-abbrev invariant-loop : tie.invariant-loop
+use Rattle.dock.proofs.lines.put_lines.Lts.{then-stale, else-stale}
+abbrev invariant-loop : tie.invariant-loop-i
 invariant-loop sheet at jobs routes₀ sets₀ levels₀ figures₀ trail₀ out₀ told₀ ways₀ sums₀ used₀ i₀ routes sets levels figures trail out told ways sums used i =
     (i ≤ at.steps) × (used ≤ 200 * i) × (length out ≡ length out₀) × (length trail ≡ length trail₀) × Put out₀ 0 (lines_of sheet trail₀ i) used out
     × (come_to sheet trail₀ i ≡ (fleet_with routes sets levels figures, trail)) × Reached sheet (fleet_with routes sets levels figures) trail
     × ToldAll sheet (fleet_with routes sets levels figures) told × RowsOf 3 told × (Rows routes × Rows sets × Rows levels × Figured figures)
     × (sums ≡ sums_of at.vans told (fleet_with routes sets levels figures)) × KeptAll sheet jobs routes figures ways
 
-abbrev decreases-loop : tie.decreases-loop
+abbrev decreases-loop : tie.decreases-loop-i
 decreases-loop sheet at jobs routes₀ sets₀ levels₀ figures₀ trail₀ out₀ told₀ ways₀ sums₀ used₀ i₀ routes sets levels figures trail out told ways sums used i =
     at.steps - i
 
-tell-vans-requires : tie.Need-tell-vans-requires invariant-loop decreases-loop
+tell-vans-requires : tie.Need-tell_vans-requires invariant-loop decreases-loop
 tell-vans-requires c κs =
-    let d = c.before.before.before.before.before.before.before.before in
+    let d = c in
     let a = d.args in
     let r = readied d.requires.0.0 d.requires.0.1 a.routes.now a.sets.now a.levels.now a.figures.now d.requires.1.0.3 (begun a.trail.now d.requires.1.1) in
     ((r, rows_none 3, d.requires.0.3), (rows_none 4, λ e. absurd (false-true (sym e))))
 
 -- the fresh fleet is told
-first : (c : tie.After-tell-vans invariant-loop decreases-loop) → let a = c.before.before.before.before.before.before.before.before.before.args in
-    ToldAll a.sheet.now (fleet_with a.routes.now a.sets.now a.levels.now a.figures.now) c.tell-vans.new.1.1.1.1.1.1.1.0
-first c = c.tell-vans.ensures.1.1 c.before.before.before.before.before.before.before.before.before.args.levels.now (λ j h n same. absurd (false-true (sym n)))
+first : (c : tie.After-tell_vans invariant-loop decreases-loop) → let a = c.args in
+    ToldAll a.sheet.now (fleet_with a.routes.now a.sets.now a.levels.now a.figures.now) c.tell_vans.new.told
+first c = c.tell_vans.ensures.1.1 c.args.levels.now (λ j h n same. absurd (false-true (sym n)))
 
-sums-now-requires : tie.Need-sums-now-requires invariant-loop decreases-loop
+sums-now-requires : tie.Need-sums_now-sums-requires invariant-loop decreases-loop
 sums-now-requires c κs =
-    let t = c.before.before.before.before in
-    let d = t.before.before.before.before.before.before.before.before.before in
+    let t = c in
+    let d = t in
     let a = d.args in
     let r = begun a.trail.now d.requires.1.1 in
     let s = serving (readied d.requires.0.0 d.requires.0.1 a.routes.now a.sets.now a.levels.now a.figures.now d.requires.1.0.3 r) in
-    (summing d.requires.0.0 d.requires.0.1 a.routes.now a.sets.now a.levels.now a.figures.now d.requires.1.0.3 r (first t), (s.0.1, s.1))
+    (summing d.requires.0.0 d.requires.0.1 a.routes.now a.sets.now a.levels.now a.figures.now d.requires.1.0.3 r (first c.before), (s.0.1, s.1))
 
-loop-holds : tie.Need-loop-init invariant-loop decreases-loop
+loop-holds : tie.Need-loop-i-init invariant-loop decreases-loop
 loop-holds c =
-    let t = c.before.before.before.before.before in
-    let d = t.before.before.before.before.before.before.before.before.before in
+    let t = c in
+    let d = t in
     let a = d.args in
     let e = d.requires.1.1 in (
       omega arith,
@@ -65,172 +65,169 @@ loop-holds c =
       lines_none _ _ _,
       come-none _ _ e,
       begun a.trail.now e,
-      first t,
-      t.tell-vans.ensures.0,
+      first c.before.before,
+      t.tell_vans.ensures.0,
       d.requires.1.0,
-      c.sums-now.ensures a.levels.now,
-      t.tell-vans.ensures.1.0,
+      c.sums_now-sums.ensures a.levels.now,
+      t.tell_vans.ensures.1.0,
     )
 
 -- ---- the rows as the step leaves them
 
-abbrev routes-at : tie.After-step-at invariant-loop decreases-loop → List (List ℕ)
-routes-at c = c.step-at.new.1.1.1.1.0
+abbrev routes-at : tie.After-step_at-o invariant-loop decreases-loop → List (List ℕ)
+routes-at c = c.step_at-o.new.routes
 
-abbrev sets-at : tie.After-step-at invariant-loop decreases-loop → List (List ℕ)
-sets-at c = c.step-at.new.1.1.1.1.1.0
+abbrev sets-at : tie.After-step_at-o invariant-loop decreases-loop → List (List ℕ)
+sets-at c = c.step_at-o.new.sets
 
-abbrev levels-at : tie.After-step-at invariant-loop decreases-loop → List (List ℕ)
-levels-at c = c.step-at.new.1.1.1.1.1.1.0
+abbrev levels-at : tie.After-step_at-o invariant-loop decreases-loop → List (List ℕ)
+levels-at c = c.step_at-o.new.levels
 
-abbrev figures-at : tie.After-step-at invariant-loop decreases-loop → List (List ℕ)
-figures-at c = c.step-at.new.1.1.1.1.1.1.1.0
+abbrev figures-at : tie.After-step_at-o invariant-loop decreases-loop → List (List ℕ)
+figures-at c = c.step_at-o.new.figures
 
-abbrev fleet-at : tie.After-step-at invariant-loop decreases-loop → Fleet
+abbrev fleet-at : tie.After-step_at-o invariant-loop decreases-loop → Fleet
 fleet-at c = fleet_with (routes-at c) (sets-at c) (levels-at c) (figures-at c)
 
 -- where the function began, and where the loop stands
-abbrev start : tie.After-step-at invariant-loop decreases-loop → tie.Start invariant-loop decreases-loop
-start c = c.before.before.before.before.before.before.before.before.before.before.before.before.before.before.before.before.before.before.before.before.before.before.before
+abbrev start : tie.After-step_at-o invariant-loop decreases-loop → tie.Start invariant-loop decreases-loop
+start c = c.before.before.before.before.before.before.before.before.before.before.before.before.before.before.before.before.before
 
-abbrev loop-at : tie.After-step-at invariant-loop decreases-loop → tie.At-loop invariant-loop decreases-loop
+abbrev loop-at : tie.After-step_at-o invariant-loop decreases-loop → tie.At-loop-i invariant-loop decreases-loop
 loop-at c = c.before.before.before.before.before.before.before.before
 
 -- the fleet after the step was reached too
-on : (c : tie.After-step-at invariant-loop decreases-loop) → Reached (start c).args.sheet.now (fleet-at c) c.step-at.new.1.1.1.1.1.1.1.1.0
-on c = goes_on (start c).requires.0.0 (loop-at c).loop.invariant.6 _ _ _ c.step-at.ensures.0
+on : (c : tie.After-step_at-o invariant-loop decreases-loop) → Reached (start c).args.sheet.now (fleet-at c) c.step_at-o.new.trail
+on c = goes_on (start c).requires.0.0 (loop-at c).loop-i.invariant.6 _ _ _ c.step_at-o.ensures.0
 
-ready : (c : tie.After-step-at invariant-loop decreases-loop) → ReadyAll (start c).args.sheet.now (start c).args.at (routes-at c) (sets-at c) (figures-at c)
-ready c = readied (start c).requires.0.0 (start c).requires.0.1 (routes-at c) (sets-at c) (levels-at c) (figures-at c) c.step-at.ensures.1.3 (on c)
+ready : (c : tie.After-step_at-o invariant-loop decreases-loop) → ReadyAll (start c).args.sheet.now (start c).args.at (routes-at c) (sets-at c) (figures-at c)
+ready c = readied (start c).requires.0.0 (start c).requires.0.1 (routes-at c) (sets-at c) (levels-at c) (figures-at c) c.step_at-o.ensures.1.3 (on c)
 
 -- a van that has the records that were told is told as before
-same : (c : tie.After-step-at invariant-loop decreases-loop) (j : ℕ) → j < vans_of (start c).args.sheet.now → (figures_in (get_or (figures-at c) j [])).records ≡ get_or (get_or (loop-at c).loop.told j []) 1 0
-    → get_or (loop-at c).loop.told j [] ≡ told_in (start c).args.sheet.now (fleet-at c) j
+same : (c : tie.After-step_at-o invariant-loop decreases-loop) (j : ℕ) → j < vans_of (start c).args.sheet.now → (figures_in (get_or (figures-at c) j [])).records ≡ get_or (get_or (loop-at c).loop-i.told j []) 1 0
+    → get_or (loop-at c).loop-i.told j [] ≡ told_in (start c).args.sheet.now (fleet-at c) j
 same c =
     let d = start c in
-    let v = (loop-at c).loop in
-    told-on d.pre.0.0 d.pre.0.1 v.routes v.sets v.levels v.figures v.inv.9.3 v.inv.6 _ _ _ (routes-at c) (sets-at c) (levels-at c) (figures-at c) c.step-at.ensures.0 v.inv.7
+    let v = (loop-at c).loop-i in
+    told-on d.requires.0.0 d.requires.0.1 v.routes v.sets v.levels v.figures v.invariant.9.3 v.invariant.6 _ _ _ (routes-at c) (sets-at c) (levels-at c) (figures-at c) c.step_at-o.ensures.0 v.invariant.7
 
 -- and the vans are told
-told : (c : tie.After-tell-vans2 invariant-loop decreases-loop) → let p = c.before.before.before.before.before.before.before.before.before.before.before.before in ToldAll (start p).args.sheet.now (fleet-at p) c.tell-vans2.new.1.1.1.1.1.1.1.0
-told c = let p = c.before.before.before.before.before.before.before.before.before.before.before.before in c.tell-vans2.ensures.1.1 (levels-at p) (λ j h e. same p j h)
+told : (c : tie.After-tell_vans-then-stale invariant-loop decreases-loop) → let p = c in ToldAll (start c.before.before.before.before.before.before.before.before).args.sheet.now (fleet-at c.before.before.before.before.before.before.before.before) c.tell_vans-then-stale.new.told
+told c = let p = c in c.tell_vans-then-stale.ensures.1.1 (levels-at c.before.before.before.before.before.before.before.before) (λ j h e. same c.before.before.before.before.before.before.before.before j h)
 
-step-at-requires : tie.Need-step-at-requires invariant-loop decreases-loop
+step-at-requires : tie.Need-step_at-o-requires invariant-loop decreases-loop
 step-at-requires c κs =
-    let t = c.before.before.before.before.before in
-    let l = t.before.before in
-    let d = l.before.before.before.before.before.before.before.before.before.before.before.before.before.before.before in
-    ((d.requires.0.0, d.requires.0.1, t.if1.true, d.requires.0.3), (l.loop.invariant.9, l.loop.invariant.6))
+    let t = c in
+    let l = t in
+    let d = l in
+    ((d.requires.0.0, d.requires.0.1, t.loop-i-test.true, d.requires.0.3), (l.loop-i.invariant.9, l.loop-i.invariant.6))
 
 stale-requires : tie.Need-stale-requires invariant-loop decreases-loop
 stale-requires c κs =
-    let p = c.before.before.before.before in
-    (p.step-at.ensures.1.3, omega (arith, (start p).requires.0.1.vans, (start p).requires.0.1.fine.vans-high))
+    let p = c in
+    (p.step_at-o.ensures.1.3, omega (arith, (start c.before.before.before).requires.0.1.vans, (start c.before.before.before).requires.0.1.fine.vans-high))
 
-tell-vans-requires-2 : tie.Need-tell-vans-requires-2 invariant-loop decreases-loop
+tell-vans-requires-2 : tie.Need-tell_vans-requires-then-stale invariant-loop decreases-loop
 tell-vans-requires-2 c κs =
-    let p = c.before.before.before.before.before.before.before.before.before.before.before in
-    let d = start p in
-    let v = (loop-at p).loop in (
-      (ready p, v.inv.8, d.pre.0.3),
+    let p = c in
+    let d = start c.before.before.before.before.before.before.before in
+    let v = (loop-at c.before.before.before.before.before.before.before).loop-i in (
+      (ready c.before.before.before.before.before.before.before, v.invariant.8, d.requires.0.3),
       (
-        v.inv.11.rows,
-        λ e. kept_on d.pre.0.0 d.pre.0.1 v.routes v.sets v.levels v.figures v.inv.9.3 v.inv.6 _ _ _
-            (routes-at p) (sets-at p) (levels-at p) (figures-at p) p.step-at.ensures.0 v.inv.7 v.inv.11,
+        v.invariant.11.rows,
+        λ e. kept_on d.requires.0.0 d.requires.0.1 v.routes v.sets v.levels v.figures v.invariant.9.3 v.invariant.6 _ _ _
+            (routes-at c.before.before.before.before.before.before.before) (sets-at c.before.before.before.before.before.before.before) (levels-at c.before.before.before.before.before.before.before) (figures-at c.before.before.before.before.before.before.before) p.step_at-o.ensures.0 v.invariant.7 v.invariant.11,
       ),
     )
 
-sums-now-requires-2 : tie.Need-sums-now-requires-2 invariant-loop decreases-loop
+sums-now-requires-2 : tie.Need-sums_now-sums-requires-then-stale invariant-loop decreases-loop
 sums-now-requires-2 c κs =
-    let tells = c.before.before.before.before in
-    let p = tells.before.before.before.before.before.before.before.before.before.before.before.before in
-    let d = start p in
-    let s = serving (ready p) in
-    (summing d.pre.0.0 d.pre.0.1 (routes-at p) (sets-at p) (levels-at p) (figures-at p) p.step-at.ensures.1.3 (on p) (told tells), (s.0.1, s.1))
+    let tells = c in
+    let p = tells in
+    let d = start c.before.before.before.before.before.before.before.before.before in
+    let s = serving (ready c.before.before.before.before.before.before.before.before.before) in
+    (summing d.requires.0.0 d.requires.0.1 (routes-at c.before.before.before.before.before.before.before.before.before) (sets-at c.before.before.before.before.before.before.before.before.before) (levels-at c.before.before.before.before.before.before.before.before.before) (figures-at c.before.before.before.before.before.before.before.before.before) p.step_at-o.ensures.1.3 (on c.before.before.before.before.before.before.before.before.before) (told c.before), (s.0.1, s.1))
 
 -- what is told and kept then: anew, or as before where no van is stale
-joined : (c : tie.Joined2 invariant-loop decreases-loop) → let p = c.before.before.before.before.before.before in let a = (start p).args in
-    ToldAll a.sheet.now (fleet-at p) c.if2.told × (c.if2.sums ≡ sums_of a.at.vans c.if2.told (fleet-at p))
-    × KeptAll a.sheet.now a.jobs.now (routes-at p) (figures-at p) c.if2.ways × RowsOf 3 c.if2.told
+joined : (c : tie.Joined-stale invariant-loop decreases-loop) → let p = c in let a = (start c.before.before.before.before.before).args in
+    ToldAll a.sheet.now (fleet-at c.before.before.before.before.before) c.if-stale.told × (c.if-stale.sums ≡ sums_of a.at.vans c.if-stale.told (fleet-at c.before.before.before.before.before))
+    × KeptAll a.sheet.now a.jobs.now (routes-at c.before.before.before.before.before) (figures-at c.before.before.before.before.before) c.if-stale.ways × RowsOf 3 c.if-stale.told
 joined c =
-    let p = c.before.before.before.before.before.before in
-    let d = start p in
-    let v = (loop-at p).loop in
-    ⊎_elim
-    (λ w. rw (w.12, w.13, w.14) (
-      w.6.ensures.1.1 (levels-at p) (λ j h e. same p j h),
-      w.11.ensures (levels-at p),
+    let p = c in
+    let d = start c.before.before.before.before.before in
+    let v = (loop-at c.before.before.before.before.before).loop-i in
+    elim c.if-stale.branch [ then-stale w ↦ rw (w.12, w.13, w.14) (
+      w.6.ensures.1.1 (levels-at c.before.before.before.before.before) (λ j h e. same c.before.before.before.before.before j h),
+      w.11.ensures (levels-at c.before.before.before.before.before),
       w.6.ensures.1.0,
       w.6.ensures.0,
-    ))
-    (λ w. let h = still d.pre.0.0 d.pre.0.1 v.routes v.sets v.levels v.figures v.inv.9.3 v.inv.6 _ _ _ (routes-at p) (sets-at p) (levels-at p) (figures-at p) p.step-at.ensures.0 v.inv.7
-    (sym c.before.stale.ensures ∙ w.0.left) v.inv.10 v.inv.11 in
-    rw (w.1, w.2, w.3) (h.0, h.1, h.2, v.inv.8))
-    c.if2.branch
+    ) | else-stale w ↦ let h = still d.requires.0.0 d.requires.0.1 v.routes v.sets v.levels v.figures v.invariant.9.3 v.invariant.6 _ _ _ (routes-at c.before.before.before.before.before) (sets-at c.before.before.before.before.before) (levels-at c.before.before.before.before.before) (figures-at c.before.before.before.before.before) p.step_at-o.ensures.0 v.invariant.7
+    (sym c.stale.ensures ∙ w.if-stale.false) v.invariant.10 v.invariant.11 in
+    rw (w.1, w.2, w.3) (h.0, h.1, h.2, v.invariant.8) ]
 
-put-line-requires : tie.Need-put-line-requires invariant-loop decreases-loop
+put-line-requires : tie.Need-put_line-used-requires invariant-loop decreases-loop
 put-line-requires c κs =
-    let p = c.before.before.before.before.before.before.before in
-    let d = start p in
-    let t = p.before.before.before.before.before.before in
-    let v = t.before.before.loop.invariant in
-    (omega (arith, t.if1.true, d.pre.0.1.steps, d.pre.0.1.fine.k-high), omega (arith, t.if1.true, v.1, v.2, d.pre.0.2))
+    let p = c in
+    let d = start c.before.before.before.before.before.before in
+    let t = p in
+    let v = t.loop-i.invariant in
+    (omega (arith, t.loop-i-test.true, d.requires.0.1.steps, d.requires.0.1.fine.k-high), omega (arith, t.loop-i-test.true, v.1, v.2, d.requires.0.2))
 
-add-i : tie.Need-overflow-add-i invariant-loop decreases-loop
+add-i : tie.Need-overflow_add-i invariant-loop decreases-loop
 add-i c =
-    let p = c.before.before.before.before.before.before.before.before.before.before in
-    let t = p.before.before.before.before.before.before in
-    omega (arith, t.if1.true, (start p).requires.0.1.steps, (start p).requires.0.1.fine.k-high)
+    let p = c in
+    let t = p in
+    omega (arith, t.loop-i-test.true, (start c.before.before.before.before.before.before.before.before.before).requires.0.1.steps, (start c.before.before.before.before.before.before.before.before.before).requires.0.1.fine.k-high)
 
-loop-less : tie.Need-loop-smaller invariant-loop decreases-loop
+loop-less : tie.Need-loop-i-smaller invariant-loop decreases-loop
 loop-less c =
-    let t = c.before.before.before.before.before.before.before.before.before.before.before.before.before.before.before.before in
-    omega (arith, t.if1.true)
+    let t = c in
+    omega (arith, t.loop-i-test.true)
 
-loop-again : tie.Need-loop-preserved invariant-loop decreases-loop
+loop-again : tie.Need-loop-i-preserved invariant-loop decreases-loop
 loop-again c =
-    let q = c.before.before in
-    let j = q.before.before in
-    let r = j.before.before.before.before.before in
-    let p = r.before in
-    let t = p.before.before.before.before.before.before in
-    let l = t.before.before in
-    let d = start p in
-    let v = l.loop.invariant in
-    let e = p.step-at.ensures.0 in
-    let k = step-takes _ _ _ _ _ _ q.put-line.ensures in
-    let h = joined j in
-    let line = line-is d.pre.0.0 (on p) h.0 l.loop.i p.step-at.result.answer p.step-at.result.rounds d.pre.0.1.vans h.1 in (
-      omega (arith, t.if1.true),
+    let q = c in
+    let j = q in
+    let r = j in
+    let p = r in
+    let t = p in
+    let l = t in
+    let d = start c.before.before.before.before.before.before.before.before.before in
+    let v = l.loop-i.invariant in
+    let e = p.step_at-o.ensures.0 in
+    let k = step-takes _ _ _ _ _ _ q.put_line-used.ensures in
+    let h = joined c.before.before.before.before in
+    let line = line-is d.requires.0.0 (on c.before.before.before.before.before.before.before.before.before) h.0 l.loop-i.i p.step_at-o.result.answer p.step_at-o.result.rounds d.requires.0.1.vans h.1 in (
+      omega (arith, t.loop-i-test.true),
       omega (arith, k.0, v.1),
       k.1 ∙ v.2,
-      r.trail.given ∙ v.3,
-      lines_next _ _ _ v.5 e line v.4 q.put-line.ensures,
+      r.trail-1.given ∙ v.3,
+      lines_next _ _ _ v.5 e line v.4 q.put_line-used.ensures,
       come-next _ _ _ v.5 e,
-      on p,
+      on c.before.before.before.before.before.before.before.before.before,
       h.0,
       h.3,
-      p.step-at.ensures.1,
+      p.step_at-o.ensures.1,
       h.1,
       h.2,
     )
 
-same_length : tie.Need-same-length invariant-loop decreases-loop
+same_length : tie.Need-shape_of-trail invariant-loop decreases-loop
 same_length c = search rules
 
-same-length-2 : tie.Need-same-length-2 invariant-loop decreases-loop
+same-length-2 : tie.Need-shape_of-out invariant-loop decreases-loop
 same-length-2 c = search rules
 
 returns : tie.Need-returns invariant-loop decreases-loop
 returns c =
-    let l = c.before.before in
-    let v = l.loop.invariant in
-    let d = l.before.before.before.before.before.before.before.before.before.before.before.before.before.before.before in
-    let e : l.loop.i ≡ d.args.at.steps = omega (arith, v.0, c.if1.false) in
+    let l = c in
+    let v = l.loop-i.invariant in
+    let d = l in
+    let e : l.loop-i.i ≡ d.args.at.steps = omega (arith, v.0, c.loop-i-test.false) in
     (rw e at v.4, rw e at v.5, omega (arith, v.1, v.0), v.9.0, v.9.3)
 
-pub put-lines-spec : {M : Type 1} → statement M
-put-lines-spec =
+pub put_lines_spec : {M : Type 1} → statement M
+put_lines_spec =
     tie.close
     (tie.spec
     invariant-loop

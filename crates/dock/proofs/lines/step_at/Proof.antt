@@ -12,41 +12,41 @@ rows d =
     let r = d.requires.1.0 in
     known d.requires.0.0 d.requires.0.1 a.routes.now a.sets.now a.levels.now a.figures.now r.3 d.requires.1.1 (r.0, r.1, r.2)
 
-step-requires : tie.Need-step-requires
+step-requires : tie.Need-step-step-requires
 step-requires c κs = search rules
 
 settle-requires : tie.Need-settle-requires
 settle-requires c κs =
-    let t = c.before.before.before.before.before in
-    let d = t.before.before.before.before.before in ((rows d, t.if1.true), d.requires.0.3)
+    let t = c in
+    let d = t in ((rows c.before.before.before.before.before.before.before.before.before.before, t.if-step-eq-SETTLE.true), d.requires.0.3)
 
-same_length : tie.Need-same-length
+same_length : tie.Need-shape_of-trail-then-step-eq-SETTLE
 same_length c = search rules
 
-returns : tie.Need-returns
+returns : tie.Need-returns-then-step-eq-SETTLE
 returns c =
-    let m = c.before.before in
-    let s = m.before.before.before.before.before.before.before.before in
-    let d = s.before.before.before in
+    let m = c in
+    let s = m in
+    let d = s in
     let w = step_word d.args.sheet.now d.args.i in
-    step-did d.requires.0.0 d.requires.1.1 (w 0) (w 1) (w 2) s.step.ensures m.settle.ensures
+    step-did d.requires.0.0 d.requires.1.1 (w 0) (w 1) (w 2) s.step-step.ensures m.settle.ensures
 
 act-requires : tie.Need-act-requires
 act-requires c κs = rows c.before.before.before.before.before.before.before.before.before.before
 
-same-length-2 : tie.Need-same-length-2
+same-length-2 : tie.Need-shape_of-trail
 same-length-2 c = search rules
 
-returns-2 : tie.Need-returns-2
+returns-2 : tie.Need-returns
 returns-2 c =
-    let m = c.before.before in
-    let s = m.before.before.before.before.before.before.before.before in
-    let d = s.before.before.before in
+    let m = c in
+    let s = m in
+    let d = s in
     let w = step_word d.args.sheet.now d.args.i in
-    step-did d.requires.0.0 d.requires.1.1 (w 0) (w 1) (w 2) s.step.ensures m.act.ensures
+    step-did d.requires.0.0 d.requires.1.1 (w 0) (w 1) (w 2) s.step-step.ensures m.act.ensures
 
-pub step-at-spec : {M : Type 1} → statement M
-step-at-spec =
+pub step_at_spec : {M : Type 1} → statement M
+step_at_spec =
     tie.close
     (tie.spec
     step-requires
