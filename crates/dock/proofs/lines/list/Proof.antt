@@ -49,7 +49,7 @@ same-length-3 c = search rules
 returns-2 : tie.Need-returns
 returns-2 c =
     let a = c in
-    (listing-open _ _ (zero c.before.before.before.before.before.before.before.before) a.put_all_lem.ensures.0, a.put_all_lem.ensures.1)
+    (listing-open _ _ (zero c.before.before.before.before.before.before.before.before) a.put_all.ensures.0, a.put_all.ensures.1)
 
 pub list_spec : {M : Type 1} → statement M
 list_spec =

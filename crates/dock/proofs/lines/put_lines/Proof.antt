@@ -156,14 +156,14 @@ joined c =
     let p = c in
     let d = start c.before.before.before.before.before in
     let v = (loop-at c.before.before.before.before.before).loop-i in
-    elim c.if-stale.branch [ then-stale w ↦ rw (w.12, w.13, w.14) (
-      w.6.ensures.1.1 (levels-at c.before.before.before.before.before) (λ j h e. same c.before.before.before.before.before j h),
-      w.11.ensures (levels-at c.before.before.before.before.before),
-      w.6.ensures.1.0,
-      w.6.ensures.0,
+    elim c.if-stale.branch [ then-stale w ↦ rw (w.told-is, w.sums-is, w.ways-is) (
+      w.tell_vans-then-stale.ensures.1.1 (levels-at c.before.before.before.before.before) (λ j h e. same c.before.before.before.before.before j h),
+      w.sums_now-sums-then-stale.ensures (levels-at c.before.before.before.before.before),
+      w.tell_vans-then-stale.ensures.1.0,
+      w.tell_vans-then-stale.ensures.0,
     ) | else-stale w ↦ let h = still d.requires.0.0 d.requires.0.1 v.routes v.sets v.levels v.figures v.invariant.9.3 v.invariant.6 _ _ _ (routes-at c.before.before.before.before.before) (sets-at c.before.before.before.before.before) (levels-at c.before.before.before.before.before) (figures-at c.before.before.before.before.before) p.step_at-o.ensures.0 v.invariant.7
     (sym c.stale.ensures ∙ w.if-stale.false) v.invariant.10 v.invariant.11 in
-    rw (w.1, w.2, w.3) (h.0, h.1, h.2, v.invariant.8) ]
+    rw (w.told-is, w.sums-is, w.ways-is) (h.0, h.1, h.2, v.invariant.8) ]
 
 put-line-requires : tie.Need-put_line-used-requires invariant-loop decreases-loop
 put-line-requires c κs =
