@@ -4,20 +4,20 @@ use Rattle.day.proofs.RefuseLaws.{call-laid}
 use Rattle.measure.proofs.diagonal.Statement.{statement}
 use Rattle.measure.proofs.diagonal.Tie as tie
 
-laid : (c : tie.Else1) → Laid c.before.before.before.before.args.sheet.now c.before.before.checked.result.layout
-laid c = call-laid _ c.before.before.checked.ensures c.if1.false
+laid : (c : tie.Else-found-ne0) → Laid c.args.sheet.now c.checked-found.result.layout
+laid c = call-laid _ c.checked-found.ensures c.if-found-ne0.false
 
-checked-requires : tie.Need-checked-requires
+checked-requires : tie.Need-checked-found-requires
 checked-requires c κs = search rules
 
-returns : tie.Need-returns
+returns : tie.Need-returns-then-found-ne0
 returns c = search rules
 
-mul-result : tie.Need-overflow-mul-result
+mul-result : tie.Need-overflow_mul-result
 mul-result c = let l = laid c.before.before in omega (arith, l.seconds, l.fine.n-high, l.fine.m-high)
 
-returns-2 : tie.Need-returns-2
+returns-2 : tie.Need-returns
 returns-2 c = let l = laid c.before.before in omega (arith, l.seconds, l.fine.n-high, l.fine.m-high)
 
-pub diagonal-spec : {M : Type 1} → statement M
-diagonal-spec = tie.close (tie.spec checked-requires returns mul-result returns-2)
+pub diagonal_spec : {M : Type 1} → statement M
+diagonal_spec = tie.close (tie.spec checked-requires returns mul-result returns-2)
