@@ -1,6 +1,8 @@
 // The steps of a fleet in rows, on a sheet that no call refuses and a fleet in form, neither asked again. Every refusal is found before anything
 // changes, but for a record that does not fit, which only undoing finds: refused, the rows and the trail are as before, unless undoing several vans met
 // one.
+#![tactic(auto)]
+
 ghost use Rattle.std.specs.Prelude.{◌≡◌, ◌<◌};
 ghost use Rattle.sheet.specs.Section.{vans_of};
 ghost use Rattle.rules.specs.Numbers.{kinds};

@@ -2,7 +2,6 @@
 use Rattle.std.specs.Prelude.{ℕ, zero, suc, ◌+◌, cond, List, [], ◌++◌, length, replicate, eqb, ltb}
 use Rattle.laws.specs.Basic.{joined}
 use Rattle.rules.specs.Numbers.{refusal}
-use Rattle.rules.specs.Verdict.{alive}
 use Rattle.sheet.specs.Section.{k_of, vans_of}
 use Rattle.day.specs.Refuse.{open_refusal}
 use Rattle.day.specs.Tell.{step_word}

@@ -1,4 +1,6 @@
 // The listing of a sheet, made in a buffer: its steps run one by one from the fresh fleet, the line of each, and the routes at the end.
+#![tactic(auto)]
+
 pub mod lines;
 
 use fleet::Fleet;

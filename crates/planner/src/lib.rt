@@ -1,4 +1,6 @@
 // The planner's five entry points. Each is total: any bytes, any fleet, any trail, any numbers.
+#![tactic(auto)]
+
 ghost use Rattle.std.specs.Prelude.{◌≡◌, List, ℕ};
 ghost use Rattle.laws.specs.Basic.{all_below};
 ghost use Rattle.sheet.specs.Section.{vans_of};

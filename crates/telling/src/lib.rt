@@ -1,5 +1,7 @@
 // What a line tells of the vans. A van whose records are those of before is told as before: neither its route nor its sets nor its marks have changed.
 // One that is told anew with as many stops as before has the route of before, and so the course of before.
+#![tactic(auto)]
+
 ghost use Rattle.std.specs.Prelude.{◌≡◌, false, cond, not, List, [], ◌∷◌, ℕ, ◌<◌, ◌≤◌, get_or, length, eqb};
 ghost use Rattle.laws.specs.Basic.{all_below, any_below, sum_below};
 ghost use Rattle.rules.specs.Numbers.{most_vans};

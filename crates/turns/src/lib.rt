@@ -1,4 +1,6 @@
 // The turns of the vans in a step in which all take part, and what a fleet's step gives.
+#![tactic(auto)]
+
 pub mod each;
 
 use fleet::Fleet;

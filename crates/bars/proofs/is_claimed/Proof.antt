@@ -1,7 +1,6 @@
 use mathlib.Core.Path.{◌≡◌, refl, sym, ◌∙◌}
 use mathlib.Core.Bool.{false}
 use mathlib.Core.List.{List}
-use mathlib.Core.Logic.{⊎_elim}
 use Prim.Native.Nat.{ℕ, ◌-◌, ◌≤◌, ◌<◌}
 use native.Mathlib.Omega.{arith}
 use borrow.Author.Tests.{eq-eqb, ne_eqb}
@@ -21,6 +20,7 @@ use Rattle.fleet.proofs.rows.figures_in.Reads as figures-in-reads
 use Rattle.verdict.proofs.partners.Reads as partners-reads
 use Rattle.verdict.proofs.owes.Reads as owes-reads
 use Rattle.bars.proofs.is_claimed.Lts.{then-j-van+else-owes, else-j-van}
+
 abbrev invariant-loop : tie.invariant-loop-j
 invariant-loop sheet routes sets figures van x v partners j₀ j = (j ≤ v) × (any_below j (row_owes (day_of sheet) routes figures van x) ≡ false)
 

@@ -6,7 +6,6 @@ use lib.Dec.{leb}
 use Rattle.laws.specs.Basic.{all_below}
 use Rattle.fleet.specs.Fleet.{state_in}
 use native.Mathlib.Omega.{arith}
-use borrow.Author.Tests.{not-true, not-false}
 use Rattle.rules.specs.declared.Step.{Step}
 use Rattle.sheet.specs.Section.{n_of, vans_of}
 use Rattle.sheet.specs.Place.{Laid}

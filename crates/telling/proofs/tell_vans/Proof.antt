@@ -2,7 +2,6 @@ use native.Mathlib.Omega.{arith}
 use mathlib.Core.Path.{◌≡◌, refl, sym, ap, ◌∙◌}
 use mathlib.Core.Bool.{cond}
 use mathlib.Core.List.{List, [], ◌∷◌}
-use mathlib.Core.Logic.{⊎_elim}
 use Prim.Native.Nat.{ℕ, ◌+◌, ◌≤◌, ◌<◌, ◌-◌}
 use lib.ListN.{get_or}
 use Rattle.rules.specs.Numbers.{most_vans}
@@ -19,6 +18,7 @@ use Rattle.telling.proofs.VanLaws.{told_or, told-anew, told-left, told-rows, tur
 use Rattle.telling.proofs.tell_vans.Statement.{statement}
 use Rattle.telling.proofs.tell_vans.Tie as tie
 use Rattle.telling.proofs.tell_vans.Lts.{then-every-f, else-every-f}
+
 abbrev invariant-loop : tie.invariant-loop-j
 invariant-loop sheet at jobs routes sets figures every told₀ ways₀ j₀ told ways j =
     (j ≤ at.vans) × (at.vans ≤ 8) × Turned most_vans (told_or sheet routes sets figures every told₀) (λ k. get_or told₀ k []) [] j told
@@ -136,17 +136,20 @@ joined c =
     let v = d.loop-j.invariant in
     let e : get_or d.loop-j.told d.loop-j.j [] ≡ get_or a.told.now d.loop-j.j [] = turned-ahead v.2 (omega arith) in
     let l : d.loop-j.j < vans_of a.sheet.now = omega (arith, s.requires.0.0.laid.vans, t.loop-j-test.true) in
-    elim c.if-every-f.branch [ then-every-f w ↦ (
-      rw w.told-is (turned_more _ v.2 (omega arith)
-          (rw g.figures_in-f.ensures at (w.tell.ensures.0 [])
-          ∙ ap (λ (n : Van). places_of (get_or a.sets.now d.loop-j.j []) 64 ∷ (figures_in (get_or a.figures.now d.loop-j.j [])).records
-          ∷ cond (alive n (day_of a.sheet.now) (plan_of (row_board a.routes.now a.sets.now a.figures.now d.loop-j.j))) 1 0 ∷ []) w.van-van.ensures.0
-          ∙ told-anew a.sheet.now a.routes.now a.sets.now a.figures.now a.every a.told.now d.loop-j.j (rw (g.figures_in-f.ensures, e) at w.if-every-f.true))),
-      rw w.ways-is (kept_more _ v.3 (omega arith) (rw (g.figures_in-f.ensures, w.van-van.ensures.0) at w.tell.ensures.1)),
-    ) | else-every-f w ↦ let q = rw (g.figures_in-f.ensures, e) at w.if-every-f.false in let b = as_before_lem a.every _ _ q in (
-      rw w.told-is (turned-kept v.2 (omega arith) (told-left a.sheet.now a.routes.now a.sets.now a.figures.now a.every a.told.now d.loop-j.j q)),
-      rw w.ways-is (kept-skip v.3 ((s.requires.1.1 b.0).recorded d.loop-j.j l b.1)),
-    ) ]
+    elim c.if-every-f.branch [
+      | then-every-f w ↦ (
+        rw w.told-is (turned_more _ v.2 (omega arith)
+            (rw g.figures_in-f.ensures at (w.tell.ensures.0 [])
+            ∙ ap (λ (n : Van). places_of (get_or a.sets.now d.loop-j.j []) 64 ∷ (figures_in (get_or a.figures.now d.loop-j.j [])).records
+            ∷ cond (alive n (day_of a.sheet.now) (plan_of (row_board a.routes.now a.sets.now a.figures.now d.loop-j.j))) 1 0 ∷ []) w.van-van.ensures.0
+            ∙ told-anew a.sheet.now a.routes.now a.sets.now a.figures.now a.every a.told.now d.loop-j.j (rw (g.figures_in-f.ensures, e) at w.if-every-f.true))),
+        rw w.ways-is (kept_more _ v.3 (omega arith) (rw (g.figures_in-f.ensures, w.van-van.ensures.0) at w.tell.ensures.1)),
+      )
+      | else-every-f w ↦ let q = rw (g.figures_in-f.ensures, e) at w.if-every-f.false in let b = as_before_lem a.every _ _ q in (
+        rw w.told-is (turned-kept v.2 (omega arith) (told-left a.sheet.now a.routes.now a.sets.now a.figures.now a.every a.told.now d.loop-j.j q)),
+        rw w.ways-is (kept-skip v.3 ((s.requires.1.1 b.0).recorded d.loop-j.j l b.1)),
+      )
+    ]
 
 loop-again : tie.Need-loop-j-preserved invariant-loop decreases-loop
 loop-again c = let h = joined c in (omega arith, c.loop-j.invariant.1, h.0, h.1)

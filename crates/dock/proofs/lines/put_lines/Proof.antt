@@ -1,6 +1,5 @@
 use mathlib.Core.Path.{◌≡◌, refl, sym, ◌∙◌}
 use mathlib.Core.List.{List, []}
-use mathlib.Core.Logic.{⊎_elim}
 use Prim.Native.Nat.{ℕ, ◌-◌, ◌*◌, ◌<◌, ◌≤◌}
 use native.Mathlib.Omega.{arith}
 use lib.ListN.{length, get_or}
@@ -20,6 +19,7 @@ use borrow.Author.Rules.{rules}
 use Rattle.dock.proofs.lines.put_lines.Statement.{statement}
 use Rattle.dock.proofs.lines.put_lines.Tie as tie
 use Rattle.dock.proofs.lines.put_lines.Lts.{then-stale, else-stale}
+
 abbrev invariant-loop : tie.invariant-loop-i
 invariant-loop sheet at jobs routes₀ sets₀ levels₀ figures₀ trail₀ out₀ told₀ ways₀ sums₀ used₀ i₀ routes sets levels figures trail out told ways sums used i =
     (i ≤ at.steps) × (used ≤ 200 * i) × (length out ≡ length out₀) × (length trail ≡ length trail₀) × Put out₀ 0 (lines_of sheet trail₀ i) used out
@@ -156,14 +156,17 @@ joined c =
     let p = c in
     let d = start c.before.before.before.before.before in
     let v = (loop-at c.before.before.before.before.before).loop-i in
-    elim c.if-stale.branch [ then-stale w ↦ rw (w.told-is, w.sums-is, w.ways-is) (
-      w.tell_vans-then-stale.ensures.1.1 (levels-at c.before.before.before.before.before) (λ j h e. same c.before.before.before.before.before j h),
-      w.sums_now-sums-then-stale.ensures (levels-at c.before.before.before.before.before),
-      w.tell_vans-then-stale.ensures.1.0,
-      w.tell_vans-then-stale.ensures.0,
-    ) | else-stale w ↦ let h = still d.requires.0.0 d.requires.0.1 v.routes v.sets v.levels v.figures v.invariant.9.3 v.invariant.6 _ _ _ (routes-at c.before.before.before.before.before) (sets-at c.before.before.before.before.before) (levels-at c.before.before.before.before.before) (figures-at c.before.before.before.before.before) p.step_at-o.ensures.0 v.invariant.7
-    (sym c.stale.ensures ∙ w.if-stale.false) v.invariant.10 v.invariant.11 in
-    rw (w.told-is, w.sums-is, w.ways-is) (h.0, h.1, h.2, v.invariant.8) ]
+    elim c.if-stale.branch [
+      | then-stale w ↦ rw (w.told-is, w.sums-is, w.ways-is) (
+        w.tell_vans-then-stale.ensures.1.1 (levels-at c.before.before.before.before.before) (λ j h e. same c.before.before.before.before.before j h),
+        w.sums_now-sums-then-stale.ensures (levels-at c.before.before.before.before.before),
+        w.tell_vans-then-stale.ensures.1.0,
+        w.tell_vans-then-stale.ensures.0,
+      )
+      | else-stale w ↦ let h = still d.requires.0.0 d.requires.0.1 v.routes v.sets v.levels v.figures v.invariant.9.3 v.invariant.6 _ _ _ (routes-at c.before.before.before.before.before) (sets-at c.before.before.before.before.before) (levels-at c.before.before.before.before.before) (figures-at c.before.before.before.before.before) p.step_at-o.ensures.0 v.invariant.7
+          (sym c.stale.ensures ∙ w.if-stale.false) v.invariant.10 v.invariant.11 in
+          rw (w.told-is, w.sums-is, w.ways-is) (h.0, h.1, h.2, v.invariant.8)
+    ]
 
 put-line-requires : tie.Need-put_line-used-requires invariant-loop decreases-loop
 put-line-requires c κs =
