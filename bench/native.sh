@@ -7,14 +7,15 @@ set -euo pipefail
 root=$(cd "$(dirname "${BASH_SOURCE[0]}")/.." && pwd)
 cd "$root"
 machine=$(uname -m)
-clang=$(dirname "$(rt doc)")/toolchain/bin/clang
+home=$(dirname "$(rt doc)")
+clang=$home/toolchain/bin/clang
 out=$root/target/bench
 mkdir -p "$out"
 bench/module.sh "$out/module.bc"
 switches=(--target="$machine-unknown-linux-gnu" --no-default-config -no-canonical-prefixes -fintegrated-cc1 -fPIE -O3 -w)
 "$clang" "${switches[@]}" -mllvm -trap-unreachable -mllvm -no-trap-after-noreturn -c -x ir "$out/module.bc" -o "$out/ours.o"
 "$clang" "${switches[@]}" -nostdinc -c bench/plain.c -o "$out/plain.o"
-cc -o "$out/ours" "$out/ours.o"
+cc -o "$out/ours" "$out/ours.o" "$home/c/libos_c.a" "$home/c/liblibc_c.a"
 cc -o "$out/plain" "$out/plain.o"
 (cd tests/second && cargo build --release --offline --quiet)
 tests/second/target/release/ratios "$out/plain" "$out/ours" ${1:-}
