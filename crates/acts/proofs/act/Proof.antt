@@ -48,25 +48,20 @@ same-length-4 c = search rules
 
 returns-4 : tie.Need-returns-then-kind
 returns-4 c =
-    let k = c in
-    let o = k in
-    let d = o in
     did-as
-    (act-van (van_of d.args.sheet.now) (day_of d.args.sheet.now) (vans_of d.args.sheet.now) (fleet c.before.before.before.before.before.before.before.before.before.before.before.before.before.before) d.args.trail.now d.args.step
-    o.if-kind-eq-LEVEL.false o.if-kind-eq-BACK.false o.if-kind-eq-OBLIGE.false k.if-kind.true)
-    k.in_van.ensures
+    (act-van (van_of c.args.sheet.now) (day_of c.args.sheet.now) (vans_of c.args.sheet.now) (fleet c.before.before.before.before.before.before.before.before.before.before.before.before.before.before) c.args.trail.now c.args.step
+    c.if-kind-eq-LEVEL.false c.if-kind-eq-BACK.false c.if-kind-eq-OBLIGE.false c.if-kind.true)
+    c.in_van.ensures
 
 answered-requires : tie.Need-answered-requires
 answered-requires c κs = search rules
 
 returns-5 : tie.Need-returns
 returns-5 c =
-    let o = c in
-    let d = o in
-    let a = d.args in
-    did_of a.routes.now a.sets.now a.levels.now a.figures.now a.trail.now c.answered.ensures (known-eight d.requires)
+    let a = c.args in
+    did_of a.routes.now a.sets.now a.levels.now a.figures.now a.trail.now c.answered.ensures (known-eight c.requires)
     (act-unknown (van_of a.sheet.now) (day_of a.sheet.now) (vans_of a.sheet.now) (fleet c.before.before.before.before.before.before.before) a.trail.now a.step
-    o.if-kind-eq-LEVEL.false o.if-kind-eq-BACK.false o.if-kind-eq-OBLIGE.false c.if-kind.false)
+    c.if-kind-eq-LEVEL.false c.if-kind-eq-BACK.false c.if-kind-eq-OBLIGE.false c.if-kind.false)
 
 pub act_spec : {M : Type 1} → statement M
 act_spec =

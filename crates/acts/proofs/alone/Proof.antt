@@ -37,10 +37,10 @@ div-share : tie.Need-nonzero_div-share
 div-share c = search rules
 
 mul-from : tie.Need-overflow_mul-from
-mul-from c = let d = c in omega (arith, inside c.before.before.before, d.well_formed)
+mul-from c = omega (arith, inside c.before.before.before, c.well_formed)
 
 add-end : tie.Need-overflow_add-end
-add-end c = let d = c in omega (arith, inside c.before.before.before, d.well_formed)
+add-end c = omega (arith, inside c.before.before.before, c.well_formed)
 
 mul-figures-in : tie.Need-offset_bounds-figures-i
 mul-figures-in c = search rules
@@ -49,7 +49,7 @@ index-1-figures-in : tie.Need-bounds-figures-i
 index-1-figures-in c = search rules
 
 figures-in-requires : tie.Need-figures_in-f-requires
-figures-in-requires c κs = let d = c in d.requires.0.figured.wide d.args.step.van (low c.before.before.before.before)
+figures-in-requires c κs = c.requires.0.figured.wide c.args.step.van (low c.before.before.before.before)
 
 mul-change : tie.Need-offset_bounds-routes-i
 mul-change c = search rules
@@ -70,7 +70,7 @@ index-1-change-3 : tie.Need-bounds-levels-i
 index-1-change-3 c = search rules
 
 mul-change-4 : tie.Need-offset_bounds-trail-from
-mul-change-4 c = let d = c in omega (arith, inside c.before.before.before.before.before.before.before.before, d.well_formed)
+mul-change-4 c = omega (arith, inside c.before.before.before.before.before.before.before.before, c.well_formed)
 
 sub-change : tie.Need-slice_bounds-change-count
 sub-change c = search rules
@@ -83,9 +83,7 @@ part-change-end c = inside c.before.before.before.before.before.before.before.be
 
 change-requires : tie.Need-change-o-requires
 change-requires c κs =
-    let g = c in
-    let d = g in
-    (rw g.figures_in-f.ensures (known-van d.requires.0 d.args.step.van (from c.before.before.before.before.before.before.before.before.before) (from c.before.before.before.before.before.before.before.before.before + share c.before.before.before.before.before.before.before.before.before) d.requires.3 (spot c.before.before.before.before.before.before.before.before.before)), d.requires.2)
+    (rw c.figures_in-f.ensures (known-van c.requires.0 c.args.step.van (from c.before.before.before.before.before.before.before.before.before) (from c.before.before.before.before.before.before.before.before.before + share c.before.before.before.before.before.before.before.before.before) c.requires.3 (spot c.before.before.before.before.before.before.before.before.before)), c.requires.2)
 
 -- the beginning, once the van has acted
 abbrev begun : tie.After-g-1 → tie.Start
@@ -105,21 +103,17 @@ same_length c = search rules
 
 returns : tie.Need-returns
 returns c =
-    let r = c in
-    let k = r in
-    let g = k in
-    let d = g in
-    let a = d.args in
-    let p = d.requires.0 in
+    let a = c.args in
+    let p = c.requires.0 in
     rw c.put_figures.ensures
-    (did _ (rows_stay a.routes.now a.sets.now a.levels.now a.figures.now (known-eight p) a.step.van (low c.before.before.before.before.before.before.before.before.before.before.before.before.before.before.before) _ _ _ k.change-o.result.after)
-    (van-alone (van_of a.sheet.now) (day_of a.sheet.now) (vans_of a.sheet.now) (fleet_with a.routes.now a.sets.now a.levels.now a.figures.now) a.trail.now a.step d.requires.3 d.requires.1
+    (did _ (rows_stay a.routes.now a.sets.now a.levels.now a.figures.now (known-eight p) a.step.van (low c.before.before.before.before.before.before.before.before.before.before.before.before.before.before.before) _ _ _ c.change-o.result.after)
+    (van-alone (van_of a.sheet.now) (day_of a.sheet.now) (vans_of a.sheet.now) (fleet_with a.routes.now a.sets.now a.levels.now a.figures.now) a.trail.now a.step c.requires.3 c.requires.1
     ∙ alone-did (vans_of a.sheet.now) a.step.van (from c.before.before.before.before.before.before.before.before.before.before.before.before.before.before.before) (from c.before.before.before.before.before.before.before.before.before.before.before.before.before.before.before + share c.before.before.before.before.before.before.before.before.before.before.before.before.before.before.before) a.routes.now a.sets.now a.levels.now a.figures.now a.trail.now
-    (λ s u. act_of (van_of a.sheet.now a.step.van) (day_of a.sheet.now) s u a.step.kind a.step.first a.step.second) k.change-o.result
-    d.requires.3 p.laid.fine.vans-high (spot c.before.before.before.before.before.before.before.before.before.before.before.before.before.before.before) (known-eight p)
+    (λ s u. act_of (van_of a.sheet.now a.step.van) (day_of a.sheet.now) s u a.step.kind a.step.first a.step.second) c.change-o.result
+    c.requires.3 p.laid.fine.vans-high (spot c.before.before.before.before.before.before.before.before.before.before.before.before.before.before.before) (known-eight p)
     (λ s u. act-leaves (van_of a.sheet.now a.step.van) (day_of a.sheet.now) s u a.step.kind a.step.first a.step.second)
-    (rw g.figures_in-f.ensures at (k.change-o.ensures (van_of a.sheet.now a.step.van)))
-    r.trail-1.given.0))
+    (rw c.figures_in-f.ensures at (c.change-o.ensures (van_of a.sheet.now a.step.van)))
+    c.trail-1.given.0))
 
 pub alone_spec : {M : Type 1} → statement M
 alone_spec =

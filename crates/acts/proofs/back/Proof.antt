@@ -46,22 +46,19 @@ answered-requires c κs = search rules
 
 returns : tie.Need-returns-then-one-lt1
 returns c =
-    let g = c in
-    let d = g in
-    let a = d.args in
-    did_of a.routes.now a.sets.now a.levels.now a.figures.now a.trail.now c.answered.ensures (known-eight d.requires.0)
-    (barred-by (back_bar (n_of a.sheet.now) (vans_of a.sheet.now) (fleet c.before.before.before.before.before.before.before) a.trail.now (turns c.before.before.before.before.before.before.before).0.fleet) (fleet c.before.before.before.before.before.before.before) a.trail.now (turns c.before.before.before.before.before.before.before) (act-back (van_of a.sheet.now) (day_of a.sheet.now) (vans_of a.sheet.now) (fleet c.before.before.before.before.before.before.before) a.trail.now a.step d.requires.1)
+    let a = c.args in
+    did_of a.routes.now a.sets.now a.levels.now a.figures.now a.trail.now c.answered.ensures (known-eight c.requires.0)
+    (barred-by (back_bar (n_of a.sheet.now) (vans_of a.sheet.now) (fleet c.before.before.before.before.before.before.before) a.trail.now (turns c.before.before.before.before.before.before.before).0.fleet) (fleet c.before.before.before.before.before.before.before) a.trail.now (turns c.before.before.before.before.before.before.before) (act-back (van_of a.sheet.now) (day_of a.sheet.now) (vans_of a.sheet.now) (fleet c.before.before.before.before.before.before.before) a.trail.now a.step c.requires.1)
     (back_none (n_of a.sheet.now) (vans_of a.sheet.now) (fleet c.before.before.before.before.before.before.before) a.trail.now (turns c.before.before.before.before.before.before.before).0.fleet
-    (omega (arith, rw g.figures_in-one.ensures at c.if-one-lt1.true, depth-row a.routes.now a.sets.now a.levels.now a.figures.now)))
+    (omega (arith, rw c.figures_in-one.ensures at c.if-one-lt1.true, depth-row a.routes.now a.sets.now a.levels.now a.figures.now)))
     (λ z. omega (arith, z)))
 
 each-requires : tie.Need-each-requires
 each-requires c κs =
-    let d = c in
-    let a = d.args in
-    let l = d.requires.0.laid in (
-      (omega (arith, l.vans, l.fine.vans-low), omega (arith, l.vans, l.fine.vans-high), share-as a.trail.now refl, known-eight d.requires.0),
-      known-turning d.requires.0 a.step (λ j h z. absurd (omega (arith, z, d.requires.1))),
+    let a = c.args in
+    let l = c.requires.0.laid in (
+      (omega (arith, l.vans, l.fine.vans-low), omega (arith, l.vans, l.fine.vans-high), share-as a.trail.now refl, known-eight c.requires.0),
+      known-turning c.requires.0 a.step (λ j h z. absurd (omega (arith, z, c.requires.1))),
     )
 
 answered-requires-2 : tie.Need-answered-requires-then-not-each
@@ -72,25 +69,19 @@ same_length c = search rules
 
 returns-2 : tie.Need-returns-then-not-each
 returns-2 c =
-    let m = c in
-    let o = m in
+    let o = c in
     let i = o in
-    let d = i in
-    let b = backed d.args.step _ _ m.each.result d.requires.0 d.requires.1 (omega (arith, rw i.figures_in-one.ensures at o.if-one-lt1.false)) (m.each.ensures.0, m.each.ensures.1) in
-    let l = d.requires.0.laid in
-    let n = unfit m.each.result (shares_none (n_of d.args.sheet.now) (vans_of d.args.sheet.now) _) (c.if-not-each.true) in
-    did-misfit _ _ _ _ d.requires.1 (omega (arith, l.vans, l.fine.vans-low)) c.answered-then-not-each.ensures m.each.ensures.2 b.same (b.no n) (λ o. b.one (sym l.vans ∙ o) n)
+    let b = backed i.args.step _ _ c.each.result i.requires.0 i.requires.1 (omega (arith, rw i.figures_in-one.ensures at o.if-one-lt1.false)) (c.each.ensures.0, c.each.ensures.1) in
+    let l = i.requires.0.laid in
+    let n = unfit c.each.result (shares_none (n_of i.args.sheet.now) (vans_of i.args.sheet.now) _) (c.if-not-each.true) in
+    did-misfit _ _ _ _ i.requires.1 (omega (arith, l.vans, l.fine.vans-low)) c.answered-then-not-each.ensures c.each.ensures.2 b.same (b.no n) (λ o. b.one (sym l.vans ∙ o) n)
 
 share-none-requires : tie.Need-share_none-requires
 share-none-requires c κs =
-    let m = c in
-    let o = m in
-    let i = o in
-    let d = i in
-    let l = d.requires.0.laid in
-    let b = backed d.args.step _ _ m.each.result d.requires.0 d.requires.1 (omega (arith, rw i.figures_in-one.ensures at o.if-one-lt1.false)) (m.each.ensures.0, m.each.ensures.1) in (
-      (omega (arith, l.vans, l.fine.vans-high), omega (arith, l.nodes, l.fine.n-low), m.each.ensures.2.3),
-      λ j h. nodes-row m.each.new.routes m.each.new.sets m.each.new.levels m.each.new.figures j (omega (arith, h, l.vans, l.fine.vans-high)) l.nodes (b.boards j (omega (arith, h, l.vans))),
+    let l = c.requires.0.laid in
+    let b = backed c.args.step _ _ c.each.result c.requires.0 c.requires.1 (omega (arith, rw c.figures_in-one.ensures at c.if-one-lt1.false)) (c.each.ensures.0, c.each.ensures.1) in (
+      (omega (arith, l.vans, l.fine.vans-high), omega (arith, l.nodes, l.fine.n-low), c.each.ensures.2.3),
+      λ j h. nodes-row c.each.new.routes c.each.new.sets c.each.new.levels c.each.new.figures j (omega (arith, h, l.vans, l.fine.vans-high)) l.nodes (b.boards j (omega (arith, h, l.vans))),
     )
 
 answered-requires-3 : tie.Need-answered-requires-then-share_none
@@ -104,32 +95,22 @@ same-length-2 c = search rules
 
 returns-3 : tie.Need-returns-then-share_none
 returns-3 c =
-    let g = c in
-    let w = g in
-    let m = w in
-    let o = m in
-    let i = o in
-    let d = i in
-    let l = d.requires.0.laid in
-    let b = backed d.args.step _ _ m.each.result d.requires.0 d.requires.1 (omega (arith, rw i.figures_in-one.ensures at o.if-one-lt1.false)) (m.each.ensures.0, m.each.ensures.1) in
-    did_of _ _ _ _ _ c.answered-then-share_none.ensures m.each.ensures.2
-    (b.yes (w.if-not-each.false) (ap₂ (λ (n v : ℕ). shares_none n v (fleet_with m.each.new.routes m.each.new.sets m.each.new.levels m.each.new.figures)) (sym l.nodes) (sym l.vans) ∙ sym (g.share_none.ensures m.each.new.levels) ∙ c.if-share_none.true))
+    let l = c.requires.0.laid in
+    let b = backed c.args.step _ _ c.each.result c.requires.0 c.requires.1 (omega (arith, rw c.figures_in-one.ensures at c.if-one-lt1.false)) (c.each.ensures.0, c.each.ensures.1) in
+    did_of _ _ _ _ _ c.answered-then-share_none.ensures c.each.ensures.2
+    (b.yes (c.if-not-each.false) (ap₂ (λ (n v : ℕ). shares_none n v (fleet_with c.each.new.routes c.each.new.sets c.each.new.levels c.each.new.figures)) (sym l.nodes) (sym l.vans) ∙ sym (c.share_none.ensures c.each.new.levels) ∙ c.if-share_none.true))
 
 same-length-3 : tie.Need-shape_of-trail-else-share_none
 same-length-3 c = search rules
 
 returns-4 : tie.Need-returns-else-share_none
 returns-4 c =
-    let g = c in
-    let w = g in
-    let m = w in
-    let o = m in
+    let o = c in
     let i = o in
-    let d = i in
-    let l = d.requires.0.laid in
-    let b = backed d.args.step _ _ m.each.result d.requires.0 d.requires.1 (omega (arith, rw i.figures_in-one.ensures at o.if-one-lt1.false)) (m.each.ensures.0, m.each.ensures.1) in
-    let n = shared m.each.result _ (w.if-not-each.false) (ap₂ (λ (n v : ℕ). shares_none n v (fleet_with m.each.new.routes m.each.new.sets m.each.new.levels m.each.new.figures)) (sym l.nodes) (sym l.vans) ∙ sym (g.share_none.ensures m.each.new.levels) ∙ c.if-share_none.false) in
-    did-misfit _ _ _ _ d.requires.1 (omega (arith, l.vans, l.fine.vans-low)) c.answered-else-share_none.ensures m.each.ensures.2 b.same (b.no n) (λ o. b.one (sym l.vans ∙ o) n)
+    let l = i.requires.0.laid in
+    let b = backed i.args.step _ _ c.each.result i.requires.0 i.requires.1 (omega (arith, rw i.figures_in-one.ensures at o.if-one-lt1.false)) (c.each.ensures.0, c.each.ensures.1) in
+    let n = shared c.each.result _ (c.if-not-each.false) (ap₂ (λ (n v : ℕ). shares_none n v (fleet_with c.each.new.routes c.each.new.sets c.each.new.levels c.each.new.figures)) (sym l.nodes) (sym l.vans) ∙ sym (c.share_none.ensures c.each.new.levels) ∙ c.if-share_none.false) in
+    did-misfit _ _ _ _ i.requires.1 (omega (arith, l.vans, l.fine.vans-low)) c.answered-else-share_none.ensures c.each.ensures.2 b.same (b.no n) (λ o. b.one (sym l.vans ∙ o) n)
 
 pub back_spec : {M : Type 1} → statement M
 back_spec =

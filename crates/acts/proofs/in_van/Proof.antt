@@ -14,11 +14,10 @@ answered-requires c κs = search rules
 
 returns : tie.Need-returns-then-at-step
 returns c =
-    let d = c in
-    let a = d.args in
-    did_of a.routes.now a.sets.now a.levels.now a.figures.now a.trail.now c.answered.ensures (known-eight d.requires)
+    let a = c.args in
+    did_of a.routes.now a.sets.now a.levels.now a.figures.now a.trail.now c.answered.ensures (known-eight c.requires)
     (van-out (van_of a.sheet.now) (day_of a.sheet.now) (vans_of a.sheet.now) (fleet_with a.routes.now a.sets.now a.levels.now a.figures.now) a.trail.now a.step
-    (omega (arith, c.if-at-step.true, d.requires.laid.vans)))
+    (omega (arith, c.if-at-step.true, c.requires.laid.vans)))
 
 place-requires : tie.Need-place-requires
 place-requires c κs = search rules

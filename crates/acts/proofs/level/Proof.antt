@@ -36,20 +36,17 @@ answered-requires c κs = search rules
 
 returns : tie.Need-returns-then-one-ge-LEVELS
 returns c =
-    let g = c in
-    let d = g in
-    let a = d.args in
-    did_of a.routes.now a.sets.now a.levels.now a.figures.now a.trail.now c.answered.ensures (known-eight d.requires.0)
-    (barred-by (level_bar (fleet c.before.before.before.before.before.before.before)) (fleet c.before.before.before.before.before.before.before) a.trail.now (turns c.before.before.before.before.before.before.before) (act-level (van_of a.sheet.now) (day_of a.sheet.now) (vans_of a.sheet.now) (fleet c.before.before.before.before.before.before.before) a.trail.now a.step d.requires.1)
-    (level-full (fleet c.before.before.before.before.before.before.before) (omega (arith, rw g.figures_in-one.ensures at c.if-one-ge-LEVELS.true, depth-row a.routes.now a.sets.now a.levels.now a.figures.now))) (λ z. omega (arith, z)))
+    let a = c.args in
+    did_of a.routes.now a.sets.now a.levels.now a.figures.now a.trail.now c.answered.ensures (known-eight c.requires.0)
+    (barred-by (level_bar (fleet c.before.before.before.before.before.before.before)) (fleet c.before.before.before.before.before.before.before) a.trail.now (turns c.before.before.before.before.before.before.before) (act-level (van_of a.sheet.now) (day_of a.sheet.now) (vans_of a.sheet.now) (fleet c.before.before.before.before.before.before.before) a.trail.now a.step c.requires.1)
+    (level-full (fleet c.before.before.before.before.before.before.before) (omega (arith, rw c.figures_in-one.ensures at c.if-one-ge-LEVELS.true, depth-row a.routes.now a.sets.now a.levels.now a.figures.now))) (λ z. omega (arith, z)))
 
 each-requires : tie.Need-each-requires
 each-requires c κs =
-    let d = c in
-    let a = d.args in
-    let l = d.requires.0.laid in (
-      (omega (arith, l.vans, l.fine.vans-low), omega (arith, l.vans, l.fine.vans-high), share-as a.trail.now refl, known-eight d.requires.0),
-      known-turning d.requires.0 a.step (λ j h z. absurd (omega (arith, z, d.requires.1))),
+    let a = c.args in
+    let l = c.requires.0.laid in (
+      (omega (arith, l.vans, l.fine.vans-low), omega (arith, l.vans, l.fine.vans-high), share-as a.trail.now refl, known-eight c.requires.0),
+      known-turning c.requires.0 a.step (λ j h z. absurd (omega (arith, z, c.requires.1))),
     )
 
 answered-requires-2 : tie.Need-answered-requires-2
@@ -60,16 +57,12 @@ same_length c = search rules
 
 returns-2 : tie.Need-returns
 returns-2 c =
-    let m = c in
-    let o = m in
-    let g = o in
-    let d = g in
-    let a = d.args in
-    let l = d.requires.0.laid in
-    did_of _ _ _ _ _ c.answered-2.ensures m.each.ensures.2
-    (unbarred-by (level_bar (fleet c.before.before.before.before.before.before.before.before.before.before.before.before.before.before.before)) (fleet c.before.before.before.before.before.before.before.before.before.before.before.before.before.before.before) a.trail.now (turns c.before.before.before.before.before.before.before.before.before.before.before.before.before.before.before) (act-level (van_of a.sheet.now) (day_of a.sheet.now) (vans_of a.sheet.now) (fleet c.before.before.before.before.before.before.before.before.before.before.before.before.before.before.before) a.trail.now a.step d.requires.1)
-    (level-open (fleet c.before.before.before.before.before.before.before.before.before.before.before.before.before.before.before) (omega (arith, rw g.figures_in-one.ensures at o.if-one-ge-LEVELS.false, depth-row a.routes.now a.sets.now a.levels.now a.figures.now)))
-    (turned_as (fleet c.before.before.before.before.before.before.before.before.before.before.before.before.before.before.before) a.trail.now a.step _ _ l.nodes l.vans (m.each.ensures.0, m.each.ensures.1)).0)
+    let a = c.args in
+    let l = c.requires.0.laid in
+    did_of _ _ _ _ _ c.answered-2.ensures c.each.ensures.2
+    (unbarred-by (level_bar (fleet c.before.before.before.before.before.before.before.before.before.before.before.before.before.before.before)) (fleet c.before.before.before.before.before.before.before.before.before.before.before.before.before.before.before) a.trail.now (turns c.before.before.before.before.before.before.before.before.before.before.before.before.before.before.before) (act-level (van_of a.sheet.now) (day_of a.sheet.now) (vans_of a.sheet.now) (fleet c.before.before.before.before.before.before.before.before.before.before.before.before.before.before.before) a.trail.now a.step c.requires.1)
+    (level-open (fleet c.before.before.before.before.before.before.before.before.before.before.before.before.before.before.before) (omega (arith, rw c.figures_in-one.ensures at c.if-one-ge-LEVELS.false, depth-row a.routes.now a.sets.now a.levels.now a.figures.now)))
+    (turned_as (fleet c.before.before.before.before.before.before.before.before.before.before.before.before.before.before.before) a.trail.now a.step _ _ l.nodes l.vans (c.each.ensures.0, c.each.ensures.1)).0)
 
 pub level_spec : {M : Type 1} → statement M
 level_spec =

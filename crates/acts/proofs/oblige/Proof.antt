@@ -60,22 +60,18 @@ same_length c = search rules
 
 returns : tie.Need-returns
 returns c =
-    let r = c in
-    let k = r in
-    let g = k in
-    let d = g in
-    let a = d.args in
-    let p = d.requires.0 in
+    let a = c.args in
+    let p = c.requires.0 in
     rw c.put_figures.ensures
-    (did _ ((known-eight p).0, (known-eight p).1, (known-eight p).2, figured-set a.figures.now 0 k.oblige-o.result.after p.figured)
-    (act-oblige (van_of a.sheet.now) (day_of a.sheet.now) (vans_of a.sheet.now) (fleet_with a.routes.now a.sets.now a.levels.now a.figures.now) a.trail.now a.step d.requires.1
+    (did _ ((known-eight p).0, (known-eight p).1, (known-eight p).2, figured-set a.figures.now 0 c.oblige-o.result.after p.figured)
+    (act-oblige (van_of a.sheet.now) (day_of a.sheet.now) (vans_of a.sheet.now) (fleet_with a.routes.now a.sets.now a.levels.now a.figures.now) a.trail.now a.step c.requires.1
     ∙ alone-noted (vans_of a.sheet.now) 0 0 (share c.before.before.before.before.before.before.before.before.before.before.before.before) a.routes.now a.sets.now a.levels.now a.figures.now a.trail.now
-    (λ s u. oblige_step (n_of a.sheet.now) s u a.step.first) k.oblige-o.result
+    (λ s u. oblige_step (n_of a.sheet.now) s u a.step.first) c.oblige-o.result
     p.laid.fine.vans-low p.laid.fine.vans-high (spot-first (vans_of a.sheet.now) (share c.before.before.before.before.before.before.before.before.before.before.before.before) a.trail.now (share-as a.trail.now p.laid.vans)) (known-eight p)
     (λ s u. oblige-leaves (n_of a.sheet.now) s u a.step.first)
     (sym (ap (λ (n : ℕ). oblige_step n (row_state a.routes.now a.sets.now a.levels.now a.figures.now 0) (take (share c.before.before.before.before.before.before.before.before.before.before.before.before - 0) (drop 0 a.trail.now)) a.step.first) p.laid.nodes)
-    ∙ rw g.figures_in-f.ensures at (k.oblige-o.ensures (get_or a.routes.now 0 []) (get_or a.sets.now 0 []) (get_or a.levels.now 0 [])))
-    r.trail-1.given.0))
+    ∙ rw c.figures_in-f.ensures at (c.oblige-o.ensures (get_or a.routes.now 0 []) (get_or a.sets.now 0 []) (get_or a.levels.now 0 [])))
+    c.trail-1.given.0))
 
 pub oblige_spec : {M : Type 1} → statement M
 oblige_spec =

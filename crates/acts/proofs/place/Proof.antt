@@ -39,25 +39,20 @@ answered-requires c κs = search rules
 
 returns : tie.Need-returns-then-code-ne0
 returns c =
-    let k = c in
-    let d = k in
-    let a = d.args in
-    let bar = k.place_bar-code.ensures a.levels.now a.trail.now (room_as a.trail.now d.requires.0.laid.vans) in
-    did_of a.routes.now a.sets.now a.levels.now a.figures.now a.trail.now c.answered.ensures (known-eight d.requires.0)
-    (barred-by (number c.before.before.before.before.before) (fleet c.before.before.before.before.before) a.trail.now (turns c.before.before.before.before.before) (van-place (van_of a.sheet.now) (day_of a.sheet.now) (vans_of a.sheet.now) (fleet c.before.before.before.before.before) a.trail.now a.step d.requires.2 d.requires.1) (sym bar) c.if-code-ne0.true)
+    let a = c.args in
+    let bar = c.place_bar-code.ensures a.levels.now a.trail.now (room_as a.trail.now c.requires.0.laid.vans) in
+    did_of a.routes.now a.sets.now a.levels.now a.figures.now a.trail.now c.answered.ensures (known-eight c.requires.0)
+    (barred-by (number c.before.before.before.before.before) (fleet c.before.before.before.before.before) a.trail.now (turns c.before.before.before.before.before) (van-place (van_of a.sheet.now) (day_of a.sheet.now) (vans_of a.sheet.now) (fleet c.before.before.before.before.before) a.trail.now a.step c.requires.2 c.requires.1) (sym bar) c.if-code-ne0.true)
 
 each-requires : tie.Need-each-requires
 each-requires c κs =
-    let o = c in
-    let k = o in
-    let d = k in
-    let a = d.args in
-    let l = d.requires.0.laid in
-    let bar = k.place_bar-code.ensures a.levels.now a.trail.now (room_as a.trail.now l.vans) in
-    let u = bar-free (day_of a.sheet.now) (vans_of a.sheet.now) (fleet c.before.before.before.before.before.before.before.before.before) a.trail.now a.step.van a.step.first a.step.second (sym bar ∙ o.if-code-ne0.false) in (
-      (omega (arith, l.vans, l.fine.vans-low), omega (arith, l.vans, l.fine.vans-high), share-as a.trail.now refl, known-eight d.requires.0),
-      known-turning d.requires.0 a.step
-          (λ j h z. free-turns (n_of a.sheet.now) (vans_of a.sheet.now) (fleet c.before.before.before.before.before.before.before.before.before) a.trail.now l.fine.n-high d.requires.0.form a.step d.requires.2 (day_of a.sheet.now) refl u j h),
+    let a = c.args in
+    let l = c.requires.0.laid in
+    let bar = c.place_bar-code.ensures a.levels.now a.trail.now (room_as a.trail.now l.vans) in
+    let u = bar-free (day_of a.sheet.now) (vans_of a.sheet.now) (fleet c.before.before.before.before.before.before.before.before.before) a.trail.now a.step.van a.step.first a.step.second (sym bar ∙ c.if-code-ne0.false) in (
+      (omega (arith, l.vans, l.fine.vans-low), omega (arith, l.vans, l.fine.vans-high), share-as a.trail.now refl, known-eight c.requires.0),
+      known-turning c.requires.0 a.step
+          (λ j h z. free-turns (n_of a.sheet.now) (vans_of a.sheet.now) (fleet c.before.before.before.before.before.before.before.before.before) a.trail.now l.fine.n-high c.requires.0.form a.step c.requires.2 (day_of a.sheet.now) refl u j h),
     )
 
 answered-requires-2 : tie.Need-answered-requires-2
@@ -68,16 +63,12 @@ same_length c = search rules
 
 returns-2 : tie.Need-returns
 returns-2 c =
-    let m = c in
-    let o = m in
-    let k = o in
-    let d = k in
-    let a = d.args in
-    let l = d.requires.0.laid in
-    let bar = k.place_bar-code.ensures a.levels.now a.trail.now (room_as a.trail.now l.vans) in
-    did_of _ _ _ _ _ c.answered-2.ensures m.each.ensures.2
-    (unbarred-by (number c.before.before.before.before.before.before.before.before.before.before.before.before.before) (fleet c.before.before.before.before.before.before.before.before.before.before.before.before.before) a.trail.now (turns c.before.before.before.before.before.before.before.before.before.before.before.before.before) (van-place (van_of a.sheet.now) (day_of a.sheet.now) (vans_of a.sheet.now) (fleet c.before.before.before.before.before.before.before.before.before.before.before.before.before) a.trail.now a.step d.requires.2 d.requires.1) (sym bar ∙ o.if-code-ne0.false)
-    (turned_as (fleet c.before.before.before.before.before.before.before.before.before.before.before.before.before) a.trail.now a.step _ _ l.nodes l.vans (m.each.ensures.0, m.each.ensures.1)).0)
+    let a = c.args in
+    let l = c.requires.0.laid in
+    let bar = c.place_bar-code.ensures a.levels.now a.trail.now (room_as a.trail.now l.vans) in
+    did_of _ _ _ _ _ c.answered-2.ensures c.each.ensures.2
+    (unbarred-by (number c.before.before.before.before.before.before.before.before.before.before.before.before.before) (fleet c.before.before.before.before.before.before.before.before.before.before.before.before.before) a.trail.now (turns c.before.before.before.before.before.before.before.before.before.before.before.before.before) (van-place (van_of a.sheet.now) (day_of a.sheet.now) (vans_of a.sheet.now) (fleet c.before.before.before.before.before.before.before.before.before.before.before.before.before) a.trail.now a.step c.requires.2 c.requires.1) (sym bar ∙ c.if-code-ne0.false)
+    (turned_as (fleet c.before.before.before.before.before.before.before.before.before.before.before.before.before) a.trail.now a.step _ _ l.nodes l.vans (c.each.ensures.0, c.each.ensures.1)).0)
 
 pub place_spec : {M : Type 1} → statement M
 place_spec =

@@ -16,12 +16,11 @@ answered-requires c κs = search rules
 
 returns : tie.Need-returns-then-v-i
 returns c =
-    let d = c in
-    let a = d.args in
+    let a = c.args in
     let f = fleet_with a.routes.now a.sets.now a.levels.now a.figures.now in
-    did_of a.routes.now a.sets.now a.levels.now a.figures.now a.trail.now c.answered.ensures (known-eight d.requires.0.0)
-    (act-settle (van_of a.sheet.now) (day_of a.sheet.now) (vans_of a.sheet.now) f a.trail.now a.step d.requires.0.1
-    ∙ van-out (van_of a.sheet.now) (day_of a.sheet.now) (vans_of a.sheet.now) f a.trail.now a.step (omega (arith, c.if-v-i.true, d.requires.0.0.laid.vans)))
+    did_of a.routes.now a.sets.now a.levels.now a.figures.now a.trail.now c.answered.ensures (known-eight c.requires.0.0)
+    (act-settle (van_of a.sheet.now) (day_of a.sheet.now) (vans_of a.sheet.now) f a.trail.now a.step c.requires.0.1
+    ∙ van-out (van_of a.sheet.now) (day_of a.sheet.now) (vans_of a.sheet.now) f a.trail.now a.step (omega (arith, c.if-v-i.true, c.requires.0.0.laid.vans)))
 
 mul-none-open : tie.Need-offset_bounds-sets-i
 mul-none-open c = search rules
@@ -31,38 +30,31 @@ index-1-none-open c = search rules
 
 none-open-requires : tie.Need-none_open-requires
 none-open-requires c κs =
-    let d = c in
-    let p = d.requires.0.0 in (p.rows.1.wide d.args.step.van (omega (arith, c.if-v-i.false, p.laid.vans, p.laid.fine.vans-high)), nodes-most p.laid)
+    let p = c.requires.0.0 in (p.rows.1.wide c.args.step.van (omega (arith, c.if-v-i.false, p.laid.vans, p.laid.fine.vans-high)), nodes-most p.laid)
 
 answered-requires-2 : tie.Need-answered-requires-then-none_open
 answered-requires-2 c κs = search rules
 
 returns-2 : tie.Need-returns-then-none_open
 returns-2 c =
-    let o = c in
-    let e = o in
-    let d = e in
-    let a = d.args in
+    let a = c.args in
     let f = fleet_with a.routes.now a.sets.now a.levels.now a.figures.now in
-    did_of a.routes.now a.sets.now a.levels.now a.figures.now a.trail.now c.answered-then-none_open.ensures (known-eight d.requires.0.0)
-    (act-settle (van_of a.sheet.now) (day_of a.sheet.now) (vans_of a.sheet.now) f a.trail.now a.step d.requires.0.1
-    ∙ van-rests d.requires.0.0 a.step d.requires.0.1 (omega (arith, e.if-v-i.false, d.requires.0.0.laid.vans)) (sym o.none_open.ensures ∙ c.if-none_open.true))
+    did_of a.routes.now a.sets.now a.levels.now a.figures.now a.trail.now c.answered-then-none_open.ensures (known-eight c.requires.0.0)
+    (act-settle (van_of a.sheet.now) (day_of a.sheet.now) (vans_of a.sheet.now) f a.trail.now a.step c.requires.0.1
+    ∙ van-rests c.requires.0.0 a.step c.requires.0.1 (omega (arith, c.if-v-i.false, c.requires.0.0.laid.vans)) (sym c.none_open.ensures ∙ c.if-none_open.true))
 
 settle-van-requires : tie.Need-settle_van-requires
 settle-van-requires c κs =
-    let e = c in
-    let d = e in ((d.requires.0.0, d.requires.0.1, omega (arith, e.if-v-i.false, d.requires.0.0.laid.vans)), d.requires.1)
+    ((c.requires.0.0, c.requires.0.1, omega (arith, c.if-v-i.false, c.requires.0.0.laid.vans)), c.requires.1)
 
 same_length : tie.Need-shape_of-trail
 same_length c = search rules
 
 returns-3 : tie.Need-returns
 returns-3 c =
-    let k = c in
-    let d = k in
-    let a = d.args in
-    did-as (act-settle (van_of a.sheet.now) (day_of a.sheet.now) (vans_of a.sheet.now) (fleet_with a.routes.now a.sets.now a.levels.now a.figures.now) a.trail.now a.step d.requires.0.1)
-    k.settle_van.ensures
+    let a = c.args in
+    did-as (act-settle (van_of a.sheet.now) (day_of a.sheet.now) (vans_of a.sheet.now) (fleet_with a.routes.now a.sets.now a.levels.now a.figures.now) a.trail.now a.step c.requires.0.1)
+    c.settle_van.ensures
 
 pub settle_spec : {M : Type 1} → statement M
 settle_spec =

@@ -15,19 +15,16 @@ index-1-none-open c = search rules
 
 none-open-requires : tie.Need-none_open-requires
 none-open-requires c κs =
-    let d = c in
-    let p = d.requires.0 in (p.rows.1.wide d.args.step.van (omega (arith, d.requires.2, p.laid.fine.vans-high)), nodes-most p.laid)
+    let p = c.requires.0 in (p.rows.1.wide c.args.step.van (omega (arith, c.requires.2, p.laid.fine.vans-high)), nodes-most p.laid)
 
 answered-requires : tie.Need-answered-requires
 answered-requires c κs = search rules
 
 returns : tie.Need-returns-then-none_open
 returns c =
-    let o = c in
-    let d = o in
-    let a = d.args in
-    did_of a.routes.now a.sets.now a.levels.now a.figures.now a.trail.now c.answered.ensures (known-eight d.requires.0)
-    (van-rests d.requires.0 a.step d.requires.1 d.requires.2 (sym o.none_open.ensures ∙ c.if-none_open.true))
+    let a = c.args in
+    did_of a.routes.now a.sets.now a.levels.now a.figures.now a.trail.now c.answered.ensures (known-eight c.requires.0)
+    (van-rests c.requires.0 a.step c.requires.1 c.requires.2 (sym c.none_open.ensures ∙ c.if-none_open.true))
 
 by-node-requires : tie.Need-by_node-requires
 by-node-requires c κs = search rules

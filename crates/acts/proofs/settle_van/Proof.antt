@@ -38,10 +38,10 @@ div-share : tie.Need-nonzero_div-share
 div-share c = search rules
 
 mul-from : tie.Need-overflow_mul-from
-mul-from c = let d = c in omega (arith, inside c.before.before.before, d.well_formed)
+mul-from c = omega (arith, inside c.before.before.before, c.well_formed)
 
 add-end : tie.Need-overflow_add-end
-add-end c = let d = c in omega (arith, inside c.before.before.before, d.well_formed)
+add-end c = omega (arith, inside c.before.before.before, c.well_formed)
 
 van-requires : tie.Need-van-van-requires
 van-requires c κs = search rules
@@ -53,7 +53,7 @@ index-1-figures-in : tie.Need-bounds-figures-i
 index-1-figures-in c = search rules
 
 figures-in-requires : tie.Need-figures_in-f-requires
-figures-in-requires c κs = let d = c in d.requires.0.0.figured.wide d.args.step.van (low c.before.before.before.before.before)
+figures-in-requires c κs = c.requires.0.0.figured.wide c.args.step.van (low c.before.before.before.before.before)
 
 mul-settle : tie.Need-offset_bounds-routes-i
 mul-settle c = search rules
@@ -74,7 +74,7 @@ index-1-settle-3 : tie.Need-bounds-levels-i
 index-1-settle-3 c = search rules
 
 mul-settle-4 : tie.Need-offset_bounds-trail-from
-mul-settle-4 c = let d = c in omega (arith, inside c.before.before.before.before.before.before.before.before.before, d.well_formed)
+mul-settle-4 c = omega (arith, inside c.before.before.before.before.before.before.before.before.before, c.well_formed)
 
 sub-settle : tie.Need-slice_bounds-settle-count
 sub-settle c = search rules
@@ -87,10 +87,7 @@ part-settle-end c = inside c.before.before.before.before.before.before.before.be
 
 settle-requires : tie.Need-settle-o-requires
 settle-requires c κs =
-    let g = c in
-    let v = g in
-    let d = v in
-    ((rw g.figures_in-f.ensures (known-van d.requires.0.0 d.args.step.van (from c.before.before.before.before.before.before.before.before.before.before) (from c.before.before.before.before.before.before.before.before.before.before + share c.before.before.before.before.before.before.before.before.before.before) d.requires.0.2 (spot c.before.before.before.before.before.before.before.before.before.before)), v.van-van.ensures.2), (d.requires.1, d.requires.0.1))
+    ((rw c.figures_in-f.ensures (known-van c.requires.0.0 c.args.step.van (from c.before.before.before.before.before.before.before.before.before.before) (from c.before.before.before.before.before.before.before.before.before.before + share c.before.before.before.before.before.before.before.before.before.before) c.requires.0.2 (spot c.before.before.before.before.before.before.before.before.before.before)), c.van-van.ensures.2), (c.requires.1, c.requires.0.1))
 
 -- the beginning, once the van has acted
 abbrev begun : tie.After-g-1 → tie.Start
@@ -110,23 +107,18 @@ same_length c = search rules
 
 returns : tie.Need-returns
 returns c =
-    let r = c in
-    let k = r in
-    let g = k in
-    let v = g in
-    let d = v in
-    let a = d.args in
-    let p = d.requires.0.0 in
+    let a = c.args in
+    let p = c.requires.0.0 in
     rw c.put_figures.ensures
-    (did _ (rows_stay a.routes.now a.sets.now a.levels.now a.figures.now (known-eight p) a.step.van (low c.before.before.before.before.before.before.before.before.before.before.before.before.before.before.before.before) _ _ _ k.settle-o.result.after)
-    (van-alone (van_of a.sheet.now) (day_of a.sheet.now) (vans_of a.sheet.now) (fleet_with a.routes.now a.sets.now a.levels.now a.figures.now) a.trail.now a.step d.requires.0.2 (λ z. omega (arith, d.requires.0.1, z))
+    (did _ (rows_stay a.routes.now a.sets.now a.levels.now a.figures.now (known-eight p) a.step.van (low c.before.before.before.before.before.before.before.before.before.before.before.before.before.before.before.before) _ _ _ c.settle-o.result.after)
+    (van-alone (van_of a.sheet.now) (day_of a.sheet.now) (vans_of a.sheet.now) (fleet_with a.routes.now a.sets.now a.levels.now a.figures.now) a.trail.now a.step c.requires.0.2 (λ z. omega (arith, c.requires.0.1, z))
     ∙ alone-did (vans_of a.sheet.now) a.step.van (from c.before.before.before.before.before.before.before.before.before.before.before.before.before.before.before.before) (from c.before.before.before.before.before.before.before.before.before.before.before.before.before.before.before.before + share c.before.before.before.before.before.before.before.before.before.before.before.before.before.before.before.before) a.routes.now a.sets.now a.levels.now a.figures.now a.trail.now
-    (λ s u. act_of (van_of a.sheet.now a.step.van) (day_of a.sheet.now) s u a.step.kind a.step.first a.step.second) k.settle-o.result
-    d.requires.0.2 p.laid.fine.vans-high (spot c.before.before.before.before.before.before.before.before.before.before.before.before.before.before.before.before) (known-eight p)
+    (λ s u. act_of (van_of a.sheet.now a.step.van) (day_of a.sheet.now) s u a.step.kind a.step.first a.step.second) c.settle-o.result
+    c.requires.0.2 p.laid.fine.vans-high (spot c.before.before.before.before.before.before.before.before.before.before.before.before.before.before.before.before) (known-eight p)
     (λ s u. act-leaves (van_of a.sheet.now a.step.van) (day_of a.sheet.now) s u a.step.kind a.step.first a.step.second)
     (sym (ap (λ (w : Van). act_of w (day_of a.sheet.now) (row_state a.routes.now a.sets.now a.levels.now a.figures.now a.step.van)
-    (take (from c.before.before.before.before.before.before.before.before.before.before.before.before.before.before.before.before + share c.before.before.before.before.before.before.before.before.before.before.before.before.before.before.before.before - from c.before.before.before.before.before.before.before.before.before.before.before.before.before.before.before.before) (drop (from c.before.before.before.before.before.before.before.before.before.before.before.before.before.before.before.before) a.trail.now)) a.step.kind a.step.first a.step.second) v.van-van.ensures.0) ∙ rw g.figures_in-f.ensures at k.settle-o.ensures)
-    r.trail-1.given.0))
+    (take (from c.before.before.before.before.before.before.before.before.before.before.before.before.before.before.before.before + share c.before.before.before.before.before.before.before.before.before.before.before.before.before.before.before.before - from c.before.before.before.before.before.before.before.before.before.before.before.before.before.before.before.before) (drop (from c.before.before.before.before.before.before.before.before.before.before.before.before.before.before.before.before) a.trail.now)) a.step.kind a.step.first a.step.second) c.van-van.ensures.0) ∙ rw c.figures_in-f.ensures at c.settle-o.ensures)
+    c.trail-1.given.0))
 
 pub settle_van_spec : {M : Type 1} → statement M
 settle_van_spec =

@@ -32,13 +32,13 @@ index-1-figures-in : tie.Need-bounds-figures-j invariant-loop decreases-loop
 index-1-figures-in c = low c
 
 figures-in-requires : tie.Need-figures_in-f-requires invariant-loop decreases-loop
-figures-in-requires c κs = let i = c in i.requires.3.wide i.loop-j.j (low c)
+figures-in-requires c κs = c.requires.3.wide c.loop-j.j (low c)
 
 mul-spare : tie.Need-offset_bounds-sets-j invariant-loop decreases-loop
-mul-spare c = let i = c in omega (arith, low c.before, i.requires.1)
+mul-spare c = omega (arith, low c.before, c.requires.1)
 
 mul-spare-2 : tie.Need-offset_bounds-sets-x invariant-loop decreases-loop
-mul-spare-2 c = let i = c in omega (arith, low c.before, i.requires.1)
+mul-spare-2 c = omega (arith, low c.before, c.requires.1)
 
 index-1-spare : tie.Need-bounds-sets-j invariant-loop decreases-loop
 index-1-spare c = low c.before
@@ -48,24 +48,19 @@ index-2-spare c = omega (arith, c.requires.1)
 
 returns : tie.Need-returns-then-not-spare-f invariant-loop decreases-loop
 returns c = λ routes levels t h.
-    let g = c in
-    let i = g in
-    let d = i in
-    let a = d.args in
-    below-stops a.v i.loop-j.j (row_roomy a.sets.now a.figures.now a.room a.van a.x) i.loop-j-test.true refl (rw g.figures_in-f.ensures at (not_from_false _ c.if-not-spare-f.true))
-    ∙ sym (roomy-rows a.v routes a.sets.now levels a.figures.now t a.room a.van a.x d.requires.0 h)
+    let a = c.args in
+    below-stops a.v c.loop-j.j (row_roomy a.sets.now a.figures.now a.room a.van a.x) c.loop-j-test.true refl (rw c.figures_in-f.ensures at (not_from_false _ c.if-not-spare-f.true))
+    ∙ sym (roomy-rows a.v routes a.sets.now levels a.figures.now t a.room a.van a.x c.requires.0 h)
 
 add-j : tie.Need-overflow_add-j invariant-loop decreases-loop
-add-j c = let i = c in omega (arith, i.loop-j-test.true, i.requires.0)
+add-j c = omega (arith, c.loop-j-test.true, c.requires.0)
 
 loop-less : tie.Need-loop-j-smaller invariant-loop decreases-loop
 loop-less c = omega (arith, c.loop-j-test.true)
 
 loop-again : tie.Need-loop-j-preserved invariant-loop decreases-loop
 loop-again c =
-    let g = c in
-    let i = g in
-    (omega (arith, i.loop-j-test.true), below-goes _ _ i.loop-j.invariant.1 refl (rw g.figures_in-f.ensures at (not_from_true _ c.if-not-spare-f.false)))
+    (omega (arith, c.loop-j-test.true), below-goes _ _ c.loop-j.invariant.1 refl (rw c.figures_in-f.ensures at (not_from_true _ c.if-not-spare-f.false)))
 
 returns-2 : tie.Need-returns invariant-loop decreases-loop
 returns-2 c = λ routes levels t h.

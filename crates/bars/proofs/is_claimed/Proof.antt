@@ -28,7 +28,7 @@ abbrev decreases-loop : tie.decreases-loop-j
 decreases-loop sheet routes sets figures van x v partners j₀ j = v - j
 
 returns : tie.Need-returns-then-v-eq1 invariant-loop decreases-loop
-returns c = λ levels. let d = c in sym (claimed-alone _ _ _ _ _ (sym d.requires.0.laid.vans ∙ c.if-v-eq1.true) d.requires.1)
+returns c = λ levels. sym (claimed-alone _ _ _ _ _ (sym c.requires.0.laid.vans ∙ c.if-v-eq1.true) c.requires.1)
 
 partners-requires : tie.Need-partners-partners-requires invariant-loop decreases-loop
 partners-requires c κs = c.requires.0.laid
@@ -58,7 +58,7 @@ index-1-figures-in : tie.Need-bounds-figures-j invariant-loop decreases-loop
 index-1-figures-in c = low c.before
 
 figures-in-requires : tie.Need-figures_in-f-requires invariant-loop decreases-loop
-figures-in-requires c κs = let i = c in i.requires.0.figured.wide i.loop-j.j (low c.before)
+figures-in-requires c κs = c.requires.0.figured.wide c.loop-j.j (low c.before)
 
 mul-owes : tie.Need-offset_bounds-routes-j invariant-loop decreases-loop
 mul-owes c = omega (arith, low c.before.before)
@@ -68,22 +68,15 @@ index-1-owes c = low c.before.before
 
 owes-requires : tie.Need-owes-requires invariant-loop decreases-loop
 owes-requires c κs =
-    let g = c in
-    let i = g in
-    let p = i.requires.0 in
-    let r = ready-row i.loop-j.j p (omega (arith, i.loop-j-test.true, p.laid.vans)) in
-    rw g.figures_in-f.ensures (r.long, r.most, near-nodes r)
+    let p = c.requires.0 in
+    let r = ready-row c.loop-j.j p (omega (arith, c.loop-j-test.true, p.laid.vans)) in
+    rw c.figures_in-f.ensures (r.long, r.most, near-nodes r)
 
 returns-2 : tie.Need-returns-then-owes invariant-loop decreases-loop
 returns-2 c = λ levels.
-    let g = c in
-    let t = g in
-    let i = t in
-    let o = i in
-    let d = o in
-    let a = d.args in
-    any-stops (vans_of a.sheet.now) i.loop-j.j (row_owes (day_of a.sheet.now) a.routes.now a.figures.now a.van a.x) (omega (arith, i.loop-j-test.true, d.requires.0.laid.vans))
-    (rw (ne_eqb _ _ t.if-j-van.true) (sym (rw g.figures_in-f.ensures at (c.owes.ensures (day_of a.sheet.now) o.partners-partners.ensures)) ∙ c.if-owes.true))
+    let a = c.args in
+    any-stops (vans_of a.sheet.now) c.loop-j.j (row_owes (day_of a.sheet.now) a.routes.now a.figures.now a.van a.x) (omega (arith, c.loop-j-test.true, c.requires.0.laid.vans))
+    (rw (ne_eqb _ _ c.if-j-van.true) (sym (rw c.figures_in-f.ensures at (c.owes.ensures (day_of a.sheet.now) c.partners-partners.ensures)) ∙ c.if-owes.true))
     ∙ same c.before.before.before.before.before.before.before.before.before levels
 
 add-j : tie.Need-overflow_add-j invariant-loop decreases-loop
@@ -93,19 +86,16 @@ loop-less : tie.Need-loop-j-smaller invariant-loop decreases-loop
 loop-less c = omega (arith, c.loop-j-test.true)
 
 loop-again : tie.Need-loop-j-preserved invariant-loop decreases-loop
-loop-again c =
-    let i = c in
-    let o = i in (
-      omega (arith, i.loop-j-test.true),
-      any-goes _ _ i.loop-j.invariant.1
-          (elim c.if-j-van.branch [ then-j-van+else-owes w ↦ rw (ne_eqb _ _ w.if-j-van.true) (sym (rw w.figures_in-f.ensures at (w.owes.ensures (day_of o.args.sheet.now) o.partners-partners.ensures)) ∙ w.if-owes.false) | else-j-van w ↦ rw (eq-eqb _ _ w.if-j-van.false) refl ]),
-    )
+loop-again c = (
+  omega (arith, c.loop-j-test.true),
+  any-goes _ _ c.loop-j.invariant.1
+      (elim c.if-j-van.branch [ then-j-van+else-owes w ↦ rw (ne_eqb _ _ w.if-j-van.true) (sym (rw w.figures_in-f.ensures at (w.owes.ensures (day_of c.args.sheet.now) c.partners-partners.ensures)) ∙ w.if-owes.false) | else-j-van w ↦ rw (eq-eqb _ _ w.if-j-van.false) refl ]),
+)
 
 returns-3 : tie.Need-returns invariant-loop decreases-loop
 returns-3 c = λ levels.
-    let d = c in
-    let e = d.requires.0.laid.vans in
-    let a = d.args in
+    let e = c.requires.0.laid.vans in
+    let a = c.args in
     let l = c.loop-j in
     any-done (vans_of a.sheet.now) l.j (row_owes (day_of a.sheet.now) a.routes.now a.figures.now a.van a.x) (omega (arith, l.invariant.0, e)) (omega (arith, c.loop-j-test.false, e)) l.invariant.1
     ∙ same c.before.before.before.before.before levels

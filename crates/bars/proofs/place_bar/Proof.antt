@@ -34,10 +34,9 @@ Asked = lts.After-place_shut-shut (figures-in-reads.Asked, figures-in-reads.Lear
 
 -- what was asked of the place
 shut : (k : Asked) (levels : List (List ℕ))
-    → let d = k in k.place_shut-shut.result ≡ place_shut (n_of d.args.sheet.now) (board_in (fleet k.before.before.before levels) d.args.van) d.args.p d.args.x
+    → k.place_shut-shut.result ≡ place_shut (n_of k.args.sheet.now) (board_in (fleet k.before.before.before levels) k.args.van) k.args.p k.args.x
 shut k levels =
-    let d = k in
-    shut_row d.args.routes.now d.args.sets.now levels d.args.figures.now d.args.van d.args.p d.args.x d.requires.0.laid.nodes (low k.before.before.before) (rw k.figures_in-f.ensures at k.place_shut-shut.ensures)
+    shut_row k.args.routes.now k.args.sets.now levels k.args.figures.now k.args.van k.args.p k.args.x k.requires.0.laid.nodes (low k.before.before.before) (rw k.figures_in-f.ensures at k.place_shut-shut.ensures)
 
 mul-figures-in : tie.Need-offset_bounds-figures-van
 mul-figures-in c = omega (arith, low c.before)
@@ -46,7 +45,7 @@ index-1-figures-in : tie.Need-bounds-figures-van
 index-1-figures-in c = low c.before
 
 figures-in-requires : tie.Need-figures_in-f-requires
-figures-in-requires c κs = let d = c in d.requires.0.figured.wide d.args.van (low c.before)
+figures-in-requires c κs = c.requires.0.figured.wide c.args.van (low c.before)
 
 mul-place-shut : tie.Need-offset_bounds-routes-van
 mul-place-shut c = omega (arith, low c.before.before)
@@ -62,57 +61,37 @@ index-1-place-shut-2 c = low c.before.before
 
 place-shut-requires : tie.Need-place_shut-shut-requires
 place-shut-requires c κs =
-    let g = c in
-    let d = g in
-    rw g.figures_in-f.ensures (readable_row d.args.van d.requires.0 d.requires.2)
+    rw c.figures_in-f.ensures (readable_row c.args.van c.requires.0 c.requires.2)
 
 returns : tie.Need-returns-then-shut-ne0
 returns c = λ levels t h.
-    let k = c in
-    let d = k in
-    bar-shut (day_of d.args.sheet.now) (vans_of d.args.sheet.now) (fleet c.before.before.before.before levels) t d.args.van d.args.p d.args.x (shut c.before levels) c.if-shut-ne0.true
+    bar-shut (day_of c.args.sheet.now) (vans_of c.args.sheet.now) (fleet c.before.before.before.before levels) t c.args.van c.args.p c.args.x (shut c.before levels) c.if-shut-ne0.true
 
 is-claimed-requires : tie.Need-is_claimed-requires
-is-claimed-requires c κs = let d = c in (d.requires.0, d.requires.2)
+is-claimed-requires c κs = (c.requires.0, c.requires.2)
 
 returns-2 : tie.Need-returns-then-is_claimed
 returns-2 c = λ levels t h.
-    let o = c in
-    let k = o in
-    let d = k in
-    bar-claimed (day_of d.args.sheet.now) (vans_of d.args.sheet.now) (fleet c.before.before.before.before.before.before levels) t d.args.van d.args.p d.args.x (sym (shut c.before.before.before levels) ∙ o.if-shut-ne0.false)
+    bar-claimed (day_of c.args.sheet.now) (vans_of c.args.sheet.now) (fleet c.before.before.before.before.before.before levels) t c.args.van c.args.p c.args.x (sym (shut c.before.before.before levels) ∙ c.if-shut-ne0.false)
     (sym (c.is_claimed.ensures levels) ∙ c.if-is_claimed.true)
 
 has-room-requires : tie.Need-has_room-requires
 has-room-requires c κs =
-    let o = c in
-    let k = o in
-    let d = k in
-    let l = d.requires.0.laid in
-    let split = not-shut (n_of d.args.sheet.now) (board_in (fleet c.before.before.before.before.before.before d.args.sets.now) d.args.van) d.args.p d.args.x (sym (shut c.before.before.before d.args.sets.now) ∙ o.if-shut-ne0.false) in
-    (omega (arith, l.vans, l.fine.vans-high), omega (arith, (is-inner (n_of d.args.sheet.now) d.args.x split.0.node).1, l.fine.n-high), d.requires.1, d.requires.0.figured)
+    let l = c.requires.0.laid in
+    let split = not-shut (n_of c.args.sheet.now) (board_in (fleet c.before.before.before.before.before.before c.args.sets.now) c.args.van) c.args.p c.args.x (sym (shut c.before.before.before c.args.sets.now) ∙ c.if-shut-ne0.false) in
+    (omega (arith, l.vans, l.fine.vans-high), omega (arith, (is-inner (n_of c.args.sheet.now) c.args.x split.0.node).1, l.fine.n-high), c.requires.1, c.requires.0.figured)
 
 returns-3 : tie.Need-returns-then-has_room
 returns-3 c = λ levels t h.
-    let r = c in
-    let m = r in
-    let o = m in
-    let k = o in
-    let d = k in
-    bar-room (day_of d.args.sheet.now) (vans_of d.args.sheet.now) (fleet c.before.before.before.before.before.before.before.before levels) t d.args.van d.args.p d.args.x (sym (shut c.before.before.before.before.before levels) ∙ o.if-shut-ne0.false)
-    (sym (m.is_claimed.ensures levels) ∙ m.if-is_claimed.false)
-    (sym c.if-has_room.true ∙ room-vans d.args.sets.now d.args.figures.now d.args.room d.args.van d.args.x d.requires.0.laid.vans r.has_room.ensures d.args.routes.now levels t h)
+    bar-room (day_of c.args.sheet.now) (vans_of c.args.sheet.now) (fleet c.before.before.before.before.before.before.before.before levels) t c.args.van c.args.p c.args.x (sym (shut c.before.before.before.before.before levels) ∙ c.if-shut-ne0.false)
+    (sym (c.is_claimed.ensures levels) ∙ c.if-is_claimed.false)
+    (sym c.if-has_room.true ∙ room-vans c.args.sets.now c.args.figures.now c.args.room c.args.van c.args.x c.requires.0.laid.vans c.has_room.ensures c.args.routes.now levels t h)
 
 returns-4 : tie.Need-returns-else-has_room
 returns-4 c = λ levels t h.
-    let r = c in
-    let m = r in
-    let o = m in
-    let k = o in
-    let d = k in
-    bar-room (day_of d.args.sheet.now) (vans_of d.args.sheet.now) (fleet c.before.before.before.before.before.before.before.before levels) t d.args.van d.args.p d.args.x (sym (shut c.before.before.before.before.before levels) ∙ o.if-shut-ne0.false)
-    (sym (m.is_claimed.ensures levels) ∙ m.if-is_claimed.false)
-    (sym c.if-has_room.false ∙ room-vans d.args.sets.now d.args.figures.now d.args.room d.args.van d.args.x d.requires.0.laid.vans r.has_room.ensures d.args.routes.now levels t h)
+    bar-room (day_of c.args.sheet.now) (vans_of c.args.sheet.now) (fleet c.before.before.before.before.before.before.before.before levels) t c.args.van c.args.p c.args.x (sym (shut c.before.before.before.before.before levels) ∙ c.if-shut-ne0.false)
+    (sym (c.is_claimed.ensures levels) ∙ c.if-is_claimed.false)
+    (sym c.if-has_room.false ∙ room-vans c.args.sets.now c.args.figures.now c.args.room c.args.van c.args.x c.requires.0.laid.vans c.has_room.ensures c.args.routes.now levels t h)
 
 pub place_bar_spec : {M : Type 1} → statement M
 place_bar_spec =

@@ -32,10 +32,8 @@ read-laid c = found-laid read_refusal _ (λ z. z) c.sections-read.ensures c.if-r
 
 found-apart : (c : tie.After-judged-apart) → c.judged-apart.result ≡ found apart_refusal c.args.s.now
 found-apart c =
-    let j = c in
-    let e = j in
-    found-judged read_refusal apart_refusal _ _ e.sections-read.ensures e.if-read-ne0.false c.judged-apart.ensures
-    (rw (read-laid c.before.before.before).jobs at j.look_over-jobs.ensures.apart) refl
+    found-judged read_refusal apart_refusal _ _ c.sections-read.ensures c.if-read-ne0.false c.judged-apart.ensures
+    (rw (read-laid c.before.before.before).jobs at c.look_over-jobs.ensures.apart) refl
 
 apart-laid : (c : tie.Else-apart-ne0) → Laid c.args.s.now c.judged-apart.result.layout
 apart-laid c = found-laid apart_refusal _ (λ z. (or-else-zero _ _ z).0) (found-apart c.before.before) c.if-apart-ne0.false
@@ -43,12 +41,9 @@ apart-laid c = found-laid apart_refusal _ (λ z. (or-else-zero _ _ z).0) (found-
 found-light : (c : tie.After-judged-light) → c.judged-light.result ≡ found light_refusal c.args.s.now
 unfolding can_ride
 found-light c =
-    let m = c in
-    let a = m in
-    let j = a in
-    let heaviest = rw (read-laid c.before.before.before.before.before.before.before.before.before).jobs at j.look_over-jobs.ensures.heaviest in
-    found-judged apart_refusal _ _ _ (found-apart c.before.before.before.before.before.before) m.if-apart-ne0.false c.judged-light.ensures
-    (ap₂ leb heaviest m.largest-most.ensures ∙ peak-within _ _ _) refl
+    let heaviest = rw (read-laid c.before.before.before.before.before.before.before.before.before).jobs at c.look_over-jobs.ensures.heaviest in
+    found-judged apart_refusal _ _ _ (found-apart c.before.before.before.before.before.before) c.if-apart-ne0.false c.judged-light.ensures
+    (ap₂ leb heaviest c.largest-most.ensures ∙ peak-within _ _ _) refl
 
 light-laid : (c : tie.Else-light-ne0) → Laid c.args.s.now c.judged-light.result.layout
 light-laid c = found-laid light_refusal _ (λ z. (or-else-zero _ _ (or-else-zero _ _ z).0).0) (found-light c.before.before) c.if-light-ne0.false
@@ -87,9 +82,7 @@ judged-requires-3 c κs = search rules
 
 returns-4 : tie.Need-returns
 returns-4 c =
-    let e = c in
-    let l = e in
-    found-judged light_refusal _ _ _ (found-light c.before.before.before.before.before) l.if-light-ne0.false c.judged.ensures e.ends_admit-ends.ensures (then-class _)
+    found-judged light_refusal _ _ _ (found-light c.before.before.before.before.before) c.if-light-ne0.false c.judged.ensures c.ends_admit-ends.ensures (then-class _)
 
 pub checked_spec : {M : Type 1} → statement M
 checked_spec =

@@ -15,9 +15,8 @@ fresh-requires c κs = search rules
 
 returns : tie.Need-returns
 returns c =
-    let b = c in
-    let p = b.requires in
-    c.fresh.ensures ∙ fresh-alike _ _ _ (λ y e. ap₂ admits (p.2.at y (omega (arith, (is-inner _ y e).1))) b.bit-one.ensures)
+    let p = c.requires in
+    c.fresh.ensures ∙ fresh-alike _ _ _ (λ y e. ap₂ admits (p.2.at y (omega (arith, (is-inner _ y e).1))) c.bit-one.ensures)
 
 pub fresh_van_spec : {M : Type 1} → statement M
 fresh_van_spec = tie.close (tie.spec bit-requires fresh-requires returns)

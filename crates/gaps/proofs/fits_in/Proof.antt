@@ -30,9 +30,8 @@ add-result-2 c = search rules
 returns-2 : tie.Need-returns
 unfolding fits_in
 returns-2 c =
-    let b = c in
-    let a = b.args in
-    second-tells b.window.ensures (not_from_true _ b.if-not-window.false)
+    let a = c.args in
+    second-tells c.window.ensures (not_from_true _ c.if-not-window.false)
     (λ i. leb (a.gap.total + c.metres.ensures.is i + c.metres-2.ensures.is i) a.gap.most)
 
 pub fits_in_spec : {M : Type 1} → statement M

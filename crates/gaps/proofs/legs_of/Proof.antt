@@ -29,15 +29,14 @@ earliest-requires : tie.Need-earliest-t-requires invariant-loop decreases-loop
 earliest-requires c κs = let q = c.requires.0 in (q.0, node_at_lem q.1 0 (omega arith))
 
 loop-holds : tie.Need-loop-i-init invariant-loop decreases-loop
-loop-holds c =
-    let b = c in (
-      omega arith,
-      refl,
-      c.earliest-t.ensures.is,
-      length-first (day_of b.args.s.now) b.args.route.now,
-      filled_none _ _ _ _ b.requires.1.0,
-      filled_none _ _ _ _ b.requires.1.1,
-    )
+loop-holds c = (
+  omega arith,
+  refl,
+  c.earliest-t.ensures.is,
+  length-first (day_of c.args.s.now) c.args.route.now,
+  filled_none _ _ _ _ c.requires.1.0,
+  filled_none _ _ _ _ c.requires.1.1,
+)
 
 add-k : tie.Need-overflow_add-k invariant-loop decreases-loop
 add-k c = omega (arith, c.requires.0.1.most)
@@ -50,21 +49,17 @@ element-copy-out-k c = omega (arith, c.requires.0.1.most)
 
 metres-requires : tie.Need-metres-d-requires invariant-loop decreases-loop
 metres-requires c κs =
-    let l = c in
-    let q = l.requires.0 in
-    (q.0, rw l.loop-i.invariant.1 (node_at_lem q.1 l.loop-i.i (omega arith)), node_at_lem q.1 (l.loop-i.i + 1) (omega arith))
+    let q = c.requires.0 in
+    (q.0, rw c.loop-i.invariant.1 (node_at_lem q.1 c.loop-i.i (omega arith)), node_at_lem q.1 (c.loop-i.i + 1) (omega arith))
 
 service-requires : tie.Need-service-requires invariant-loop decreases-loop
 service-requires c κs =
-    let l = c in
-    let q = l.requires.0 in
-    (q.0, rw l.loop-i.invariant.1 (node_at_lem q.1 l.loop-i.i (omega arith)))
+    let q = c.requires.0 in
+    (q.0, rw c.loop-i.invariant.1 (node_at_lem q.1 c.loop-i.i (omega arith)))
 
 add_left : tie.Need-overflow_add-left invariant-loop decreases-loop
 add_left c =
-    let l = c in
-    let b = l in
-    omega (arith, c.service.ensures.low, l.loop-i.invariant.2, start-low (day_of b.args.s.now) (low b.args.s.now) b.args.route.now l.loop-i.i (omega (arith, b.requires.0.1.most)))
+    omega (arith, c.service.ensures.low, c.loop-i.invariant.2, start-low (day_of c.args.s.now) (low c.args.s.now) c.args.route.now c.loop-i.i (omega (arith, c.requires.0.1.most)))
 
 mul-leave : tie.Need-offset_bounds-leave-i invariant-loop decreases-loop
 mul-leave c = omega (arith, c.requires.0.1.most)
@@ -83,19 +78,15 @@ element-write-most c = omega (arith, c.requires.0.1.most)
 
 add_total : tie.Need-overflow_add-total invariant-loop decreases-loop
 add_total c =
-    let l = c in
-    let b = l in
-    omega (arith, c.metres-d.ensures.low, l.loop-i.invariant.3, length-low (day_of b.args.s.now) (low b.args.s.now) b.args.route.now (l.loop-i.i + 1) (omega (arith, b.requires.0.1.most)))
+    omega (arith, c.metres-d.ensures.low, c.loop-i.invariant.3, length-low (day_of c.args.s.now) (low c.args.s.now) c.args.route.now (c.loop-i.i + 1) (omega (arith, c.requires.0.1.most)))
 
 reach-requires : tie.Need-reach-t-requires invariant-loop decreases-loop
-reach-requires c κs =
-    let l = c in
-    let b = l in (
-      b.requires.0.0,
-      rw l.loop-i.invariant.1 (node_at_lem b.requires.0.1 l.loop-i.i (omega arith)),
-      node_at_lem b.requires.0.1 (l.loop-i.i + 1) (omega arith),
-      omega (arith, c.service.ensures.low, l.loop-i.invariant.2, start-low (day_of b.args.s.now) (low b.args.s.now) b.args.route.now l.loop-i.i (omega (arith, b.requires.0.1.most))),
-    )
+reach-requires c κs = (
+  c.requires.0.0,
+  rw c.loop-i.invariant.1 (node_at_lem c.requires.0.1 c.loop-i.i (omega arith)),
+  node_at_lem c.requires.0.1 (c.loop-i.i + 1) (omega arith),
+  omega (arith, c.service.ensures.low, c.loop-i.invariant.2, start-low (day_of c.args.s.now) (low c.args.s.now) c.args.route.now c.loop-i.i (omega (arith, c.requires.0.1.most))),
+)
 
 add-i : tie.Need-overflow_add-i invariant-loop decreases-loop
 add-i c = omega (arith, c.requires.0.1.most)
@@ -105,29 +96,26 @@ loop-less c = omega arith
 
 loop-again : tie.Need-loop-i-preserved invariant-loop decreases-loop
 loop-again c =
-    let l = c in
-    let b = l in
-    let d = day_of b.args.s.now in
-    let r = b.args.route.now in
-    let i = l.loop-i.i in
-    let v = l.loop-i.invariant in
+    let d = day_of c.args.s.now in
+    let r = c.args.route.now in
+    let i = c.loop-i.i in
+    let v = c.loop-i.invariant in
     let m = c.metres-d.ensures.is ∙ ap (λ (q : ℕ). d.metres q (get_or r (i + 1) 0)) v.1 in
     let e = left-told d r i v.1 v.2 c.service.ensures.is in (
       omega arith,
       refl,
       reach-turn d r i v.1 e c.reach-t.ensures.0,
-      ap (λ (k : ℕ). l.loop-i.total + k) m ∙ length-turn d r i (omega (arith, b.requires.0.1.long, b.requires.0.1.most)) v.3,
-      filled_more _ v.4 (omega (arith, b.requires.0.1.most)) e,
-      filled_more _ v.5 (omega (arith, b.requires.0.1.most)) (ap (λ (k : ℕ). b.args.limit + k) m),
+      ap (λ (k : ℕ). c.loop-i.total + k) m ∙ length-turn d r i (omega (arith, c.requires.0.1.long, c.requires.0.1.most)) v.3,
+      filled_more _ v.4 (omega (arith, c.requires.0.1.most)) e,
+      filled_more _ v.5 (omega (arith, c.requires.0.1.most)) (ap (λ (k : ℕ). c.args.limit + k) m),
     )
 
 returns : tie.Need-returns invariant-loop decreases-loop
 returns c =
     let v = c.loop-i.invariant in
-    let b = c in
-    let e : c.loop-i.i ≡ b.args.legs = omega arith in
+    let e : c.loop-i.i ≡ c.args.legs = omega arith in
     let t = rw e at v.3 in
-    (record { lefts = rw e at v.4; mosts = rw e at v.5 }, t, omega (arith, t, length-low (day_of b.args.s.now) (low b.args.s.now) b.args.route.now (b.args.legs + 1) b.requires.0.1.most))
+    (record { lefts = rw e at v.4; mosts = rw e at v.5 }, t, omega (arith, t, length-low (day_of c.args.s.now) (low c.args.s.now) c.args.route.now (c.args.legs + 1) c.requires.0.1.most))
 
 pub legs_of_spec : {M : Type 1} → statement M
 legs_of_spec =

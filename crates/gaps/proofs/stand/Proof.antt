@@ -52,17 +52,15 @@ rest-requires c κs = let z = c.loop-left-test.true in omega arith
 
 loop-less : tie.Need-loop-left-smaller invariant-loop decreases-loop
 loop-less c =
-    let l = c in
-    let z = l.loop-left-test.true in
-    rw c.rest-left.ensures (rest-less l.loop-left.left (omega arith) l.loop-left.invariant.0)
+    let z = c.loop-left-test.true in
+    rw c.rest-left.ensures (rest-less c.loop-left.left (omega arith) c.loop-left.invariant.0)
 
 loop-again : tie.Need-loop-left-preserved invariant-loop decreases-loop
 loop-again c =
-    let l = c in
-    let v = l.loop-left.invariant in
+    let v = c.loop-left.invariant in
     let e = c.rest-left.ensures in
     let f = rw c.gap_at-gap.ensures at c.tried-w.ensures in
-    (rw e (without-fits _ _ v.0), sift-next _ (e ∙ ap (without _) (sym l.lowest-p.ensures.0)) f v.1)
+    (rw e (without-fits _ _ v.0), sift-next _ (e ∙ ap (without _) (sym c.lowest-p.ensures.0)) f v.1)
 
 returns : tie.Need-returns invariant-loop decreases-loop
 returns c = sift-done (omega (arith, c.loop-left-test.false)) c.loop-left.invariant.1

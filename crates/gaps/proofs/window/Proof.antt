@@ -38,11 +38,10 @@ last-kept c = search rules
 started : (c : tie.After-both_in_time) → let a = c.args in let d = day_of a.s.now in
     c.both_in_time.result ≡ in_time d a.x (reached d a.gap.leave a.gap.from a.x)
 started c =
-    let b = c in
-    let a = b.args in
+    let a = c.args in
     let d = day_of a.s.now in
     in-time-told d (low a.s.now) a.x _ c.last_moment.ensures c.both_in_time.ensures
-    ∙ (λ i. in_time d a.x (max (b.earliest-e.ensures.is i) (a.gap.leave + b.seconds.ensures.is i)))
+    ∙ (λ i. in_time d a.x (max (c.earliest-e.ensures.is i) (a.gap.leave + c.seconds.ensures.is i)))
 
 returns : tie.Need-returns-then-not-both_in_time
 returns c = first-fails _ (started c.before) (not_from_false _ c.if-not-both_in_time.true)
@@ -67,16 +66,13 @@ both-in-time-requires-2 c κs = search rules
 
 returns-2 : tie.Need-returns
 returns-2 c =
-    let g = c in
-    let b = g in
-    let s = b in
-    let e = b.earliest-e.ensures.is in
-    let a = b.seconds.ensures.is in
+    let e = c.earliest-e.ensures.is in
+    let a = c.seconds.ensures.is in
     let on = c.service.ensures.is in
     let to = c.seconds-2.ensures.is in
-    second-tells (started c.before.before.before.before.before) (not_from_true _ g.if-not-both_in_time.false)
-    (c.both_in_time-2.ensures ∙ (λ i. le_z (pos (max (e i + (on i + to i)) (s.args.gap.leave + a i + (on i + to i)))) (last-kept c.before.before.before.before.before.before.before.before.before.before.before i))
-    ∙ ap (λ (t : ℕ). le_z (pos t) s.args.gap.last) (later-on _ _ _ _))
+    second-tells (started c.before.before.before.before.before) (not_from_true _ c.if-not-both_in_time.false)
+    (c.both_in_time-2.ensures ∙ (λ i. le_z (pos (max (e i + (on i + to i)) (c.args.gap.leave + a i + (on i + to i)))) (last-kept c.before.before.before.before.before.before.before.before.before.before.before i))
+    ∙ ap (λ (t : ℕ). le_z (pos t) c.args.gap.last) (later-on _ _ _ _))
 
 pub window_spec : {M : Type 1} → statement M
 window_spec =

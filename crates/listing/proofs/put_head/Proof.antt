@@ -14,68 +14,42 @@ put-number-requires c κs = search rules
 
 put-text-requires-2 : tie.Need-put_text-c-requires
 put-text-requires-2 c κs =
-    let one = c in
-    let name = one in
-    let p = takes-then (takes-text name.put_text-a.ensures) (takes-number _ one.put_number-b.ensures) in
-    takes-room 80 8 name.requires p (omega arith)
+    let p = takes-then (takes-text c.put_text-a.ensures) (takes-number _ c.put_number-b.ensures) in
+    takes-room 80 8 c.requires p (omega arith)
 
 put-number-requires-2 : tie.Need-put_number-d-requires
 put-number-requires-2 c κs =
-    let text = c in
-    let one = text in
-    let name = one in
-    let p = takes-then (takes-text name.put_text-a.ensures) (takes-number _ one.put_number-b.ensures) in
-    takes-room 80 20 name.requires (takes-then p (takes-text text.put_text-c.ensures)) (omega arith)
+    let p = takes-then (takes-text c.put_text-a.ensures) (takes-number _ c.put_number-b.ensures) in
+    takes-room 80 20 c.requires (takes-then p (takes-text c.put_text-c.ensures)) (omega arith)
 
 put-text-requires-3 : tie.Need-put_text-e-requires
 put-text-requires-3 c κs =
-    let two = c in
-    let text = two in
-    let one = text in
-    let name = one in
-    let p = takes-then (takes-text name.put_text-a.ensures) (takes-number _ one.put_number-b.ensures) in
-    let q = takes-then (takes-then p (takes-text text.put_text-c.ensures)) (takes-number _ two.put_number-d.ensures) in
-    takes-room 80 6 name.requires q (omega arith)
+    let p = takes-then (takes-text c.put_text-a.ensures) (takes-number _ c.put_number-b.ensures) in
+    let q = takes-then (takes-then p (takes-text c.put_text-c.ensures)) (takes-number _ c.put_number-d.ensures) in
+    takes-room 80 6 c.requires q (omega arith)
 
 put-number-requires-3 : tie.Need-put_number-f-requires
 put-number-requires-3 c κs =
-    let last = c in
-    let two = last in
-    let text = two in
-    let one = text in
-    let name = one in
-    let p = takes-then (takes-text name.put_text-a.ensures) (takes-number _ one.put_number-b.ensures) in
-    let q = takes-then (takes-then p (takes-text text.put_text-c.ensures)) (takes-number _ two.put_number-d.ensures) in
-    takes-room 80 20 name.requires (takes-then q (takes-text last.put_text-e.ensures)) (omega arith)
+    let p = takes-then (takes-text c.put_text-a.ensures) (takes-number _ c.put_number-b.ensures) in
+    let q = takes-then (takes-then p (takes-text c.put_text-c.ensures)) (takes-number _ c.put_number-d.ensures) in
+    takes-room 80 20 c.requires (takes-then q (takes-text c.put_text-e.ensures)) (omega arith)
 
 put-byte-requires : tie.Need-put_byte-requires
 put-byte-requires c κs =
-    let three = c in
-    let last = three in
-    let two = last in
-    let text = two in
-    let one = text in
-    let name = one in
-    let p = takes-then (takes-text name.put_text-a.ensures) (takes-number _ one.put_number-b.ensures) in
-    let q = takes-then (takes-then p (takes-text text.put_text-c.ensures)) (takes-number _ two.put_number-d.ensures) in
-    let r = takes-then (takes-then q (takes-text last.put_text-e.ensures)) (takes-number _ three.put_number-f.ensures) in
-    takes_one 80 name.requires r (omega arith)
+    let p = takes-then (takes-text c.put_text-a.ensures) (takes-number _ c.put_number-b.ensures) in
+    let q = takes-then (takes-then p (takes-text c.put_text-c.ensures)) (takes-number _ c.put_number-d.ensures) in
+    let r = takes-then (takes-then q (takes-text c.put_text-e.ensures)) (takes-number _ c.put_number-f.ensures) in
+    takes_one 80 c.requires r (omega arith)
 
 same_length : tie.Need-shape_of-out
 same_length c = search rules
 
 returns : tie.Need-returns
 returns c =
-    let end = c in
-    let three = end in
-    let last = three in
-    let two = last in
-    let text = two in
-    let one = text in
-    let a = put_then one.put_text-a.ensures one.put_number-b.ensures in
-    let b = put_then (put_then a text.put_text-c.ensures) two.put_number-d.ensures in
-    let d = put_then (put_then b last.put_text-e.ensures) three.put_number-f.ensures in
-    put-fields (bytes "step") _ (bytes "answer") _ (bytes "open") _ _ (put_then d end.put_byte.ensures)
+    let a = put_then c.put_text-a.ensures c.put_number-b.ensures in
+    let b = put_then (put_then a c.put_text-c.ensures) c.put_number-d.ensures in
+    let d = put_then (put_then b c.put_text-e.ensures) c.put_number-f.ensures in
+    put-fields (bytes "step") _ (bytes "answer") _ (bytes "open") _ _ (put_then d c.put_byte.ensures)
 
 pub put_head_spec : {M : Type 1} → statement M
 put_head_spec =

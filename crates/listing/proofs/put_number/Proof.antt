@@ -20,19 +20,14 @@ put-short-requires-2 c κs = search rules
 put-pair-requires : tie.Need-put_pair-requires
 put-pair-requires c κs =
     let p = c.put_short-i.ensures in
-    let start = c in
-    (omega arith, omega (arith, p.next-is, hundredth-short start.args.v start.ranges.v.fits, put-length p))
+    (omega arith, omega (arith, p.next-is, hundredth-short c.args.v c.ranges.v.fits, put-length p))
 
 same-length-2 : tie.Need-shape_of-out-then-v-lt10000
 same-length-2 c = search rules
 
 returns-2 : tie.Need-returns-then-v-lt10000
 returns-2 c =
-    let second = c in
-    let first = second in
-    let test = first in
-    let start = test in
-    put-hundred start.args.v start.ranges.v.fits test.if-v-lt100.false first.put_short-i.ensures second.put_pair.ensures
+    put-hundred c.args.v c.ranges.v.fits c.if-v-lt100.false c.put_short-i.ensures c.put_pair.ensures
 
 put-long-requires : tie.Need-put_long-requires
 put-long-requires c κs = search rules

@@ -26,8 +26,7 @@ same_length c = search rules
 
 returns : tie.Need-returns
 returns c =
-    let second = c in
-    put_then second.put_byte-i.ensures second.put_byte.ensures
+    put_then c.put_byte-i.ensures c.put_byte.ensures
 
 pub put_pair_spec : {M : Type 1} → statement M
 put_pair_spec =

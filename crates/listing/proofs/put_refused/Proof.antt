@@ -14,9 +14,7 @@ put-number-requires c κs = search rules
 
 put-byte-requires : tie.Need-put_byte-requires
 put-byte-requires c κs =
-    let number = c in
-    let name = number in
-    takes_one 29 name.requires (takes-then (takes-text name.put_text-i.ensures) (takes-number _ number.put_number-j.ensures)) (omega arith)
+    takes_one 29 c.requires (takes-then (takes-text c.put_text-i.ensures) (takes-number _ c.put_number-j.ensures)) (omega arith)
 
 same_length : tie.Need-shape_of-out
 same_length c = search rules
@@ -24,9 +22,7 @@ same_length c = search rules
 returns : tie.Need-returns
 unfolding field refused_line
 returns c =
-    let third = c in
-    let second = third in
-    put_then (put_then second.put_text-i.ensures second.put_number-j.ensures) third.put_byte.ensures
+    put_then (put_then c.put_text-i.ensures c.put_number-j.ensures) c.put_byte.ensures
 
 pub put_refused_spec : {M : Type 1} → statement M
 put_refused_spec =

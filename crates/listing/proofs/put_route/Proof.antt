@@ -14,10 +14,7 @@ put-stops-requires c κs = search rules
 
 put-byte-requires : tie.Need-put_byte-requires
 put-byte-requires c κs =
-    let second = c in
-    let first = second in
-    let start = first in
-    omega (arith, stops-take start.args.route.now start.args.stops second.put_stops-j.ensures, first.put_text-i.ensures.next-is, put-length first.put_text-i.ensures)
+    omega (arith, stops-take c.args.route.now c.args.stops c.put_stops-j.ensures, c.put_text-i.ensures.next-is, put-length c.put_text-i.ensures)
 
 same_length : tie.Need-shape_of-out
 same_length c = search rules
@@ -25,10 +22,7 @@ same_length c = search rules
 returns : tie.Need-returns
 unfolding route_line
 returns c =
-    let third = c in
-    let second = third in
-    let first = second in
-    put_then (put_then first.put_text-i.ensures second.put_stops-j.ensures) third.put_byte.ensures
+    put_then (put_then c.put_text-i.ensures c.put_stops-j.ensures) c.put_byte.ensures
 
 pub put_route_spec : {M : Type 1} → statement M
 put_route_spec =

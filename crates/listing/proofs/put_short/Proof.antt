@@ -27,8 +27,7 @@ same-length-2 c = search rules
 
 returns-2 : tie.Need-returns
 returns-2 c =
-    let test = c in
-    put_two _ test.requires.0 test.if-v-lt10.false c.put_pair.ensures
+    put_two _ c.requires.0 c.if-v-lt10.false c.put_pair.ensures
 
 pub put_short_spec : {M : Type 1} → statement M
 put_short_spec =

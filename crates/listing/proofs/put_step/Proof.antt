@@ -18,8 +18,7 @@ same_length c = search rules
 returns : tie.Need-returns
 unfolding step_line
 returns c =
-    let second = c in
-    put_then second.put_head-i.ensures second.put_tail.ensures
+    put_then c.put_head-i.ensures c.put_tail.ensures
 
 pub put_step_spec : {M : Type 1} → statement M
 put_step_spec = tie.close (tie.spec put-head-requires put-tail-requires same_length returns)

@@ -16,8 +16,7 @@ same_length c = search rules
 returns : tie.Need-returns
 unfolding stop_text
 returns c =
-    let second = c in
-    put_then second.put_byte-i.ensures second.put_number.ensures
+    put_then c.put_byte-i.ensures c.put_number.ensures
 
 pub put_stop_spec : {M : Type 1} → statement M
 put_stop_spec = tie.close (tie.spec put-byte-requires put-number-requires same_length returns)

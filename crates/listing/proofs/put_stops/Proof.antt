@@ -36,10 +36,8 @@ loop-less c = omega arith
 
 loop-again : tie.Need-loop-i-preserved invariant-loop decreases-loop
 loop-again c =
-    let turn = c in
-    let top = turn in
-    let p = stop-takes _ turn.put_stop-next.ensures in
-    (omega arith, omega arith, omega arith, p.1 ∙ top.loop-i.invariant.3, stops-turn top.args.route.now _ (omega arith) top.loop-i.invariant.4 turn.put_stop-next.ensures)
+    let p = stop-takes _ c.put_stop-next.ensures in
+    (omega arith, omega arith, omega arith, p.1 ∙ c.loop-i.invariant.3, stops-turn c.args.route.now _ (omega arith) c.loop-i.invariant.4 c.put_stop-next.ensures)
 
 same_length : tie.Need-shape_of-out invariant-loop decreases-loop
 same_length c = c.loop-i.invariant.3

@@ -22,9 +22,7 @@ same-length-2 c = search rules
 
 returns-2 : tie.Need-returns
 returns-2 c =
-    let m = c in
-    let e = m in
-    (m.act.ensures.whole (λ k v q. false-true (sym e.if-step-at.false ∙ rw (eq-eqb _ _ k, lt-ltb _ _ v) refl)), m.act.ensures.eight.3)
+    (c.act.ensures.whole (λ k v q. false-true (sym c.if-step-at.false ∙ rw (eq-eqb _ _ k, lt-ltb _ _ v) refl)), c.act.ensures.eight.3)
 
 pub act_whole_spec : {M : Type 1} → statement M
 act_whole_spec =

@@ -33,10 +33,10 @@ index-1-figures-in : tie.Need-bounds-figures-j invariant-loop decreases-loop
 index-1-figures-in c = omega arith
 
 figures-in-requires : tie.Need-figures_in-f-requires invariant-loop decreases-loop
-figures-in-requires c κs = let d = c in d.requires.0.figured.wide d.loop-j.j (omega arith)
+figures-in-requires c κs = c.requires.0.figured.wide c.loop-j.j (omega arith)
 
 van-requires : tie.Need-van-van-requires invariant-loop decreases-loop
-van-requires c κs = let t = c in (t.requires.0.laid, t.loop-j-test.true)
+van-requires c κs = (c.requires.0.laid, c.loop-j-test.true)
 
 mul-alive : tie.Need-offset_bounds-routes-j invariant-loop decreases-loop
 mul-alive c = omega arith
@@ -51,8 +51,8 @@ index-1-alive-2 : tie.Need-bounds-sets-j invariant-loop decreases-loop
 index-1-alive-2 c = omega arith
 
 -- the van at hand
-low : (c : tie.After-figures_in-f invariant-loop decreases-loop) → let d = c in d.loop-j.j < vans_of d.args.sheet.now
-low c = let d = c in omega (arith, c.loop-j-test.true, d.requires.0.laid.vans)
+low : (c : tie.After-figures_in-f invariant-loop decreases-loop) → c.loop-j.j < vans_of c.args.sheet.now
+low c = omega (arith, c.loop-j-test.true, c.requires.0.laid.vans)
 
 abbrev loop-at : tie.After-alive invariant-loop decreases-loop → tie.At-loop-j invariant-loop decreases-loop
 loop-at c = c.before.before.before.before
@@ -60,26 +60,20 @@ loop-at c = c.before.before.before.before
 -- what is asked of it
 passed : (c : tie.After-alive invariant-loop decreases-loop) → let d = loop-at c in let a = d.args in c.alive.result ≡ row_lives a.sheet.now a.routes.now a.sets.now a.figures.now d.loop-j.j
 passed c =
-    let g = c in
     let d = loop-at c in
     let a = d.args in
-    rw g.figures_in-f.ensures at (c.alive.ensures [])
+    rw c.figures_in-f.ensures at (c.alive.ensures [])
     ∙ ap (λ (w : Van). alive w (day_of a.sheet.now) (plan_in (row_state a.routes.now a.sets.now [] a.figures.now d.loop-j.j))) c.van-van.ensures.0
 
 alive-requires : tie.Need-alive-requires invariant-loop decreases-loop
 alive-requires c κs =
-    let g = c in
-    let d = g in
-    let s = d in
-    rw g.figures_in-f.ensures (ready-row d.loop-j.j s.requires.0 (low c.before), s.requires.1)
+    rw c.figures_in-f.ensures (ready-row c.loop-j.j c.requires.0 (low c.before), c.requires.1)
 
 returns : tie.Need-returns-then-not-alive invariant-loop decreases-loop
 returns c = λ levels.
-    let o = c in
     let d = loop-at c.before in
-    let s = d in
-    let a = s.args in
-    below-stops _ d.loop-j.j _ (low c.before.before.before) (passed c.before) (not_from_false _ c.if-not-alive.true) ∙ rows-live a.sheet.now a.routes.now a.sets.now levels a.figures.now (vans_of a.sheet.now) s.requires.0.laid.fine.vans-high
+    let a = d.args in
+    below-stops _ d.loop-j.j _ (low c.before.before.before) (passed c.before) (not_from_false _ c.if-not-alive.true) ∙ rows-live a.sheet.now a.routes.now a.sets.now levels a.figures.now (vans_of a.sheet.now) d.requires.0.laid.fine.vans-high
 
 add-j : tie.Need-overflow_add-j invariant-loop decreases-loop
 add-j c = omega arith
@@ -88,16 +82,14 @@ loop-less : tie.Need-loop-j-smaller invariant-loop decreases-loop
 loop-less c = omega arith
 
 loop-again : tie.Need-loop-j-preserved invariant-loop decreases-loop
-loop-again c = let o = c in let d = loop-at c.before in (omega arith, d.loop-j.invariant.1, below-goes d.loop-j.j _ d.loop-j.invariant.2 (passed c.before) (not_from_true _ c.if-not-alive.false))
+loop-again c = let d = loop-at c.before in (omega arith, d.loop-j.invariant.1, below-goes d.loop-j.j _ d.loop-j.invariant.2 (passed c.before) (not_from_true _ c.if-not-alive.false))
 
 returns-2 : tie.Need-returns invariant-loop decreases-loop
 returns-2 c = λ levels.
-    let d = c in
-    let s = d in
-    let a = s.args in
-    let l = s.requires.0.laid in
-    let v = d.loop-j.invariant in
-    below-done (vans_of a.sheet.now) d.loop-j.j _ (omega (arith, l.vans, v.0)) (omega (arith, l.vans, c.loop-j-test.false)) v.2 ∙ rows-live a.sheet.now a.routes.now a.sets.now levels a.figures.now (vans_of a.sheet.now) l.fine.vans-high
+    let a = c.args in
+    let l = c.requires.0.laid in
+    let v = c.loop-j.invariant in
+    below-done (vans_of a.sheet.now) c.loop-j.j _ (omega (arith, l.vans, v.0)) (omega (arith, l.vans, c.loop-j-test.false)) v.2 ∙ rows-live a.sheet.now a.routes.now a.sets.now levels a.figures.now (vans_of a.sheet.now) l.fine.vans-high
 
 pub all_alive_spec : {M : Type 1} → statement M
 all_alive_spec =

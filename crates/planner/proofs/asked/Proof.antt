@@ -15,17 +15,15 @@ form-ok-requires c κs =
 
 returns-2 : tie.Need-returns-then-form
 returns-2 c = λ sheet e.
-    let o = c in
-    let z = o.if-read-ne0.false in
+    let z = c.if-read-ne0.false in
     let l = call-laid sheet e z in
-    ask-taken sheet e z _ (rw (l.nodes, l.vans) at (sym o.form_ok-form.ensures ∙ c.if-form.true))
+    ask-taken sheet e z _ (rw (l.nodes, l.vans) at (sym c.form_ok-form.ensures ∙ c.if-form.true))
 
 returns-3 : tie.Need-returns-else-form
 returns-3 c = λ sheet e.
-    let o = c in
-    let z = o.if-read-ne0.false in
+    let z = c.if-read-ne0.false in
     let l = call-laid sheet e z in
-    ask-form sheet e z _ (rw (l.nodes, l.vans) at (sym o.form_ok-form.ensures ∙ c.if-form.false))
+    ask-form sheet e z _ (rw (l.nodes, l.vans) at (sym c.form_ok-form.ensures ∙ c.if-form.false))
 
 pub asked_spec : {M : Type 1} → statement M
 asked_spec = tie.close (tie.spec returns form-ok-requires returns-2 returns-3)

@@ -10,7 +10,7 @@ same_length : tie.Need-shape_of-trail-then-o-ne-MISFIT
 same_length c = search rules
 
 returns : tie.Need-returns-then-o-ne-MISFIT
-returns c = let m = c in (m.act-o.ensures.whole (λ k v q. c.if-o-ne-MISFIT.true q), m.act-o.ensures.eight.3)
+returns c = (c.act-o.ensures.whole (λ k v q. c.if-o-ne-MISFIT.true q), c.act-o.ensures.eight.3)
 
 refused-requires : tie.Need-refused-requires
 refused-requires c κs = search rules
@@ -20,10 +20,7 @@ same-length-2 c = search rules
 
 returns-2 : tie.Need-returns
 returns-2 c =
-    let e = c in
-    let m = e in
-    let d = m in
-    rw c.refused.ensures (back-leaves _ _ _ _ _ _ m.act-o.ensures e.if-o-ne-MISFIT.false, d.requires.figured)
+    rw c.refused.ensures (back-leaves _ _ _ _ _ _ c.act-o.ensures c.if-o-ne-MISFIT.false, c.requires.figured)
 
 pub back_or_stay_spec : {M : Type 1} → statement M
 back_or_stay_spec =

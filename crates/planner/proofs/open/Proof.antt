@@ -27,10 +27,10 @@ none-requires c κs = search rules
 
 returns : tie.Need-returns-then-found-ne0
 unfolding open_of
-returns c = let t = c in rw (c.none.ensures, sym (answer c.before.before.before), ne_eqb _ _ t.if-found-ne0.true)
+returns c = rw (c.none.ensures, sym (answer c.before.before.before), ne_eqb _ _ c.if-found-ne0.true)
 
 first-van-requires : tie.Need-first_van-requires
-first-van-requires c κs = let e = c in laid c.before.before.before.before.before e.if-found-ne0.false
+first-van-requires c κs = laid c.before.before.before.before.before c.if-found-ne0.false
 
 of-one-requires : tie.Need-of_one-requires
 of-one-requires c κs = search rules
@@ -38,21 +38,16 @@ of-one-requires c κs = search rules
 returns-2 : tie.Need-returns-then-at-eq1
 unfolding open_of
 returns-2 c =
-    let t = c in
-    let e = t in
-    let o = e in
-    let l = laid c.before.before.before.before.before.before.before e.if-found-ne0.false in
-    rw (c.of_one.ensures, c.first_van.ensures, sym (answer c.before.before.before.before.before.before.before) ∙ e.if-found-ne0.false, sym l.nodes, sym l.vans ∙ t.if-at-eq1.true) (ap (λ (f : Fleet). record { answer = 0; fleet = f }) (fresh-one c.opening-found.result.layout.nodes (admitted o.args.sheet.now)))
+    let l = laid c.before.before.before.before.before.before.before c.if-found-ne0.false in
+    rw (c.of_one.ensures, c.first_van.ensures, sym (answer c.before.before.before.before.before.before.before) ∙ c.if-found-ne0.false, sym l.nodes, sym l.vans ∙ c.if-at-eq1.true) (ap (λ (f : Fleet). record { answer = 0; fleet = f }) (fresh-one c.opening-found.result.layout.nodes (admitted c.args.sheet.now)))
 
 fresh-requires : tie.Need-fresh-requires
-fresh-requires c κs = let e = c in laid c.before.before.before.before.before e.if-found-ne0.false
+fresh-requires c κs = laid c.before.before.before.before.before c.if-found-ne0.false
 
 returns-3 : tie.Need-returns
 unfolding open_of
 returns-3 c =
-    let e = c in
-    let o = e in
-    rw (c.fresh.ensures, sym (answer c.before.before.before.before.before.before) ∙ e.if-found-ne0.false, (laid c.before.before.before.before.before.before e.if-found-ne0.false).nodes, (laid c.before.before.before.before.before.before e.if-found-ne0.false).vans)
+    rw (c.fresh.ensures, sym (answer c.before.before.before.before.before.before) ∙ c.if-found-ne0.false, (laid c.before.before.before.before.before.before c.if-found-ne0.false).nodes, (laid c.before.before.before.before.before.before c.if-found-ne0.false).vans)
 
 pub open_spec : {M : Type 1} → statement M
 open_spec =

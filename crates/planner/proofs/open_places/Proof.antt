@@ -33,8 +33,7 @@ taken c = rows_taken _ (is-held-all _ _ (begun c).well_formed.1.0) c.take_routes
 -- what refuses the call
 asks : (c : tie.After-asked-code) → let s = begun c.before.before.before.before.before.before in c.asked-code.result ≡ ask_refusal s.args.sheet.now s.args.fleet
 asks c =
-    let k = c in
-    c.asked-code.ensures _ k.checked-read.ensures ∙ ap (λ (f : Fleet). ask_refusal (begun c.before.before.before.before.before.before).args.sheet.now f) (taken c.before.before.before.before.before.before).is
+    c.asked-code.ensures _ c.checked-read.ensures ∙ ap (λ (f : Fleet). ask_refusal (begun c.before.before.before.before.before.before).args.sheet.now f) (taken c.before.before.before.before.before.before).is
 
 -- what is known once nothing does
 clear : (c : tie.After-asked-code) → c.asked-code.result ≡ 0 → let s = begun c.before.before.before.before.before.before in let sheet = s.args.sheet.now in
@@ -42,7 +41,7 @@ clear : (c : tie.After-asked-code) → c.asked-code.result ≡ 0 → let s = beg
 clear c z = ask-clear _ _ (sym (asks c) ∙ z)
 
 laid : (c : tie.After-asked-code) → c.asked-code.result ≡ 0 → Laid (begun c.before.before.before.before.before.before).args.sheet.now c.checked-read.result.layout
-laid c z = let k = c in call-laid _ k.checked-read.ensures (found-answer _ _ k.checked-read.ensures ∙ (clear c z).0)
+laid c z = call-laid _ c.checked-read.ensures (found-answer _ _ c.checked-read.ensures ∙ (clear c z).0)
 
 take-routes-requires : tie.Need-take_routes-requires
 take-routes-requires c κs = search rules
@@ -60,7 +59,7 @@ checked-requires : tie.Need-checked-read-requires
 checked-requires c κs = search rules
 
 asked-requires : tie.Need-asked-code-requires
-asked-requires c κs = let k = c in let r = (taken c.before.before.before.before.before).rows in (λ z. sized (call-laid _ k.checked-read.ensures z), r.0, r.1, r.3)
+asked-requires c κs = let r = (taken c.before.before.before.before.before).rows in (λ z. sized (call-laid _ c.checked-read.ensures z), r.0, r.1, r.3)
 
 uncounted-requires : tie.Need-uncounted-requires
 uncounted-requires c κs = search rules
@@ -70,20 +69,17 @@ unfolding count_of
 returns c = c.uncounted.ensures ∙ rw (sym (asks c.before.before), ne_eqb _ _ c.if-code-ne0.true) refl
 
 places-requires : tie.Need-places-requires
-places-requires c κs = let e = c in let l = sized (laid c.before.before.before e.if-code-ne0.false) in (l.most, l.small)
+places-requires c κs = let l = sized (laid c.before.before.before c.if-code-ne0.false) in (l.most, l.small)
 
 returns-2 : tie.Need-returns
 unfolding count_of
 returns-2 c =
-    let e = c in
-    let o = e in
-    let k = o in
     let t = taken c.before.before.before.before.before.before.before.before.before.before in
     let sheet = (begun c.before.before.before.before.before.before.before.before.before.before).args.sheet.now in
-    let u = clear c.before.before.before.before e.if-code-ne0.false in
+    let u = clear c.before.before.before.before c.if-code-ne0.false in
     let form = subst (λ (f : Fleet). in_form_all (n_of sheet) (vans_of sheet) f ≡ true) (sym t.is) u.1 in
-    rw (sym (asks c.before.before.before.before) ∙ e.if-code-ne0.false)
-    (ap told (c.places.ensures ∙ places-asked u.0 (laid c.before.before.before.before e.if-code-ne0.false) k.take_routes.new.rows k.take_sets.new.rows k.take_levels.new.rows k.take_figures.new.rows t.rows.3 t.held form ∙ ap (λ (f : Fleet). places_all (vans_of sheet) f) t.is))
+    rw (sym (asks c.before.before.before.before) ∙ c.if-code-ne0.false)
+    (ap told (c.places.ensures ∙ places-asked u.0 (laid c.before.before.before.before c.if-code-ne0.false) c.take_routes.new.rows c.take_sets.new.rows c.take_levels.new.rows c.take_figures.new.rows t.rows.3 t.held form ∙ ap (λ (f : Fleet). places_all (vans_of sheet) f) t.is))
 
 pub open_places_spec : {M : Type 1} → statement M
 open_places_spec =

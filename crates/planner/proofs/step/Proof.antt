@@ -56,9 +56,8 @@ checked-requires c κs = search rules
 
 turn-requires : tie.Need-turn-o-requires
 turn-requires c κs =
-    let k = c in
     let t = taken c.before.before.before.before.before.before in
-    (k.checked-read.ensures, t.held, t.rows.0, t.rows.1, t.rows.2, t.rows.3)
+    (c.checked-read.ensures, t.held, t.rows.0, t.rows.1, t.rows.2, t.rows.3)
 
 index-1-pack : tie.Need-bounds-routes-0
 index-1-pack c = search rules
@@ -83,16 +82,13 @@ same_length c = search rules
 
 returns : tie.Need-returns-then-o-read
 returns c =
-    let t = c in
-    let m = c in
-    let k = m in
     let a = (begun c.before.before.before.before.before.before.before.before.before.before.before.before.before.before.before.before.before.before).args in
-    let q = and-true (eqb m.turn-o.result.answer 0) _ t.if-o-read.true in
-    let took = gives c.before.before.before.before.before.before.before.before.before.before.before ∙ ap (λ (i : ℕ). acted_all i m.turn-o.result.rounds (fleet_with m.turn-o.new.routes m.turn-o.new.sets m.turn-o.new.levels m.turn-o.new.figures) m.turn-o.new.trail) (eqb-true _ _ q.0) in
-    let l = call-laid _ k.checked-read.ensures (found-answer _ _ k.checked-read.ensures ∙ (acting a.sheet.now a.fleet a.trail.now a.word a.first a.second took).0) in
+    let q = and-true (eqb c.turn-o.result.answer 0) _ c.if-o-read.true in
+    let took = gives c.before.before.before.before.before.before.before.before.before.before.before ∙ ap (λ (i : ℕ). acted_all i c.turn-o.result.rounds (fleet_with c.turn-o.new.routes c.turn-o.new.sets c.turn-o.new.levels c.turn-o.new.figures) c.turn-o.new.trail) (eqb-true _ _ q.0) in
+    let l = call-laid _ c.checked-read.ensures (found-answer _ _ c.checked-read.ensures ∙ (acting a.sheet.now a.fleet a.trail.now a.word a.first a.second took).0) in
     let one = one_left a.sheet.now a.fleet a.trail.now a.word a.first a.second (held c.before.before.before.before.before.before.before.before.before.before.before.before.before.before.before.before.before.before) took (sym l.vans ∙ eqb-true _ _ q.1) in
     rw (c.of_one.ensures, c.pack.ensures)
-    (took ∙ ap (λ (f : Fleet). acted_all 0 m.turn-o.result.rounds f m.turn-o.new.trail) (one ∙ ap (λ (s : State). one_van s) (state-of (row_state m.turn-o.new.routes m.turn-o.new.sets m.turn-o.new.levels m.turn-o.new.figures) 0 (omega arith))))
+    (took ∙ ap (λ (f : Fleet). acted_all 0 c.turn-o.result.rounds f c.turn-o.new.trail) (one ∙ ap (λ (s : State). one_van s) (state-of (row_state c.turn-o.new.routes c.turn-o.new.sets c.turn-o.new.levels c.turn-o.new.figures) 0 (omega arith))))
 
 fleet-of-requires : tie.Need-fleet_of-requires
 fleet-of-requires c κs = search rules

@@ -53,10 +53,7 @@ room c = let a = (begun c.before.before.before.before).args in c.within_room.ens
 formed : (c : tie.Else-not-within_room) → let d = begun c.before.before.before.before.before in
     form_with_all (n_of d.args.sheet.now) (vans_of d.args.sheet.now) (fleet d) d.args.trail.now ≡ true
 formed c =
-    let w = c in
-    let e = w in
-    let k = e in
-    form_both (laid c.before.before.before.before.before e.if-code-ne0.false) _ _ (room c.before) (clear c.before.before.before.before.before e.if-code-ne0.false).1 (c.if-not-within_room.false)
+    form_both (laid c.before.before.before.before.before c.if-code-ne0.false) _ _ (room c.before) (clear c.before.before.before.before.before c.if-code-ne0.false).1 (c.if-not-within_room.false)
 
 asked-requires : tie.Need-asked-code-requires
 asked-requires c κs = let p = c.requires in (λ z. sized (call-laid _ p.0 z), p.2, p.3, p.5)
@@ -66,25 +63,21 @@ refused-requires c κs = search rules
 
 returns : tie.Need-returns-then-code-ne0
 returns c =
-    let k = c in
     let n = c.if-code-ne0.true in
     rw c.refused.ensures (refused-asked _ _ _ _ _ _ (asks c.before.before) n, (begun c.before.before).requires.5)
 
 div-room : tie.Need-nonzero_div-room
-div-room c = let e = c in omega (arith, (sized (laid c.before.before.before e.if-code-ne0.false)).some)
+div-room c = omega (arith, (sized (laid c.before.before.before c.if-code-ne0.false)).some)
 
 within-room-requires : tie.Need-within_room-requires
-within-room-requires c κs = let e = c in ((sized (laid c.before.before.before e.if-code-ne0.false)).most, (begun c.before.before.before).requires.5)
+within-room-requires c κs = ((sized (laid c.before.before.before c.if-code-ne0.false)).most, (begun c.before.before.before).requires.5)
 
 refused-requires-2 : tie.Need-refused-requires-then-not-within_room
 refused-requires-2 c κs = search rules
 
 returns-2 : tie.Need-returns-then-not-within_room
 returns-2 c =
-    let w = c in
-    let e = w in
-    let k = e in
-    let z = e.if-code-ne0.false in
+    let z = c.if-code-ne0.false in
     rw c.refused-then-not-within_room.ensures (refused-room _ _ _ _ _ _ (sym (asks c.before.before.before.before.before.before) ∙ z) (room-found (laid c.before.before.before.before.before.before z) _ _ (room c.before.before)) (c.if-not-within_room.true), (begun c.before.before.before.before.before.before).requires.5)
 
 said-requires : tie.Need-said-said-requires
@@ -92,26 +85,18 @@ said-requires c κs = search rules
 
 act-whole-requires : tie.Need-act_whole-requires
 act-whole-requires c κs =
-    let n = c in
-    let e = n in
-    let k = e in
     let p = (begun c.before.before.before.before.before.before.before.before.before.before.before).requires in
-    record { clear = (clear c.before.before.before.before.before.before.before.before.before.before.before e.if-code-ne0.false).0; laid = laid c.before.before.before.before.before.before.before.before.before.before.before e.if-code-ne0.false; form = formed c.before.before.before.before.before.before; held = p.1; rows = (p.2, p.3, p.4); figured = p.5 }
+    record { clear = (clear c.before.before.before.before.before.before.before.before.before.before.before c.if-code-ne0.false).0; laid = laid c.before.before.before.before.before.before.before.before.before.before.before c.if-code-ne0.false; form = formed c.before.before.before.before.before.before; held = p.1; rows = (p.2, p.3, p.4); figured = p.5 }
 
 same_length : tie.Need-shape_of-trail
 same_length c = search rules
 
 returns-3 : tie.Need-returns
 returns-3 c =
-    let x = c in
-    let s = x in
-    let n = s in
-    let e = n in
-    let k = e in
     let a = (begun c.before.before.before.before.before.before.before.before.before.before.before.before.before.before).args in
     let f = fleet (begun c.before.before.before.before.before.before.before.before.before.before.before.before.before.before) in
-    let acts = call-yes a.sheet.now f a.trail.now a.word a.first a.second (call-made a.sheet.now f a.trail.now (clear c.before.before.before.before.before.before.before.before.before.before.before.before.before.before e.if-code-ne0.false).0 (formed c.before.before.before.before.before.before.before.before.before)) in
-    (acts ∙ ap (λ (q : Step). act_all (van_of a.sheet.now) (day_of a.sheet.now) (vans_of a.sheet.now) f a.trail.now q) (sym s.said-said.ensures) ∙ x.act_whole.ensures.0, x.act_whole.ensures.1)
+    let acts = call-yes a.sheet.now f a.trail.now a.word a.first a.second (call-made a.sheet.now f a.trail.now (clear c.before.before.before.before.before.before.before.before.before.before.before.before.before.before c.if-code-ne0.false).0 (formed c.before.before.before.before.before.before.before.before.before)) in
+    (acts ∙ ap (λ (q : Step). act_all (van_of a.sheet.now) (day_of a.sheet.now) (vans_of a.sheet.now) f a.trail.now q) (sym c.said-said.ensures) ∙ c.act_whole.ensures.0, c.act_whole.ensures.1)
 
 pub turn_spec : {M : Type 1} → statement M
 turn_spec =

@@ -39,8 +39,7 @@ taken c = rows_taken _ (is-held-all _ _ (begun c).well_formed.1.0) c.take_routes
 -- what refuses the call
 asks : (c : tie.After-asked-code) → let s = begun c.before.before.before.before.before.before in c.asked-code.result ≡ ask_refusal s.args.sheet.now s.args.fleet
 asks c =
-    let k = c in
-    c.asked-code.ensures _ k.checked-read.ensures ∙ ap (λ (f : Fleet). ask_refusal (begun c.before.before.before.before.before.before).args.sheet.now f) (taken c.before.before.before.before.before.before).is
+    c.asked-code.ensures _ c.checked-read.ensures ∙ ap (λ (f : Fleet). ask_refusal (begun c.before.before.before.before.before.before).args.sheet.now f) (taken c.before.before.before.before.before.before).is
 
 -- what is known once nothing does
 clear : (c : tie.After-asked-code) → c.asked-code.result ≡ 0 → let s = begun c.before.before.before.before.before.before in let sheet = s.args.sheet.now in
@@ -48,7 +47,7 @@ clear : (c : tie.After-asked-code) → c.asked-code.result ≡ 0 → let s = beg
 clear c z = ask-clear _ _ (sym (asks c) ∙ z)
 
 laid : (c : tie.After-asked-code) → c.asked-code.result ≡ 0 → Laid (begun c.before.before.before.before.before.before).args.sheet.now c.checked-read.result.layout
-laid c z = let k = c in call-laid _ k.checked-read.ensures (found-answer _ _ k.checked-read.ensures ∙ (clear c z).0)
+laid c z = call-laid _ c.checked-read.ensures (found-answer _ _ c.checked-read.ensures ∙ (clear c z).0)
 
 -- ---- once nothing refuses
 
@@ -57,26 +56,22 @@ sheet_of e = (begun e.before.before.before.before.before.before.before).args.she
 
 -- the fleet of the rows, which is that at entry
 abbrev rows_of : tie.Else-code-ne0 → Fleet
-rows_of e = let k = e in fleet_with k.take_routes.new.rows k.take_sets.new.rows k.take_levels.new.rows k.take_figures.new.rows
+rows_of e = fleet_with e.take_routes.new.rows e.take_sets.new.rows e.take_levels.new.rows e.take_figures.new.rows
 
 form : (e : tie.Else-code-ne0) → in_form_all (n_of (sheet_of e)) (vans_of (sheet_of e)) (rows_of e) ≡ true
 form e = subst (λ (f : Fleet). in_form_all (n_of (sheet_of e)) (vans_of (sheet_of e)) f ≡ true) (sym (taken e.before.before.before.before.before.before.before).is) (clear e.before e.if-code-ne0.false).1
 
-ready : (e : tie.Else-code-ne0) → let k = e in ReadyAll (sheet_of e) k.checked-read.result.layout k.take_routes.new.rows k.take_sets.new.rows k.take_figures.new.rows
+ready : (e : tie.Else-code-ne0) → ReadyAll (sheet_of e) e.checked-read.result.layout e.take_routes.new.rows e.take_sets.new.rows e.take_figures.new.rows
 ready e =
-    let k = e in
     let t = taken e.before.before.before.before.before.before.before in
-    rows-ready (clear e.before e.if-code-ne0.false).0 (laid e.before e.if-code-ne0.false) k.take_routes.new.rows k.take_sets.new.rows k.take_levels.new.rows k.take_figures.new.rows t.rows.3 t.held (form e)
+    rows-ready (clear e.before e.if-code-ne0.false).0 (laid e.before e.if-code-ne0.false) e.take_routes.new.rows e.take_sets.new.rows e.take_levels.new.rows e.take_figures.new.rows t.rows.3 t.held (form e)
 
 -- the verdict by what the vans say and by the wards that must go somewhere
-judged : (o : tie.After-all_alive) → let e = o in
-    (o.all_alive.result && all_served (vans_of (sheet_of o.before.before.before.before.before.before.before.before)) (rows_of o.before.before.before.before.before.before.before.before)) ≡ alive_all (van_of (sheet_of o.before.before.before.before.before.before.before.before)) (day_of (sheet_of o.before.before.before.before.before.before.before.before)) (plans_of (sheet_of o.before.before.before.before.before.before.before.before) (begun o.before.before.before.before.before.before.before.before.before.before.before.before.before.before.before).args.fleet)
+judged : (o : tie.After-all_alive) → (o.all_alive.result && all_served (vans_of (sheet_of o.before.before.before.before.before.before.before.before)) (rows_of o.before.before.before.before.before.before.before.before)) ≡ alive_all (van_of (sheet_of o.before.before.before.before.before.before.before.before)) (day_of (sheet_of o.before.before.before.before.before.before.before.before)) (plans_of (sheet_of o.before.before.before.before.before.before.before.before) (begun o.before.before.before.before.before.before.before.before.before.before.before.before.before.before.before).args.fleet)
 judged o =
-    let e = o in
-    let k = e in
     let t = taken o.before.before.before.before.before.before.before.before.before.before.before.before.before.before.before in
-    ap (λ (b : Bool). b && all_served (vans_of (sheet_of o.before.before.before.before.before.before.before.before)) (rows_of o.before.before.before.before.before.before.before.before)) (o.all_alive.ensures k.take_levels.new.rows)
-    ∙ lives_all (clear o.before.before.before.before.before.before.before.before.before e.if-code-ne0.false).0 (laid o.before.before.before.before.before.before.before.before.before e.if-code-ne0.false) k.take_routes.new.rows k.take_sets.new.rows k.take_levels.new.rows k.take_figures.new.rows t.rows.3 t.held (form o.before.before.before.before.before.before.before.before)
+    ap (λ (b : Bool). b && all_served (vans_of (sheet_of o.before.before.before.before.before.before.before.before)) (rows_of o.before.before.before.before.before.before.before.before)) (o.all_alive.ensures o.take_levels.new.rows)
+    ∙ lives_all (clear o.before.before.before.before.before.before.before.before.before o.if-code-ne0.false).0 (laid o.before.before.before.before.before.before.before.before.before o.if-code-ne0.false) o.take_routes.new.rows o.take_sets.new.rows o.take_levels.new.rows o.take_figures.new.rows t.rows.3 t.held (form o.before.before.before.before.before.before.before.before)
     ∙ ap (λ (f : Fleet). alive_all (van_of (sheet_of o.before.before.before.before.before.before.before.before)) (day_of (sheet_of o.before.before.before.before.before.before.before.before)) (plans_of (sheet_of o.before.before.before.before.before.before.before.before) f)) t.is
 
 take-routes-requires : tie.Need-take_routes-requires
@@ -95,7 +90,7 @@ checked-requires : tie.Need-checked-read-requires
 checked-requires c κs = search rules
 
 asked-requires : tie.Need-asked-code-requires
-asked-requires c κs = let k = c in let r = (taken c.before.before.before.before.before).rows in (λ z. sized (call-laid _ k.checked-read.ensures z), r.0, r.1, r.3)
+asked-requires c κs = let r = (taken c.before.before.before.before.before).rows in (λ z. sized (call-laid _ c.checked-read.ensures z), r.0, r.1, r.3)
 
 judge-requires : tie.Need-judge-requires
 judge-requires c κs = search rules
@@ -105,7 +100,7 @@ unfolding judge_of
 returns c = c.judge.ensures ∙ rw (sym (asks c.before.before), ne_eqb _ _ c.if-code-ne0.true) refl
 
 by-node-requires : tie.Need-by_node-requires
-by-node-requires c κs = let e = c in (laid c.before.before.before e.if-code-ne0.false, refl)
+by-node-requires c κs = (laid c.before.before.before c.if-code-ne0.false, refl)
 
 all-alive-requires : tie.Need-all_alive-requires
 all-alive-requires c κs = (ready c.before.before.before.before.before.before.before, c.by_node.ensures)
@@ -116,9 +111,7 @@ judge-requires-2 c κs = search rules
 returns-2 : tie.Need-returns-then-not-all_alive
 unfolding judge_of
 returns-2 c =
-    let o = c in
-    let e = o in
-    c.judge-then-not-all_alive.ensures ∙ rw (sym (asks c.before.before.before.before.before.before.before.before.before.before.before) ∙ e.if-code-ne0.false) (ap told (rw (not-true o.all_alive.result (not_from_false _ c.if-not-all_alive.true)) at (judged c.before.before)))
+    c.judge-then-not-all_alive.ensures ∙ rw (sym (asks c.before.before.before.before.before.before.before.before.before.before.before) ∙ c.if-code-ne0.false) (ap told (rw (not-true c.all_alive.result (not_from_false _ c.if-not-all_alive.true)) at (judged c.before.before)))
 
 served-requires : tie.Need-served-requires
 served-requires c κs = serving (ready c.before.before.before.before.before.before.before.before.before.before.before.before)
@@ -129,13 +122,8 @@ judge-requires-3 c κs = search rules
 returns-3 : tie.Need-returns
 unfolding judge_of
 returns-3 c =
-    let v = c in
-    let n = v in
-    let o = n in
-    let e = o in
-    let k = e in
-    let all = v.served.ensures k.take_levels.new.rows ∙ ap (λ (w : ℕ). all_served w (rows_of c.before.before.before.before.before.before.before.before.before.before.before.before.before.before)) (laid c.before.before.before.before.before.before.before.before.before.before.before.before.before.before.before e.if-code-ne0.false).vans in
-    c.judge-2.ensures ∙ rw (sym (asks c.before.before.before.before.before.before.before.before.before.before.before.before.before.before.before) ∙ e.if-code-ne0.false) (ap told (all ∙ rw (not-false o.all_alive.result (not_from_true _ n.if-not-all_alive.false)) at (judged c.before.before.before.before.before.before)))
+    let all = c.served.ensures c.take_levels.new.rows ∙ ap (λ (w : ℕ). all_served w (rows_of c.before.before.before.before.before.before.before.before.before.before.before.before.before.before)) (laid c.before.before.before.before.before.before.before.before.before.before.before.before.before.before.before c.if-code-ne0.false).vans in
+    c.judge-2.ensures ∙ rw (sym (asks c.before.before.before.before.before.before.before.before.before.before.before.before.before.before.before) ∙ c.if-code-ne0.false) (ap told (all ∙ rw (not-false c.all_alive.result (not_from_true _ c.if-not-all_alive.false)) at (judged c.before.before.before.before.before.before)))
 
 pub verdict_spec : {M : Type 1} → statement M
 verdict_spec =

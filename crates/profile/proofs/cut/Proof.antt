@@ -28,13 +28,10 @@ minus-requires c κs = search rules
 
 returns : tie.Need-returns
 returns c =
-    let j = c in
-    let e = j in
-    let a = e in
-    let f = e.either-early.ensures ∙ ap (λ (b : Bool). cond b a.args.shut.early 0) e.holds-2.ensures in
-    let l = a.either-late.ensures ∙ ap (λ (b : Bool). cond b a.args.shut.late 0) a.holds.ensures in
+    let f = c.either-early.ensures ∙ ap (λ (b : Bool). cond b c.args.shut.early 0) c.holds-2.ensures in
+    let l = c.either-late.ensures ∙ ap (λ (b : Bool). cond b c.args.shut.late 0) c.holds.ensures in
     λ q. ap (λ (r : ℕ). has r q) c.minus.ensures
-    ∙ cut_has a.args.shut a.args.x a.args.word (omega arith) (omega arith) (j.join.ensures ∙ (λ i. join (l i) (f i))) q
+    ∙ cut_has c.args.shut c.args.x c.args.word (omega arith) (omega arith) (c.join.ensures ∙ (λ i. join (l i) (f i))) q
 
 pub cut_spec : {M : Type 1} → statement M
 cut_spec =

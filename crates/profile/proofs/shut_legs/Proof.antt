@@ -60,14 +60,8 @@ loop-less c = omega arith
 
 loop-again : tie.Need-loop-i-preserved invariant-loop decreases-loop
 loop-again c =
-    let b = c in
-    let d = b in
-    let e = d in
-    let u = e in
-    let o = u in
-    let t = o in
-    let m = o.holds-met.ensures in
-    (omega arith, rw (c.either-early.ensures, b.holds-clean_stop.ensures, d.put-passed.ensures, e.either-late.ensures, u.put.ensures, m) (seen_more _ _ _ (near c.before.before.before.before.before.before.before.before.before) t.loop-i.invariant.1))
+    let m = c.holds-met.ensures in
+    (omega arith, rw (c.either-early.ensures, c.holds-clean_stop.ensures, c.put-passed.ensures, c.either-late.ensures, c.put.ensures, m) (seen_more _ _ _ (near c.before.before.before.before.before.before.before.before.before) c.loop-i.invariant.1))
 
 returns : tie.Need-returns invariant-loop decreases-loop
 returns c =

@@ -19,17 +19,14 @@ refused-requires c κs = search rules
 
 returns : tie.Need-returns-then-jobs-ne0
 returns c =
-    let t = c in
-    let j = t in
-    found-refused _ c.refused.ensures (first_stops _ (part-answer _ _ _ _ j.jobs-jobs.ensures) t.if-jobs-ne0.true ∙ sym j.requires.1.1) t.if-jobs-ne0.true
+    found-refused _ c.refused.ensures (first_stops _ (part-answer _ _ _ _ c.jobs-jobs.ensures) c.if-jobs-ne0.true ∙ sym c.requires.1.1) c.if-jobs-ne0.true
 
 later-requires : tie.Need-later-requires
 later-requires c κs =
-    let j = c in
-    let p = j.requires in
-    let z = sym (part-answer _ _ _ _ j.jobs-jobs.ensures) ∙ c.if-jobs-ne0.false in
+    let p = c.requires in
+    let z = sym (part-answer _ _ _ _ c.jobs-jobs.ensures) ∙ c.if-jobs-ne0.false in
     let s = p.1.0 in
-    ((p.0.0, p.0.1, z), ((s.0, s.1, part-stands _ _ _ _ j.jobs-jobs.ensures c.if-jobs-ne0.false), p.1.1 ∙ or-else-next _ _ z))
+    ((p.0.0, p.0.1, z), ((s.0, s.1, part-stands _ _ _ _ c.jobs-jobs.ensures c.if-jobs-ne0.false), p.1.1 ∙ or-else-next _ _ z))
 
 returns-2 : tie.Need-returns
 returns-2 c = search rules

@@ -67,13 +67,12 @@ returns-3 c = found-refused _ c.refused-then-steps-ne0.ensures (part-answer _ _ 
 
 returns-4 : tie.Need-returns
 returns-4 c =
-    let d = c in
-    let p = d.requires in
+    let p = c.requires in
     let v = p.1.0.0 in
     let n = p.1.0.1 in
     let j = p.1.0.2 in
-    let e = d.steps-steps.ensures in
-    let k = part-stands _ _ _ _ e d.if-steps-ne0.false in
+    let e = c.steps-steps.ensures in
+    let k = part-stands _ _ _ _ e c.if-steps-ne0.false in
     let t = seconds-stand c.before.before.before.before.before.before.before in
     let m = metres-stand c.before.before.before.before in
     found-whole _
@@ -89,7 +88,7 @@ returns-4 c =
       metres = m.0 i;
       step = k.from i;
     })
-    (past-metres c.before.before.before.before ∙ sym (part-answer _ _ _ _ e) ∙ d.if-steps-ne0.false)
+    (past-metres c.before.before.before.before ∙ sym (part-answer _ _ _ _ e) ∙ c.if-steps-ne0.false)
 
 pub later_spec : {M : Type 1} → statement M
 later_spec =

@@ -29,7 +29,7 @@ headed c = part-head _ _ _ _ _ c.head-p.ensures c.if-p-ne0.false
 
 -- its vans, and the number behind them, are all of its words
 whole : (c : tie.Else-p-ne0) → let s = c.args.s.now in word_at s vans_at ≡ size.van * vans_of s + 1
-whole c = let e = c in let r = rw e.word.ensures.is at e.if-word-ne1.false in omega arith
+whole c = let r = rw c.word.ensures.is at c.if-word-ne1.false in omega arith
 
 refused-requires : tie.Need-refused-requires
 refused-requires c κs = search rules
@@ -52,8 +52,7 @@ refused-requires-2 c κs = search rules
 returns-2 : tie.Need-returns-then-word-ne1
 unfolding part_of limits_refusal or_else
 returns-2 c =
-    let w = c in
-    rw c.refused-then-word-ne1.ensures (simp (lt-ltb _ _ (counted c.before.before), ← w.word.ensures.is, ne_eqb _ _ c.if-word-ne1.true))
+    rw c.refused-then-word-ne1.ensures (simp (lt-ltb _ _ (counted c.before.before), ← c.word.ensures.is, ne_eqb _ _ c.if-word-ne1.true))
 
 add-head : tie.Need-overflow_add-head
 add-head c = search rules
@@ -69,7 +68,7 @@ head-requires c κs = search rules
 
 returns-3 : tie.Need-returns-then-p-ne0
 returns-3 c =
-    let h = c in part-stops _ _ _ _ h.head-p.ensures _ c.if-p-ne0.true ∙ ap (part_of _ _ _) (past-count c.before.before.before)
+    part-stops _ _ _ _ c.head-p.ensures _ c.if-p-ne0.true ∙ ap (part_of _ _ _) (past-count c.before.before.before)
 
 mul-word : tie.Need-overflow_mul-v
 mul-word c = let h = headed c.before in omega arith
@@ -88,13 +87,9 @@ judged-requires c κs = search rules
 
 returns-4 : tie.Need-returns
 returns-4 c =
-    let o = c in
-    let w = o in
-    let e = w in
-    let h = e in
     let p = headed c.before.before.before.before.before in
-    part-judged _ _ _ _ h.head-p.ensures _ e.if-p-ne0.false c.judged.ensures
-    (λ i. (rw (p.0.count, p.0.from) at o.all_limits_ok-ok.ensures) i && profile_ok ((rw (p.0.count, p.0.from) at w.word-profile.ensures.is) i))
+    part-judged _ _ _ _ c.head-p.ensures _ c.if-p-ne0.false c.judged.ensures
+    (λ i. (rw (p.0.count, p.0.from) at c.all_limits_ok-ok.ensures) i && profile_ok ((rw (p.0.count, p.0.from) at c.word-profile.ensures.is) i))
     ∙ ap (part_of _ _ _) (past-count c.before.before.before.before.before.before.before.before)
 
 pub limits_spec : {M : Type 1} → statement M

@@ -51,12 +51,10 @@ returns-3 c = found-refused _ c.refused-then-nodes-ne0.ensures (first_stops _ (p
 
 from-jobs-requires : tie.Need-from_jobs-requires
 from-jobs-requires c κs =
-    let n = c in
-    let e = n in
-    let v = e.limits-vans.ensures in
-    let y = sym (part-answer _ _ _ _ v) ∙ e.if-vans-ne0.false in
-    let z = sym (part-answer _ _ _ _ n.nodes-nodes.ensures) ∙ c.if-nodes-ne0.false in
-    ((y, z), ((part-stands _ _ _ _ v e.if-vans-ne0.false, part-stands _ _ _ _ n.nodes-nodes.ensures c.if-nodes-ne0.false), past-limits c.before.before.before ∙ or-else-next _ _ z))
+    let v = c.limits-vans.ensures in
+    let y = sym (part-answer _ _ _ _ v) ∙ c.if-vans-ne0.false in
+    let z = sym (part-answer _ _ _ _ c.nodes-nodes.ensures) ∙ c.if-nodes-ne0.false in
+    ((y, z), ((part-stands _ _ _ _ v c.if-vans-ne0.false, part-stands _ _ _ _ c.nodes-nodes.ensures c.if-nodes-ne0.false), past-limits c.before.before.before ∙ or-else-next _ _ z))
 
 returns-4 : tie.Need-returns
 returns-4 c = search rules

@@ -39,7 +39,7 @@ shared-slice-read-near c = search rules
 
 cast-near : tie.Need-overflow_cast-near invariant-loop decreases-loop
 cast-near c =
-    let b = c in record { sfits = omega (arith, b.requires.2.low (b.args.a + c.loop-k.k)) }
+    record { sfits = omega (arith, c.requires.2.low (c.args.a + c.loop-k.k)) }
 
 add-far : tie.Need-overflow_add-far invariant-loop decreases-loop
 add-far c = search rules
@@ -52,7 +52,7 @@ shared-slice-read-far c = search rules
 
 cast-far : tie.Need-overflow_cast-far invariant-loop decreases-loop
 cast-far c =
-    let b = c in record { sfits = omega (arith, b.requires.2.low (b.args.b + c.loop-k.k)) }
+    record { sfits = omega (arith, c.requires.2.low (c.args.b + c.loop-k.k)) }
 
 sub-below : tie.Need-overflow_sub-below invariant-loop decreases-loop
 sub-below c = let p = c.requires in below-fits (p.2.low _) (p.2.low _) p.3 p.4

@@ -22,11 +22,10 @@ loop-holds c = (search rules, refl, search rules, search rules, rows_none _ _ _ 
 
 read-row-requires : tie.Need-read_row-requires invariant-loop decreases-loop
 read-row-requires c κs =
-    let b = c in
     let h = c.loop-i-test.true in
-    let x = row_before b.args.n h in
-    let y = row_before b.args.wide h in
-    (omega (arith, b.requires.0.room), omega arith)
+    let x = row_before c.args.n h in
+    let y = row_before c.args.wide h in
+    (omega (arith, c.requires.0.room), omega arith)
 
 add-square : tie.Need-overflow_add-square invariant-loop decreases-loop
 add-square c = let e = row_before c.args.wide c.loop-i-test.true in omega arith
@@ -51,13 +50,12 @@ loop-less c = search rules
 
 loop-again : tie.Need-loop-i-preserved invariant-loop decreases-loop
 loop-again c =
-    let b = c in
     let l = c.loop-i in
     let h = c.loop-i-test.true in
     let p = c.read_row.ensures in
-    let g = rows-read b.requires.0 l.invariant.4 h b.requires.1 (omega arith) l.invariant.2 l.invariant.3 p in
-    let x = suc-mul l.i b.args.n in
-    let y = suc-mul l.i b.args.wide in
+    let g = rows-read c.requires.0 l.invariant.4 h c.requires.1 (omega arith) l.invariant.2 l.invariant.3 p in
+    let x = suc-mul l.i c.args.n in
+    let y = suc-mul l.i c.args.wide in
     (omega arith, copy-long p (l.to + l.i) _ ∙ l.invariant.1, omega arith, omega arith, g)
 
 same_length : tie.Need-shape_of-square invariant-loop decreases-loop

@@ -66,11 +66,10 @@ loop-less c = search rules
 
 loop-again : tie.Need-loop-j-preserved invariant-loop decreases-loop
 loop-again c =
-    let b = c in
     let l = c.loop-j in
-    let r = strip-is b.args.square.now _ _ _ _ _ l.invariant.1 c.line_left-line.ensures in
-    let e = suc-mul l.j b.args.wide in
-    let x = row_before b.args.wide c.loop-j-test.true in
+    let r = strip-is c.args.square.now _ _ _ _ _ l.invariant.1 c.line_left-line.ensures in
+    let e = suc-mul l.j c.args.wide in
+    let x = row_before c.args.wide c.loop-j-test.true in
     (omega arith, omega arith, omega arith, flag-goes _ _ l.invariant.3 r ∙ sym (sign-more l.left-bits c.line_left-line.result c.line_left-line.type_inv))
 
 returns : tie.Need-returns invariant-loop decreases-loop

@@ -33,11 +33,10 @@ loop-holds c = (search rules, below_none _)
 
 row-ok-requires : tie.Need-row_ok-requires invariant-loop decreases-loop
 row-ok-requires c κs =
-    let b = c in
     let h = c.loop-i-test.true in
     let r = c.read_rows.ensures in
-    let e = row_before (wide_of b.args.n) h in
-    (omega (arith, wide-holds b.args.n), omega (arith, r.1), r.0.low)
+    let e = row_before (wide_of c.args.n) h in
+    (omega (arith, wide-holds c.args.n), omega (arith, r.1), r.0.low)
 
 same_length : tie.Need-shape_of-room-then-not-row_ok invariant-loop decreases-loop
 same_length c = c.read_rows.ensures.1

@@ -27,8 +27,7 @@ element-write-way-4 c = search rules
 
 returns : tie.Need-returns-then-every-way
 returns c =
-    let s = c in
-    way-kept s.args.way.now c.sound-course.result s.requires.0.1 c.one_if.ensures c.sound-course.ensures
+    way-kept c.args.way.now c.sound-course.result c.requires.0.1 c.one_if.ensures c.sound-course.ensures
 
 element-copy-out-t12 : tie.Need-bounds-way-1-2
 element-copy-out-t12 c = search rules
@@ -41,10 +40,8 @@ element-copy-out-t32 c = search rules
 
 returns-2 : tie.Need-returns
 returns-2 c =
-    let e = c in
-    let s = e in
-    let b = as_before_lem s.args.every _ _ e.if-every-way.false in
-    (s.requires.1 b.0 b.1, refl)
+    let b = as_before_lem c.args.every _ _ c.if-every-way.false in
+    (c.requires.1 b.0 b.1, refl)
 
 pub course_of_spec : {M : Type 1} → statement M
 course_of_spec =

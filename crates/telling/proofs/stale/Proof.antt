@@ -25,7 +25,7 @@ index-1-figures-in : tie.Need-bounds-figures-j invariant-loop decreases-loop
 index-1-figures-in c = omega arith
 
 figures-in-requires : tie.Need-figures_in-f-requires invariant-loop decreases-loop
-figures-in-requires c κs = let d = c in d.requires.0.wide d.loop-j.j (omega arith)
+figures-in-requires c κs = c.requires.0.wide c.loop-j.j (omega arith)
 
 mul_is : tie.Need-offset_bounds-told-j invariant-loop decreases-loop
 mul_is c = omega arith
@@ -44,16 +44,13 @@ loop-less c = omega arith
 
 loop-again : tie.Need-loop-j-preserved invariant-loop decreases-loop
 loop-again c =
-    let g = c in
-    let d = g in
-    let a = d.args in
-    (omega arith, d.loop-j.invariant.1, rw (any_next d.loop-j.j (anew false a.figures.now a.told.now), d.loop-j.invariant.2, g.figures_in-f.ensures) refl)
+    let a = c.args in
+    (omega arith, c.loop-j.invariant.1, rw (any_next c.loop-j.j (anew false a.figures.now a.told.now), c.loop-j.invariant.2, c.figures_in-f.ensures) refl)
 
 returns : tie.Need-returns invariant-loop decreases-loop
 returns c =
-    let d = c in
-    let a = d.args in
-    d.loop-j.invariant.2 ∙ ap (λ (k : ℕ). any_below k (anew false a.figures.now a.told.now)) (omega (arith, d.loop-j.invariant.0, c.loop-j-test.false))
+    let a = c.args in
+    c.loop-j.invariant.2 ∙ ap (λ (k : ℕ). any_below k (anew false a.figures.now a.told.now)) (omega (arith, c.loop-j.invariant.0, c.loop-j-test.false))
 
 pub stale_spec : {M : Type 1} → statement M
 stale_spec =

@@ -41,7 +41,7 @@ index-2-places : tie.Need-bounds-told-0 invariant-loop decreases-loop
 index-2-places c = omega arith
 
 add-places : tie.Need-overflow_add-places invariant-loop decreases-loop
-add-places c = let l = c in omega (arith, (l.requires.1 l.loop-j.j l.loop-j-test.true).0)
+add-places c = omega (arith, (c.requires.1 c.loop-j.j c.loop-j-test.true).0)
 
 mul-records : tie.Need-offset_bounds-told-j-in-loop-j invariant-loop decreases-loop
 mul-records c = omega arith
@@ -53,7 +53,7 @@ index-2-records : tie.Need-bounds-told-1 invariant-loop decreases-loop
 index-2-records c = omega arith
 
 add-records : tie.Need-overflow_add-records invariant-loop decreases-loop
-add-records c = let l = c in omega (arith, (l.requires.1 l.loop-j.j l.loop-j-test.true).1)
+add-records c = omega (arith, (c.requires.1 c.loop-j.j c.loop-j-test.true).1)
 
 mul-alive : tie.Need-offset_bounds-told-j-in-loop-j-2 invariant-loop decreases-loop
 mul-alive c = omega arith
@@ -72,9 +72,8 @@ loop-less c = omega arith
 
 loop-again : tie.Need-loop-j-preserved invariant-loop decreases-loop
 loop-again c =
-    let l = c in
-    let v = l.loop-j.invariant in
-    let b = l.requires.1 l.loop-j.j l.loop-j-test.true in
+    let v = c.loop-j.invariant in
+    let b = c.requires.1 c.loop-j.j c.loop-j-test.true in
     (omega arith, v.1, omega (arith, b.0), omega (arith, b.1), sum-next _ _ v.4 refl, sum-next _ _ v.5 refl, flag-goes _ _ v.6 refl)
 
 returns : tie.Need-returns invariant-loop decreases-loop

@@ -33,13 +33,10 @@ element-write-row-3 c = search rules
 returns : tie.Need-returns
 unfolding route_of open_at set_of
 returns c =
-    let w = c in
-    let k = w in
-    let d = k in
-    let r = d.requires.0.0 in
-    let kept = w.course_of-course.ensures in
-    let stands = c.stand-alive.ensures d.args.van _ _ _ _ r d.requires.0.2 (subst (Coursed _ _ _ _) (sym kept.1) kept.0.course) in (
-      λ levels. rw (k.count-places.ensures.0 ∙ places-end _ _ (nodes-most r.laid) (past-nodes r), c.one_if.ensures, stands) (told-written d.args.row.now _ _ _ d.requires.0.1),
+    let r = c.requires.0.0 in
+    let kept = c.course_of-course.ensures in
+    let stands = c.stand-alive.ensures c.args.van _ _ _ _ r c.requires.0.2 (subst (Coursed _ _ _ _) (sym kept.1) kept.0.course) in (
+      λ levels. rw (c.count-places.ensures.0 ∙ places-end _ _ (nodes-most r.laid) (past-nodes r), c.one_if.ensures, stands) (told-written c.args.row.now _ _ _ c.requires.0.1),
       kept.0,
     )
 

@@ -29,12 +29,11 @@ decreases-loop sheet at jobs routes sets figures every told₀ ways₀ j₀ told
 
 loop-holds : tie.Need-loop-j-init invariant-loop decreases-loop
 loop-holds c =
-    let s = c in
-    let p = s.requires.0 in (
+    let p = c.requires.0 in (
       omega arith,
       omega (arith, p.0.laid.vans, p.0.laid.fine.vans-high),
       turned_none _ _ _ _ _ p.1.eight (λ k h. refl),
-      record { rows = s.requires.1.0; each = λ k l. absurd (omega (arith, l)); ahead = λ k l. refl },
+      record { rows = c.requires.1.0; each = λ k l. absurd (omega (arith, l)); ahead = λ k l. refl },
     )
 
 mul-figures-in : tie.Need-offset_bounds-figures-j invariant-loop decreases-loop
@@ -45,8 +44,7 @@ index-1-figures-in c = omega arith
 
 figures-in-requires : tie.Need-figures_in-f-requires invariant-loop decreases-loop
 figures-in-requires c κs =
-    let d = c in
-    d.requires.0.0.figured.wide d.loop-j.j (omega arith)
+    c.requires.0.0.figured.wide c.loop-j.j (omega arith)
 
 mul-if2 : tie.Need-offset_bounds-told-j invariant-loop decreases-loop
 mul-if2 c = omega arith
@@ -59,8 +57,7 @@ index-2-if2 c = omega arith
 
 van-requires : tie.Need-van-van-requires invariant-loop decreases-loop
 van-requires c κs =
-    let t = c in
-    (t.requires.0.0.laid, t.loop-j-test.true)
+    (c.requires.0.0.laid, c.loop-j-test.true)
 
 mul-tell : tie.Need-offset_bounds-routes-j invariant-loop decreases-loop
 mul-tell c = omega arith
@@ -89,18 +86,13 @@ index-1-tell-4 c = omega arith
 tell-requires : tie.Need-tell-requires invariant-loop decreases-loop
 unfolding route_of open_at set_of
 tell-requires c κs =
-    let v = c in
-    let g = v in
-    let t = g in
-    let d = t in
-    let s = d in
-    let a = s.args in
-    let p = s.requires.0 in
-    let l : d.loop-j.j < vans_of a.sheet.now = omega (arith, p.0.laid.vans, t.loop-j-test.true) in
-    let few : d.loop-j.j < most_vans = omega (arith, t.loop-j-test.true, d.loop-j.invariant.1) in
-    let b = p.0.each d.loop-j.j l in
-    let h = d.loop-j.invariant.3 in
-    rw (g.figures_in-f.ensures, v.van-van.ensures.0) (
+    let a = c.args in
+    let p = c.requires.0 in
+    let l : c.loop-j.j < vans_of a.sheet.now = omega (arith, p.0.laid.vans, c.loop-j-test.true) in
+    let few : c.loop-j.j < most_vans = omega (arith, c.loop-j-test.true, c.loop-j.invariant.1) in
+    let b = p.0.each c.loop-j.j l in
+    let h = c.loop-j.invariant.3 in
+    rw (c.figures_in-f.ensures, c.van-van.ensures.0) (
       (
         record {
           clear = p.0.clear;
@@ -108,13 +100,13 @@ tell-requires c κs =
           long = b.wide.route;
           sized = b.wide.sets;
           most = omega (arith, b.form.route.most, b.small);
-          form = stands-formed (day_of a.sheet.now) (row_board a.routes.now a.sets.now a.figures.now d.loop-j.j) b.small b.wide (p.0.words d.loop-j.j l) b.form;
+          form = stands-formed (day_of a.sheet.now) (row_board a.routes.now a.sets.now a.figures.now c.loop-j.j) b.small b.wide (p.0.words c.loop-j.j l) b.form;
         },
-        (told-rows a.sheet.now a.routes.now a.sets.now a.figures.now a.every a.told.now p.1 d.loop-j.invariant.2).wide d.loop-j.j few,
+        (told-rows a.sheet.now a.routes.now a.sets.now a.figures.now a.every a.told.now p.1 c.loop-j.invariant.2).wide c.loop-j.j few,
         p.2,
-        h.rows.wide d.loop-j.j few,
+        h.rows.wide c.loop-j.j few,
       ),
-      λ e q. kept-ahead h ((s.requires.1.1 e).stopped d.loop-j.j l (ap (λ (w : List ℕ). get_or w 0 0) (sym (h.ahead d.loop-j.j (omega arith))) ∙ q)),
+      λ e q. kept-ahead h ((c.requires.1.1 e).stopped c.loop-j.j l (ap (λ (w : List ℕ). get_or w 0 0) (sym (h.ahead c.loop-j.j (omega arith))) ∙ q)),
     )
 
 add-j : tie.Need-overflow_add-j invariant-loop decreases-loop
@@ -124,30 +116,26 @@ loop-less : tie.Need-loop-j-smaller invariant-loop decreases-loop
 loop-less c = omega arith
 
 -- the van at hand is told, or left as it was
-joined : (c : tie.Joined-every-f invariant-loop decreases-loop) → let d = c in let a = d.args in
-    Turned most_vans (told_or a.sheet.now a.routes.now a.sets.now a.figures.now a.every a.told.now) (λ k. get_or a.told.now k []) [] (d.loop-j.j + 1) c.if-every-f.told
-    × KeptBelow a.sheet.now a.jobs.now a.routes.now a.figures.now a.ways.now (d.loop-j.j + 1) c.if-every-f.ways
+joined : (c : tie.Joined-every-f invariant-loop decreases-loop) → let a = c.args in
+    Turned most_vans (told_or a.sheet.now a.routes.now a.sets.now a.figures.now a.every a.told.now) (λ k. get_or a.told.now k []) [] (c.loop-j.j + 1) c.if-every-f.told
+    × KeptBelow a.sheet.now a.jobs.now a.routes.now a.figures.now a.ways.now (c.loop-j.j + 1) c.if-every-f.ways
 joined c =
-    let g = c in
-    let t = g in
-    let d = t in
-    let s = d in
-    let a = s.args in
-    let v = d.loop-j.invariant in
-    let e : get_or d.loop-j.told d.loop-j.j [] ≡ get_or a.told.now d.loop-j.j [] = turned-ahead v.2 (omega arith) in
-    let l : d.loop-j.j < vans_of a.sheet.now = omega (arith, s.requires.0.0.laid.vans, t.loop-j-test.true) in
+    let a = c.args in
+    let v = c.loop-j.invariant in
+    let e : get_or c.loop-j.told c.loop-j.j [] ≡ get_or a.told.now c.loop-j.j [] = turned-ahead v.2 (omega arith) in
+    let l : c.loop-j.j < vans_of a.sheet.now = omega (arith, c.requires.0.0.laid.vans, c.loop-j-test.true) in
     elim c.if-every-f.branch [
       | then-every-f w ↦ (
         rw w.told-is (turned_more _ v.2 (omega arith)
-            (rw g.figures_in-f.ensures at (w.tell.ensures.0 [])
-            ∙ ap (λ (n : Van). places_of (get_or a.sets.now d.loop-j.j []) 64 ∷ (figures_in (get_or a.figures.now d.loop-j.j [])).records
-            ∷ cond (alive n (day_of a.sheet.now) (plan_of (row_board a.routes.now a.sets.now a.figures.now d.loop-j.j))) 1 0 ∷ []) w.van-van.ensures.0
-            ∙ told-anew a.sheet.now a.routes.now a.sets.now a.figures.now a.every a.told.now d.loop-j.j (rw (g.figures_in-f.ensures, e) at w.if-every-f.true))),
-        rw w.ways-is (kept_more _ v.3 (omega arith) (rw (g.figures_in-f.ensures, w.van-van.ensures.0) at w.tell.ensures.1)),
+            (rw c.figures_in-f.ensures at (w.tell.ensures.0 [])
+            ∙ ap (λ (n : Van). places_of (get_or a.sets.now c.loop-j.j []) 64 ∷ (figures_in (get_or a.figures.now c.loop-j.j [])).records
+            ∷ cond (alive n (day_of a.sheet.now) (plan_of (row_board a.routes.now a.sets.now a.figures.now c.loop-j.j))) 1 0 ∷ []) w.van-van.ensures.0
+            ∙ told-anew a.sheet.now a.routes.now a.sets.now a.figures.now a.every a.told.now c.loop-j.j (rw (c.figures_in-f.ensures, e) at w.if-every-f.true))),
+        rw w.ways-is (kept_more _ v.3 (omega arith) (rw (c.figures_in-f.ensures, w.van-van.ensures.0) at w.tell.ensures.1)),
       )
-      | else-every-f w ↦ let q = rw (g.figures_in-f.ensures, e) at w.if-every-f.false in let b = as_before_lem a.every _ _ q in (
-        rw w.told-is (turned-kept v.2 (omega arith) (told-left a.sheet.now a.routes.now a.sets.now a.figures.now a.every a.told.now d.loop-j.j q)),
-        rw w.ways-is (kept-skip v.3 ((s.requires.1.1 b.0).recorded d.loop-j.j l b.1)),
+      | else-every-f w ↦ let q = rw (c.figures_in-f.ensures, e) at w.if-every-f.false in let b = as_before_lem a.every _ _ q in (
+        rw w.told-is (turned-kept v.2 (omega arith) (told-left a.sheet.now a.routes.now a.sets.now a.figures.now a.every a.told.now c.loop-j.j q)),
+        rw w.ways-is (kept-skip v.3 ((c.requires.1.1 b.0).recorded c.loop-j.j l b.1)),
       )
     ]
 
@@ -156,11 +144,9 @@ loop-again c = let h = joined c in (omega arith, c.loop-j.invariant.1, h.0, h.1)
 
 returns : tie.Need-returns invariant-loop decreases-loop
 returns c =
-    let d = c in
-    let s = d in
-    let a = s.args in
-    let p = s.requires.0 in
-    let v = d.loop-j.invariant in
+    let a = c.args in
+    let p = c.requires.0 in
+    let v = c.loop-j.invariant in
     let e = p.0.laid.vans in (
       told-rows a.sheet.now a.routes.now a.sets.now a.figures.now a.every a.told.now p.1 v.2,
       (

@@ -37,34 +37,19 @@ same-length-2 c = search rules
 
 returns-2 : tie.Need-returns-then-placed-settled
 returns-2 c =
-    let g = c in
-    let j = g in
-    let settled = j in
-    let placed = settled in
-    let opened = placed in
-    kept _ _ _ _ _ _ opened.step-level.ensures opened.if-level-ne0.false placed.step-placed.ensures settled.step-settled.ensures (rw j.verdict-judged.ensures at g.if-placed-settled.true)
+    kept _ _ _ _ _ _ c.step-level.ensures c.if-level-ne0.false c.step-placed.ensures c.step-settled.ensures (rw c.verdict-judged.ensures at c.if-placed-settled.true)
 
 step-requires-4 : tie.Need-step-back-requires
 step-requires-4 c κs = search rules
 
 same-length-3 : tie.Need-shape_of-trail
 same-length-3 c =
-    let b = c in
-    let v = b in
-    let f = v in
-    b.trail-4-1.given ∙ v.trail-3-1.given ∙ f.trail-2-1.given ∙ f.trail-1.given
+    c.trail-4-1.given ∙ c.trail-3-1.given ∙ c.trail-2-1.given ∙ c.trail-1.given
 
 returns-3 : tie.Need-returns
 returns-3 c =
-    let back = c in
-    let g = back in
-    let j = g in
-    let settled = j in
-    let placed = settled in
-    let opened = placed in
-    let d = opened in
-    given_back _ _ _ _ _ _ opened.step-level.ensures opened.if-level-ne0.false placed.step-placed.ensures settled.step-settled.ensures
-    (is-held-all d.args.fleet _ d.well_formed.1.0) (rw j.verdict-judged.ensures at g.if-placed-settled.false) back.step-back.ensures
+    given_back _ _ _ _ _ _ c.step-level.ensures c.if-level-ne0.false c.step-placed.ensures c.step-settled.ensures
+    (is-held-all c.args.fleet _ c.well_formed.1.0) (rw c.verdict-judged.ensures at c.if-placed-settled.false) c.step-back.ensures
 
 pub try_place_spec : {M : Type 1} → statement M
 try_place_spec =

@@ -27,8 +27,7 @@ close-requires c κs = fine c.before.before.before.before.before
 
 owed-requires : tie.Need-owed-owed-requires
 owed-requires c κs =
-    let d = c in
-    let k = d.requires.0 in
+    let k = c.requires.0 in
     (k.laid, route-of (ready (state c.before.before.before) k.clear k.laid k.held (form-with _ _ _ k.form).0))
 
 exclude-requires : tie.Need-exclude-requires
@@ -43,8 +42,7 @@ level-requires c κs = c.requires.0.held.levels
 
 back-requires : tie.Need-back-requires
 back-requires c κs =
-    let d = c in
-    ((fine c.before.before.before.before.before.before, d.requires.0.held.levels), with-trail (state c.before.before.before.before.before.before) _ d.requires.0.laid d.requires.0.form)
+    ((fine c.before.before.before.before.before.before, c.requires.0.held.levels), with-trail (state c.before.before.before.before.before.before) _ c.requires.0.laid c.requires.0.form)
 
 same-requires : tie.Need-same-requires
 same-requires c κs = search rules
@@ -55,10 +53,7 @@ same_length c = search rules
 returns : tie.Need-returns-in-1
 unfolding act_of
 returns c = λ v.
-    let k = c in
-    let m = k in
-    let d = m in
-    rw m.in-1.is (rw d.requires.0.laid.nodes at (k.placing.ensures d.args.levels.now))
+    rw c.in-1.is (rw c.requires.0.laid.nodes at (c.placing.ensures c.args.levels.now))
 
 same-length-2 : tie.Need-shape_of-trail-in-2
 same-length-2 c = search rules
@@ -66,10 +61,7 @@ same-length-2 c = search rules
 returns-2 : tie.Need-returns-in-2
 unfolding act_of
 returns-2 c = λ v.
-    let k = c in
-    let m = k in
-    let d = m in
-    rw m.in-2.is (rw d.requires.0.laid.nodes at (k.close.ensures d.args.levels.now))
+    rw c.in-2.is (rw c.requires.0.laid.nodes at (c.close.ensures c.args.levels.now))
 
 same-length-3 : tie.Need-shape_of-trail-in-3
 same-length-3 c = search rules
@@ -77,11 +69,7 @@ same-length-3 c = search rules
 returns-3 : tie.Need-returns-in-3
 unfolding act_of route_of
 returns-3 c = λ v.
-    let k = c in
-    let o = k in
-    let m = o in
-    let d = m in
-    rw (m.in-3.is, sym o.owed-owed.ensures) (rw d.requires.0.laid.nodes at (k.exclude.ensures d.args.levels.now))
+    rw (c.in-3.is, sym c.owed-owed.ensures) (rw c.requires.0.laid.nodes at (c.exclude.ensures c.args.levels.now))
 
 same-length-4 : tie.Need-shape_of-trail-in-4
 same-length-4 c = search rules
@@ -89,17 +77,13 @@ same-length-4 c = search rules
 returns-4 : tie.Need-returns-in-4
 unfolding act_of
 returns-4 c = λ v.
-    let k = c in
-    let m = k in
-    let d = m in
-    rw m.in-4.is (rw d.requires.0.laid.nodes at (k.require.ensures d.args.sets.now d.args.levels.now))
+    rw c.in-4.is (rw c.requires.0.laid.nodes at (c.require.ensures c.args.sets.now c.args.levels.now))
 
 returns-5 : tie.Need-returns-in-6
 unfolding act_of
 returns-5 c = λ v.
-    let m = c in
-    let a = m.args in
-    rw m.in-6.is (c.level.ensures a.route.now a.sets.now a.trail.now)
+    let a = c.args in
+    rw c.in-6.is (c.level.ensures a.route.now a.sets.now a.trail.now)
 
 same-length-5 : tie.Need-shape_of-trail-in-7
 same-length-5 c = search rules
@@ -107,16 +91,13 @@ same-length-5 c = search rules
 returns-6 : tie.Need-returns-in-7
 unfolding act_of
 returns-6 c = λ v.
-    let m = c in
-    let d = m in
-    rw m.in-7.is (rw d.requires.0.laid.nodes at c.back.ensures)
+    rw c.in-7.is (rw c.requires.0.laid.nodes at c.back.ensures)
 
 returns-7 : tie.Need-returns-in_default
 unfolding act_of
 returns-7 c = λ v.
     let x = c.in_default.in_default-own.rest in
-    let d = c in
-    simp (c.same.ensures, ne_eqb _ _ x.0.0.0.0.0.1, ne_eqb _ _ x.0.0.0.0.1, ne_eqb _ _ x.0.0.0.1, ne_eqb _ _ x.0.0.1, ne_eqb _ _ d.requires.1, ne_eqb _ _ x.0.1, ne_eqb _ _ x.1)
+    simp (c.same.ensures, ne_eqb _ _ x.0.0.0.0.0.1, ne_eqb _ _ x.0.0.0.0.1, ne_eqb _ _ x.0.0.0.1, ne_eqb _ _ x.0.0.1, ne_eqb _ _ c.requires.1, ne_eqb _ _ x.0.1, ne_eqb _ _ x.1)
 
 pub change_spec : {M : Type 1} → statement M
 change_spec =

@@ -16,15 +16,13 @@ same-requires c κs = search rules
 returns : tie.Need-returns-then-code-ne0
 unfolding place_step room_of
 returns c =
-    let d = c in
-    λ levels. rw (c.same.ensures, d.place_refusal-code.ensures)
-    (step-no _ _ _ _ (λ e. c.if-code-ne0.true (d.place_refusal-code.ensures ∙ e)))
+    λ levels. rw (c.same.ensures, c.place_refusal-code.ensures)
+    (step-no _ _ _ _ (λ e. c.if-code-ne0.true (c.place_refusal-code.ensures ∙ e)))
 
 place-requires : tie.Need-place-requires
 unfolding room_of
 place-requires c κs =
-    let e = c in
-    (e.requires, sym e.place_refusal-code.ensures ∙ e.if-code-ne0.false)
+    (c.requires, sym c.place_refusal-code.ensures ∙ c.if-code-ne0.false)
 
 same_length : tie.Need-shape_of-trail
 same_length c = search rules

@@ -8,11 +8,10 @@ use Rattle.van.proofs.settle.Tie as tie
 
 settling-requires : tie.Need-settling-requires
 settling-requires c κs =
-    let d = c in
-    let a = d.args in
-    let k = d.requires.0.0 in
+    let a = c.args in
+    let k = c.requires.0.0 in
     let f = form-with _ _ _ k.form in
-    ((ready (state_with a.route.now a.sets.now a.levels.now a.f) k.clear k.laid k.held f.0, f.1, d.requires.0.1), d.requires.1.0)
+    ((ready (state_with a.route.now a.sets.now a.levels.now a.f) k.clear k.laid k.held f.0, f.1, c.requires.0.1), c.requires.1.0)
 
 same_length : tie.Need-shape_of-trail
 same_length c = search rules
@@ -20,9 +19,7 @@ same_length c = search rules
 returns : tie.Need-returns
 unfolding act_of
 returns c =
-    let g = c in
-    let d = g in
-    rw d.requires.1.1 (g.settling.ensures d.args.levels.now)
+    rw c.requires.1.1 (c.settling.ensures c.args.levels.now)
 
 pub settle_spec : {M : Type 1} → statement M
 settle_spec =

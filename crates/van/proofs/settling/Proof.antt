@@ -9,25 +9,21 @@ use Rattle.van.proofs.settling.Statement.{statement}
 use Rattle.van.proofs.settling.Tie as tie
 
 settle-requires : tie.Need-settle-rounds-requires
-settle-requires c κs = let d = c in ((ready-unmarked d.requires.0.0, refl, omega (arith, d.requires.0.2)), d.requires.1)
+settle-requires c κs = ((ready-unmarked c.requires.0.0, refl, omega (arith, c.requires.0.2)), c.requires.1)
 
 settle-requires-2 : tie.Need-settle-requires
 settle-requires-2 c κs =
-    let g = c in
-    let d = g in
-    let r = d.requires.0.0 in
-    let new = ready-settled _ r g.settle-rounds.ensures in
-    ((r.sized, new.sized, nodes-most r.laid, past_same r new), (d.requires.0.1, g.settle-rounds.ensures.still))
+    let r = c.requires.0.0 in
+    let new = ready-settled _ r c.settle-rounds.ensures in
+    ((r.sized, new.sized, nodes-most r.laid, past_same r new), (c.requires.0.1, c.settle-rounds.ensures.still))
 
 same_length : tie.Need-shape_of-trail
 same_length c = search rules
 
 returns : tie.Need-returns
 returns c = λ levels.
-    let k = c in
-    let g = k in
-    let a = g.args in
-    settled_is _ _ _ _ g.settle-rounds.ensures ∙ k.settle.ensures a.route.now levels
+    let a = c.args in
+    settled_is _ _ _ _ c.settle-rounds.ensures ∙ c.settle.ensures a.route.now levels
 
 pub settling_spec : {M : Type 1} → statement M
 settling_spec =

@@ -22,156 +22,136 @@ loop-holds c = (omega arith, laden-none c.requires.0 c.args.van c.at_start-aboar
 
 mul-x : tie.Need-offset_bounds-route-i invariant-loop decreases-loop
 mul-x c =
-    let o = c in
     let l = c.loop-i in
-    let h : l.i < o.args.stops = omega arith in
-    omega (arith, h, o.requires.0.route.most)
+    let h : l.i < c.args.stops = omega arith in
+    omega (arith, h, c.requires.0.route.most)
 
 element-copy-out-x : tie.Need-bounds-route-i invariant-loop decreases-loop
 element-copy-out-x c =
-    let o = c in
     let l = c.loop-i in
-    let h : l.i < o.args.stops = omega arith in
-    omega (arith, h, o.requires.0.route.most, o.requires.0.route.long)
+    let h : l.i < c.args.stops = omega arith in
+    omega (arith, h, c.requires.0.route.most, c.requires.0.route.long)
 
 add-other : tie.Need-overflow_add-other invariant-loop decreases-loop
 add-other c =
-    let o = c in
     let l = c.loop-i in
-    let h : l.i < o.args.stops = omega arith in
-    omega (arith, near o.requires.0 l.i h, o.requires.0.jobs.long)
+    let h : l.i < c.args.stops = omega arith in
+    omega (arith, near c.requires.0 l.i h, c.requires.0.jobs.long)
 
 mul-other : tie.Need-offset_bounds-t-x invariant-loop decreases-loop
 mul-other c =
-    let o = c in
     let l = c.loop-i in
-    let h : l.i < o.args.stops = omega arith in
-    omega (arith, near o.requires.0 l.i h, o.requires.0.jobs.long)
+    let h : l.i < c.args.stops = omega arith in
+    omega (arith, near c.requires.0 l.i h, c.requires.0.jobs.long)
 
 element-copy-out-other : tie.Need-bounds-t-x invariant-loop decreases-loop
 element-copy-out-other c =
-    let o = c in
     let l = c.loop-i in
-    let h : l.i < o.args.stops = omega arith in
-    omega (arith, near o.requires.0 l.i h, o.requires.0.jobs.long)
+    let h : l.i < c.args.stops = omega arith in
+    omega (arith, near c.requires.0 l.i h, c.requires.0.jobs.long)
 
 cast-other : tie.Need-overflow_cast-other invariant-loop decreases-loop
 cast-other c =
-    let o = c in
-    let l = c.loop-i in omega (arith, low o.requires.0 (256 + get_or o.args.route.now l.i 0))
+    let l = c.loop-i in omega (arith, low c.requires.0 (256 + get_or c.args.route.now l.i 0))
 
 holds-requires : tie.Need-holds-begun-requires invariant-loop decreases-loop
 holds-requires c κs =
-    let o = c in
     let l = c.loop-i in
-    let h : l.i < o.args.stops = omega arith in
-    o.requires.0.jobs.near (get_or o.args.route.now l.i 0) (near o.requires.0 l.i h)
+    let h : l.i < c.args.stops = omega arith in
+    c.requires.0.jobs.near (get_or c.args.route.now l.i 0) (near c.requires.0 l.i h)
 
 add-if1 : tie.Need-overflow_add-x invariant-loop decreases-loop
 add-if1 c =
-    let o = c in
     let l = c.loop-i in
-    let h : l.i < o.args.stops = omega arith in
-    omega (arith, near o.requires.0 l.i h, o.requires.0.jobs.long)
+    let h : l.i < c.args.stops = omega arith in
+    omega (arith, near c.requires.0 l.i h, c.requires.0.jobs.long)
 
 mul-if1 : tie.Need-offset_bounds-t-x-in-loop-i invariant-loop decreases-loop
 mul-if1 c =
-    let o = c in
     let l = c.loop-i in
-    let h : l.i < o.args.stops = omega arith in
-    omega (arith, near o.requires.0 l.i h, o.requires.0.jobs.long)
+    let h : l.i < c.args.stops = omega arith in
+    omega (arith, near c.requires.0 l.i h, c.requires.0.jobs.long)
 
 element-copy-out-if1 : tie.Need-bounds-t-x-in-loop-i invariant-loop decreases-loop
 element-copy-out-if1 c =
-    let o = c in
     let l = c.loop-i in
-    let h : l.i < o.args.stops = omega arith in
-    omega (arith, near o.requires.0 l.i h, o.requires.0.jobs.long)
+    let h : l.i < c.args.stops = omega arith in
+    omega (arith, near c.requires.0 l.i h, c.requires.0.jobs.long)
 
 returns : tie.Need-returns-then-begun-t invariant-loop decreases-loop
 returns c =
-    let o = c in
     let l = c.loop-i in
-    let h : l.i < o.args.stops = omega arith in
-    laden-wrong o.requires.0 o.args.van l.invariant.1 h c.holds-begun.ensures c.if-begun-t.true
+    let h : l.i < c.args.stops = omega arith in
+    laden-wrong c.requires.0 c.args.van l.invariant.1 h c.holds-begun.ensures c.if-begun-t.true
 
 holds-requires-2 : tie.Need-holds-requires invariant-loop decreases-loop
 holds-requires-2 c κs =
-    let o = c in
     let l = c.loop-i in
-    let h : l.i < o.args.stops = omega arith in
-    o.requires.0.jobs.near (get_or o.args.route.now l.i 0) (near o.requires.0 l.i h)
+    let h : l.i < c.args.stops = omega arith in
+    c.requires.0.jobs.near (get_or c.args.route.now l.i 0) (near c.requires.0 l.i h)
 
 comes-requires : tie.Need-comes-up-requires invariant-loop decreases-loop
 comes-requires c κs =
-    let o = c in
     let l = c.loop-i in
-    let h : l.i < o.args.stops = omega arith in
-    (o.requires.0.jobs.long, near o.requires.0 l.i h, low o.requires.0)
+    let h : l.i < c.args.stops = omega arith in
+    (c.requires.0.jobs.long, near c.requires.0 l.i h, low c.requires.0)
 
 goes-requires : tie.Need-goes-down-requires invariant-loop decreases-loop
 goes-requires c κs =
-    let o = c in
     let l = c.loop-i in
-    let h : l.i < o.args.stops = omega arith in
-    (o.requires.0.jobs.long, near o.requires.0 l.i h, low o.requires.0)
+    let h : l.i < c.args.stops = omega arith in
+    (c.requires.0.jobs.long, near c.requires.0 l.i h, low c.requires.0)
 
 add-aboard : tie.Need-overflow_add-aboard invariant-loop decreases-loop
 add-aboard c =
-    let o = c in
     let l = c.loop-i in
-    let h : l.i < o.args.stops = omega arith in
+    let h : l.i < c.args.stops = omega arith in
     omega (
       arith,
       l.invariant.1.most,
-      o.requires.0.route.most,
-      up-low o.requires.0 o.args.van l.invariant.1 h c.holds-begun.ensures
-          (c.holds.ensures ∙ o.requires.1 (get_or o.args.t.now (256 + get_or o.args.route.now l.i 0) 0)) c.if-begun-t.false c.comes-up.ensures c.goes-down.ensures,
+      c.requires.0.route.most,
+      up-low c.requires.0 c.args.van l.invariant.1 h c.holds-begun.ensures
+          (c.holds.ensures ∙ c.requires.1 (get_or c.args.t.now (256 + get_or c.args.route.now l.i 0) 0)) c.if-begun-t.false c.comes-up.ensures c.goes-down.ensures,
     )
 
 sub-aboard : tie.Need-overflow_sub-aboard invariant-loop decreases-loop
 sub-aboard c =
-    let o = c in
     let l = c.loop-i in
-    let h : l.i < o.args.stops = omega arith in
-    down-low o.requires.0 o.args.van l.invariant.1 h c.holds-begun.ensures
-    (c.holds.ensures ∙ o.requires.1 (get_or o.args.t.now (256 + get_or o.args.route.now l.i 0) 0)) c.if-begun-t.false c.comes-up.ensures c.goes-down.ensures
+    let h : l.i < c.args.stops = omega arith in
+    down-low c.requires.0 c.args.van l.invariant.1 h c.holds-begun.ensures
+    (c.holds.ensures ∙ c.requires.1 (get_or c.args.t.now (256 + get_or c.args.route.now l.i 0) 0)) c.if-begun-t.false c.comes-up.ensures c.goes-down.ensures
 
 add-i : tie.Need-overflow_add-i invariant-loop decreases-loop
 add-i c = omega arith
 
 returns-2 : tie.Need-returns-then-i-stops invariant-loop decreases-loop
 returns-2 c =
-    let o = c in
     let l = c.loop-i in
-    let h : l.i < o.args.stops = omega arith in
-    laden-over o.requires.0 o.args.van l.invariant.1 h c.holds-begun.ensures
-    (c.holds.ensures ∙ o.requires.1 (get_or o.args.t.now (256 + get_or o.args.route.now l.i 0) 0)) c.if-begun-t.false c.comes-up.ensures c.goes-down.ensures refl c.if-i-stops.true
+    let h : l.i < c.args.stops = omega arith in
+    laden-over c.requires.0 c.args.van l.invariant.1 h c.holds-begun.ensures
+    (c.holds.ensures ∙ c.requires.1 (get_or c.args.t.now (256 + get_or c.args.route.now l.i 0) 0)) c.if-begun-t.false c.comes-up.ensures c.goes-down.ensures refl c.if-i-stops.true
 
 put-requires : tie.Need-put-seen-requires invariant-loop decreases-loop
 put-requires c κs =
-    let o = c in
     let l = c.loop-i in
-    let h : l.i < o.args.stops = omega arith in
-    near o.requires.0 l.i h
+    let h : l.i < c.args.stops = omega arith in
+    near c.requires.0 l.i h
 
 loop-less : tie.Need-loop-i-smaller invariant-loop decreases-loop
 loop-less c = omega arith
 
 loop-again : tie.Need-loop-i-preserved invariant-loop decreases-loop
 loop-again c =
-    let o = c in
     let l = c.loop-i in
-    let h : l.i < o.args.stops = omega arith in (
+    let h : l.i < c.args.stops = omega arith in (
       omega (arith, h),
-      rw c.put-seen.ensures (laden-next o.requires.0 o.args.van l.invariant.1 h c.holds-begun.ensures
-          (c.holds.ensures ∙ o.requires.1 (get_or o.args.t.now (256 + get_or o.args.route.now l.i 0) 0)) c.if-begun-t.false c.comes-up.ensures c.goes-down.ensures refl c.if-i-stops.false),
+      rw c.put-seen.ensures (laden-next c.requires.0 c.args.van l.invariant.1 h c.holds-begun.ensures
+          (c.holds.ensures ∙ c.requires.1 (get_or c.args.t.now (256 + get_or c.args.route.now l.i 0) 0)) c.if-begun-t.false c.comes-up.ensures c.goes-down.ensures refl c.if-i-stops.false),
     )
 
 returns-3 : tie.Need-returns invariant-loop decreases-loop
 returns-3 c =
-    let o = c in
-    laden-all o.requires.0 o.args.van c.loop-i.invariant.1 (omega arith)
+    laden-all c.requires.0 c.args.van c.loop-i.invariant.1 (omega arith)
 
 pub carried_spec : {M : Type 1} → statement M
 carried_spec =

@@ -41,10 +41,7 @@ element-copy-out-if2 c = omega (arith, stop c.before.before.before, c.requires.j
 
 returns-2 : tie.Need-returns-then-met-t invariant-loop decreases-loop
 returns-2 c =
-    let t = c in
-    let e = t in
-    let o = e in
-    profiled _ _ (sym e.profile.ensures ∙ e.if-not-profile.false) (walk-stops o.requires (omega arith) t.loop-i.invariant.1 c.if-met-t.true)
+    profiled _ _ (sym c.profile.ensures ∙ c.if-not-profile.false) (walk-stops c.requires (omega arith) c.loop-i.invariant.1 c.if-met-t.true)
 
 add-met : tie.Need-overflow_add-met invariant-loop decreases-loop
 add-met c = omega (arith, stop c.before.before.before.before.before)
@@ -63,15 +60,11 @@ loop-less c = omega arith
 
 loop-again : tie.Need-loop-i-preserved invariant-loop decreases-loop
 loop-again c =
-    let f = c in
-    let t = f in
-    (omega arith, walk-next t.requires (omega arith) t.loop-i.invariant.1 f.if-met-t.false)
+    (omega arith, walk-next c.requires (omega arith) c.loop-i.invariant.1 c.if-met-t.false)
 
 returns-3 : tie.Need-returns invariant-loop decreases-loop
 returns-3 c =
-    let e = c in
-    let o = e in
-    profiled _ _ (sym e.profile.ensures ∙ e.if-not-profile.false) (walk-all o.requires (omega arith) c.loop-i.invariant.1)
+    profiled _ _ (sym c.profile.ensures ∙ c.if-not-profile.false) (walk-all c.requires (omega arith) c.loop-i.invariant.1)
 
 pub clean_first_spec : {M : Type 1} → statement M
 clean_first_spec =

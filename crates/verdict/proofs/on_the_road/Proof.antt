@@ -30,19 +30,17 @@ in-time-requires c κs = omega (arith, c.earliest-t.ensures.low)
 
 returns : tie.Need-returns-then-not-in_time invariant-loop decreases-loop
 returns c =
-    let o = c in
-    let a = o.args in
+    let a = c.args in
     let d = day_of a.s.now in
-    first-late d a.route.now a.stops (omega arith) (omega arith) o.earliest-t.ensures.is
+    first-late d a.route.now a.stops (omega arith) (omega arith) c.earliest-t.ensures.is
     (in-time-told d (low a.s.now) _ _ c.last_moment.ensures c.in_time.ensures) a.limit (not_from_false _ c.if-not-in_time.true)
 
 loop-holds : tie.Need-loop-i-init invariant-loop decreases-loop
 loop-holds c =
-    let o = c in
-    let a = o.args in
+    let a = c.args in
     let d = day_of a.s.now in (
       omega arith,
-      rode-first d a.route.now a.stops (omega arith) (omega arith) o.earliest-t.ensures.is
+      rode-first d a.route.now a.stops (omega arith) (omega arith) c.earliest-t.ensures.is
           (in-time-told d (low a.s.now) _ _ c.last_moment.ensures c.in_time.ensures) (not_from_true _ c.if-not-in_time.false),
     )
 
@@ -83,28 +81,25 @@ in-time-requires-2 c κs =
 
 returns-2 : tie.Need-returns-then-not-in_time-2 invariant-loop decreases-loop
 returns-2 c =
-    let o = c in
-    let a = o.args in
-    let r = o.requires.1 in
-    let l = o.loop-i in
+    let a = c.args in
+    let r = c.requires.1 in
+    let l = c.loop-i in
     let d = day_of a.s.now in
-    rode-late d a.route.now a.stops (omega (arith, r.most, r.long)) l.invariant.1 (omega arith) o.arrive-t.ensures.0
+    rode-late d a.route.now a.stops (omega (arith, r.most, r.long)) l.invariant.1 (omega arith) c.arrive-t.ensures.0
     (in-time-told d (low a.s.now) _ _ c.last_moment-in-loop-i.ensures c.in_time-in-loop-i.ensures) a.limit (not_from_false _ c.if-not-in_time-2.true)
 
 metres-requires : tie.Need-metres-total-requires invariant-loop decreases-loop
 metres-requires c κs =
-    let l = c in
-    let p = l.requires in
-    (p.0, omega (arith, l.loop-i.invariant.1.at, node_at_lem p.1 l.loop-i.i (omega arith)), node_at_lem p.1 (l.loop-i.i + 1) (omega arith))
+    let p = c.requires in
+    (p.0, omega (arith, c.loop-i.invariant.1.at, node_at_lem p.1 c.loop-i.i (omega arith)), node_at_lem p.1 (c.loop-i.i + 1) (omega arith))
 
 add_total : tie.Need-overflow_add-total invariant-loop decreases-loop
 add_total c =
-    let l = c in
-    let a = l.args in
+    let a = c.args in
     omega (
       arith,
-      l.loop-i.invariant.1.metres,
-      length-low (day_of a.s.now) (low a.s.now) a.route.now (l.loop-i.i + 1) (omega arith),
+      c.loop-i.invariant.1.metres,
+      length-low (day_of a.s.now) (low a.s.now) a.route.now (c.loop-i.i + 1) (omega arith),
       c.metres-total.ensures.low,
     )
 
@@ -113,14 +108,12 @@ loop-less c = omega arith
 
 loop-again : tie.Need-loop-i-preserved invariant-loop decreases-loop
 loop-again c =
-    let o = c in
-    let l = o in
-    let a = l.args in
-    let r = l.requires.1 in
+    let a = c.args in
+    let r = c.requires.1 in
     let d = day_of a.s.now in
     let e = in-time-told d (low a.s.now) _ _ c.last_moment-in-loop-i.ensures c.in_time-in-loop-i.ensures in (
       omega arith,
-      rode-next d a.route.now a.stops (omega (arith, r.most, r.long)) l.loop-i.invariant.1 (omega arith) o.arrive-t.ensures.0 e (not_from_true _ c.if-not-in_time-2.false)
+      rode-next d a.route.now a.stops (omega (arith, r.most, r.long)) c.loop-i.invariant.1 (omega arith) c.arrive-t.ensures.0 e (not_from_true _ c.if-not-in_time-2.false)
           c.metres-total.ensures.is,
     )
 

@@ -22,9 +22,8 @@ meets-requires c κs = search rules
 
 returns : tie.Need-returns
 returns c = λ d told.
-    let w = c in
-    let a = w.args in
-    owes-told d (take a.stops a.route.now) a.marks w.word-on.result a.partners a.x (omega arith) (omega arith) w.word-on.ensures told
+    let a = c.args in
+    owes-told d (take a.stops a.route.now) a.marks c.word-on.result a.partners a.x (omega arith) (omega arith) c.word-on.ensures told
     c.has-placed.ensures c.has-marked.ensures (rw (← c.join.ensures) c.meets-pair.ensures)
 
 pub owes_spec : {M : Type 1} → statement M

@@ -20,12 +20,10 @@ clean-first-requires c κs = c.requires
 
 returns : tie.Need-returns
 returns c =
-    let l = c in
-    let r = l in
     record {
-      keeps = λ u. r.on_the_road-road.ensures u && l.carried-load.ensures u && c.clean_first-order.ensures u;
-      on = r.word-on.ensures;
-      called = r.partners_of-called.ensures;
+      keeps = λ u. c.on_the_road-road.ensures u && c.carried-load.ensures u && c.clean_first-order.ensures u;
+      on = c.word-on.ensures;
+      called = c.partners_of-called.ensures;
     }
 
 pub sound_spec : {M : Type 1} → statement M

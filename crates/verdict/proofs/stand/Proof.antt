@@ -31,11 +31,10 @@ all-open-requires c κs = c.requires.2
 
 returns-2 : tie.Need-returns
 returns-2 c = λ v s at l n r b k.
-    let q = c in
-    let a = q.args in
+    let a = c.args in
     let w = c.minus-left.ensures ∙ ap (λ (w : ℕ). minus w a.course.on) (c.join-owing.ensures ∙ ap (join a.marks) c.join.ensures) in
-    ap (λ (b : Bool). b && c.all_open.result) (sym (not-false a.course.keeps q.if-not-course.false))
-    ∙ stands-told r b k (omega arith) (omega arith) q.partners_of-paired.ensures (c.all_open.ensures ∙ ap (λ (w : ℕ). all_below 64 (member_open a.sets.now w)) w)
+    ap (λ (b : Bool). b && c.all_open.result) (sym (not-false a.course.keeps c.if-not-course.false))
+    ∙ stands-told r b k (omega arith) (omega arith) c.partners_of-paired.ensures (c.all_open.ensures ∙ ap (λ (w : ℕ). all_below 64 (member_open a.sets.now w)) w)
 
 pub stand_spec : {M : Type 1} → statement M
 stand_spec = tie.close (tie.spec returns partners-of-requires join-requires join-requires-2 minus-requires all-open-requires returns-2)

@@ -62,13 +62,8 @@ less-requires-2 c κs = search rules
 
 returns-2 : tie.Need-returns-then-fits_all invariant-loop decreases-loop
 returns-2 c =
-    let m = c in
-    let f = m in
-    let s = f in
-    let a = s in
-    let o = a in
-    let r = last-rides o.requires.0 (leb-true _ _ (sym a.fits_all.ensures ∙ s.if-fits_all.true)) o.requires.1 o.args.partner o.requires.2 refl s.choose-start.ensures f.last_open-last.ensures in
-    kept_back o.requires.1 f.last_open-last.ensures.1 _ m.less.ensures c.less-then-fits_all.ensures r
+    let r = last-rides c.requires.0 (leb-true _ _ (sym c.fits_all.ensures ∙ c.if-fits_all.true)) c.requires.1 c.args.partner c.requires.2 refl c.choose-start.ensures c.last_open-last.ensures in
+    kept_back c.requires.1 c.last_open-last.ensures.1 _ c.less.ensures c.less-then-fits_all.ensures r
 
 loop-holds : tie.Need-loop-i-init invariant-loop decreases-loop
 loop-holds c = (omega arith, back-begin _ _ _ _ _)
@@ -89,7 +84,7 @@ element-copy-out-p : tie.Need-bounds-route-i-in-loop-i invariant-loop decreases-
 element-copy-out-p c = omega (arith, c.requires.0.few)
 
 holds-requires : tie.Need-holds-requires invariant-loop decreases-loop
-holds-requires c κs = let l = c in l.requires.0.nodes (l.loop-i.i - 1) (omega arith)
+holds-requires c κs = c.requires.0.nodes (c.loop-i.i - 1) (omega arith)
 
 mul-rides : tie.Need-offset_bounds-h-i invariant-loop decreases-loop
 mul-rides c = search rules
@@ -98,33 +93,29 @@ element-copy-out-rides : tie.Need-bounds-h-i invariant-loop decreases-loop
 element-copy-out-rides c = search rules
 
 rides-requires : tie.Need-rides-on-requires invariant-loop decreases-loop
-rides-requires c κs = let l = c in asks-room l.requires.0 (l.loop-i.i - 1) (omega arith)
+rides-requires c κs = asks-room c.requires.0 (c.loop-i.i - 1) (omega arith)
 
 strike-requires : tie.Need-strike-w-requires invariant-loop decreases-loop
-strike-requires c κs = let l = c in l.requires.0.nodes (l.loop-i.i - 1) (omega arith)
+strike-requires c κs = c.requires.0.nodes (c.loop-i.i - 1) (omega arith)
 
 loop-less : tie.Need-loop-i-smaller invariant-loop decreases-loop
 loop-less c = search rules
 
 loop-again : tie.Need-loop-i-preserved invariant-loop decreases-loop
 loop-again c =
-    let r = c in
-    let g = r in
-    let l = g in
-    let a = l.args in
-    let i = l.loop-i.i - 1 in
-    let z : l.loop-i.i ≡ suc i = omega arith in (
+    let a = c.args in
+    let i = c.loop-i.i - 1 in
+    let z : c.loop-i.i ≡ suc i = omega arith in (
       omega arith,
-      back-next a.route.now _ _ false _ (rw z at l.loop-i.invariant.1) (omega arith)
-          (r.rides-on.ensures ∙ (λ u. fits_at a.h.now a.ride i && ((eqb (get_or a.route.now ((z ∙ sym (add-one i)) u) 0) a.partner.node || g.holds.ensures u) || l.loop-i.on))) c.strike-w.ensures,
+      back-next a.route.now _ _ false _ (rw z at c.loop-i.invariant.1) (omega arith)
+          (c.rides-on.ensures ∙ (λ u. fits_at a.h.now a.ride i && ((eqb (get_or a.route.now ((z ∙ sym (add-one i)) u) 0) a.partner.node || c.holds.ensures u) || c.loop-i.on))) c.strike-w.ensures,
     )
 
 returns-3 : tie.Need-returns invariant-loop decreases-loop
 unfolding rides_down
 returns-3 c =
-    let l = c in
-    let e : l.loop-i.i ≡ 0 = omega arith in
-    rw e at l.loop-i.invariant.1.kept
+    let e : c.loop-i.i ≡ 0 = omega arith in
+    rw e at c.loop-i.invariant.1.kept
 
 pub backward_spec : {M : Type 1} → statement M
 backward_spec =

@@ -44,13 +44,11 @@ loop-less c = omega arith
 
 loop-again : tie.Need-loop-i-preserved invariant-loop decreases-loop
 loop-again c =
-    let l = c in
-    let v = l.loop-i in
-    let o = l in
-    let p = get_or o.args.route.now v.i 0 in (
+    let v = c.loop-i in
+    let p = get_or c.args.route.now v.i 0 in (
       omega arith,
       sym (get_or-set_same v.before (v.i + 1) _ 0 (omega (arith, v.invariant.2.long))),
-      before_more (o.requires.2 v.i c.loop-i-test.true) (omega arith) (c.put-w.ensures ∙ ap (λ (w : ℕ). with w p) v.invariant.1) v.invariant.2,
+      before_more (c.requires.2 v.i c.loop-i-test.true) (omega arith) (c.put-w.ensures ∙ ap (λ (w : ℕ). with w p) v.invariant.1) v.invariant.2,
     )
 
 returns : tie.Need-returns invariant-loop decreases-loop

@@ -32,7 +32,7 @@ holds-requires c κs = c.requires.2 c.loop-i.i c.loop-i-test.true
 
 returns-2 : tie.Need-returns-then-holds invariant-loop decreases-loop
 returns-2 c =
-    let l = c in (omega arith, l.loop-i.invariant.1, λ h. sym c.holds.ensures ∙ c.if-holds.true)
+    (omega arith, c.loop-i.invariant.1, λ h. sym c.holds.ensures ∙ c.if-holds.true)
 
 add-i : tie.Need-overflow_add-i invariant-loop decreases-loop
 add-i c = omega arith
@@ -42,15 +42,14 @@ loop-less c = omega arith
 
 loop-again : tie.Need-loop-i-preserved invariant-loop decreases-loop
 loop-again c =
-    let l = c in
-    let a = l.args in (
+    let a = c.args in (
       omega arith,
-      λ k h. fails-at (λ i. has a.places (get_or a.route.now i 0)) l.loop-i.i k (sym c.holds.ensures ∙ c.if-holds.false) (λ n. l.loop-i.invariant.1 k (omega arith)),
+      λ k h. fails-at (λ i. has a.places (get_or a.route.now i 0)) c.loop-i.i k (sym c.holds.ensures ∙ c.if-holds.false) (λ n. c.loop-i.invariant.1 k (omega arith)),
     )
 
 returns-3 : tie.Need-returns invariant-loop decreases-loop
 returns-3 c =
-    let l = c in let e : l.loop-i.i ≡ l.args.end = omega arith in (omega arith, rw e at l.loop-i.invariant.1, λ h. absurd (omega arith))
+    let e : c.loop-i.i ≡ c.args.end = omega arith in (omega arith, rw e at c.loop-i.invariant.1, λ h. absurd (omega arith))
 
 pub first_open_spec : {M : Type 1} → statement M
 first_open_spec =

@@ -54,12 +54,8 @@ less-requires c κs = search rules
 
 returns-2 : tie.Need-returns-then-fits_all invariant-loop decreases-loop
 returns-2 c =
-    let f = c in
-    let s = f in
-    let a = s in
-    let o = a in
-    let r = first-rides o.requires.0 (leb-true _ _ (sym a.fits_all.ensures ∙ s.if-fits_all.true)) o.requires.1 o.args.partner o.requires.2 refl s.choose-end.ensures f.first_open-first.ensures in
-    kept-front o.requires.1 (omega (arith, ends c.before.before.before.before, f.first_open-first.ensures.0)) c.less.ensures r
+    let r = first-rides c.requires.0 (leb-true _ _ (sym c.fits_all.ensures ∙ c.if-fits_all.true)) c.requires.1 c.args.partner c.requires.2 refl c.choose-end.ensures c.first_open-first.ensures in
+    kept-front c.requires.1 (omega (arith, ends c.before.before.before.before, c.first_open-first.ensures.0)) c.less.ensures r
 
 loop-holds : tie.Need-loop-i-init invariant-loop decreases-loop
 loop-holds c = (omega arith, forth-begin _ _ _ _)
@@ -71,7 +67,7 @@ element-copy-out-p : tie.Need-bounds-route-i invariant-loop decreases-loop
 element-copy-out-p c = omega (arith, c.requires.0.few)
 
 holds-requires : tie.Need-holds-requires invariant-loop decreases-loop
-holds-requires c κs = let l = c in l.requires.0.nodes l.loop-i.i (omega arith)
+holds-requires c κs = c.requires.0.nodes c.loop-i.i (omega arith)
 
 mul-rides : tie.Need-offset_bounds-h-i invariant-loop decreases-loop
 mul-rides c = search rules
@@ -80,10 +76,10 @@ element-copy-out-rides : tie.Need-bounds-h-i invariant-loop decreases-loop
 element-copy-out-rides c = search rules
 
 rides-requires : tie.Need-rides-on-requires invariant-loop decreases-loop
-rides-requires c κs = let l = c in asks-room l.requires.0 l.loop-i.i (omega arith)
+rides-requires c κs = asks-room c.requires.0 c.loop-i.i (omega arith)
 
 strike-requires : tie.Need-strike-w-requires invariant-loop decreases-loop
-strike-requires c κs = let l = c in l.requires.0.nodes l.loop-i.i (omega arith)
+strike-requires c κs = c.requires.0.nodes c.loop-i.i (omega arith)
 
 add-i : tie.Need-overflow_add-i invariant-loop decreases-loop
 add-i c = search rules
@@ -93,21 +89,17 @@ loop-less c = search rules
 
 loop-again : tie.Need-loop-i-preserved invariant-loop decreases-loop
 loop-again c =
-    let r = c in
-    let g = r in
-    let l = g in
-    let a = l.args in (
+    let a = c.args in (
       omega arith,
-      forth-next a.route.now _ _ false l.loop-i.invariant.1
-          (r.rides-on.ensures ∙ (λ u. fits_at a.h.now a.ride l.loop-i.i && ((eqb (get_or a.route.now l.loop-i.i 0) a.partner.node || g.holds.ensures u) || l.loop-i.on))) c.strike-w.ensures,
+      forth-next a.route.now _ _ false c.loop-i.invariant.1
+          (c.rides-on.ensures ∙ (λ u. fits_at a.h.now a.ride c.loop-i.i && ((eqb (get_or a.route.now c.loop-i.i 0) a.partner.node || c.holds.ensures u) || c.loop-i.on))) c.strike-w.ensures,
     )
 
 returns-3 : tie.Need-returns invariant-loop decreases-loop
 unfolding rides_up
 returns-3 c =
-    let l = c in
-    let e : l.loop-i.i ≡ l.args.ride.legs = omega arith in
-    rw e at l.loop-i.invariant.1.kept
+    let e : c.loop-i.i ≡ c.args.ride.legs = omega arith in
+    rw e at c.loop-i.invariant.1.kept
 
 pub forward_spec : {M : Type 1} → statement M
 forward_spec =

@@ -23,7 +23,7 @@ fits-all-requires : tie.Need-fits_all-requires invariant-loop decreases-loop
 fits-all-requires c κs = let g = c.requires in (g.high, g.low)
 
 returns-2 : tie.Need-returns-then-fits_all invariant-loop decreases-loop
-returns-2 c = let o = c in kept-pass (λ i a b. start-roomy o.requires (leb-true _ _ (sym o.fits_all.ensures ∙ c.if-fits_all.true)) i b)
+returns-2 c = kept-pass (λ i a b. start-roomy c.requires (leb-true _ _ (sym c.fits_all.ensures ∙ c.if-fits_all.true)) i b)
 
 loop-holds : tie.Need-loop-i-init invariant-loop decreases-loop
 loop-holds c = (omega arith, forth-begin _ _ _ _)
@@ -35,7 +35,7 @@ element-copy-out-rides : tie.Need-bounds-h-i invariant-loop decreases-loop
 element-copy-out-rides c = omega (arith, c.requires.few)
 
 rides-requires : tie.Need-rides-on-requires invariant-loop decreases-loop
-rides-requires c κs = let l = c in asks-room l.requires l.loop-i.i (omega arith)
+rides-requires c κs = asks-room c.requires c.loop-i.i (omega arith)
 
 mul-strike : tie.Need-offset_bounds-route-i invariant-loop decreases-loop
 mul-strike c = omega (arith, c.requires.few)
@@ -44,7 +44,7 @@ element-copy-out-strike : tie.Need-bounds-route-i invariant-loop decreases-loop
 element-copy-out-strike c = omega (arith, c.requires.few)
 
 strike-requires : tie.Need-strike-w-requires invariant-loop decreases-loop
-strike-requires c κs = let l = c in l.requires.nodes l.loop-i.i (omega arith)
+strike-requires c κs = c.requires.nodes c.loop-i.i (omega arith)
 
 add-i : tie.Need-overflow_add-i invariant-loop decreases-loop
 add-i c = search rules
@@ -54,16 +54,13 @@ loop-less c = search rules
 
 loop-again : tie.Need-loop-i-preserved invariant-loop decreases-loop
 loop-again c =
-    let r = c in
-    let l = r in
-    (omega arith, forth-next _ _ _ true l.loop-i.invariant.1 r.rides-on.ensures c.strike-w.ensures)
+    (omega arith, forth-next _ _ _ true c.loop-i.invariant.1 c.rides-on.ensures c.strike-w.ensures)
 
 returns-3 : tie.Need-returns invariant-loop decreases-loop
 unfolding from_start
 returns-3 c =
-    let l = c in
-    let e : l.loop-i.i ≡ l.args.ride.legs = omega arith in
-    rw e at l.loop-i.invariant.1.kept
+    let e : c.loop-i.i ≡ c.args.ride.legs = omega arith in
+    rw e at c.loop-i.invariant.1.kept
 
 pub from_start_spec : {M : Type 1} → statement M
 from_start_spec =

@@ -35,25 +35,22 @@ holds-requires c κs = c.requires.3 (c.loop-past.past - 1) (omega arith)
 
 returns-2 : tie.Need-returns-then-holds invariant-loop decreases-loop
 returns-2 c =
-    let l = c in
-    (omega arith, omega arith, l.loop-past.invariant.2, λ h. sym c.holds.ensures ∙ c.if-holds.true)
+    (omega arith, omega arith, c.loop-past.invariant.2, λ h. sym c.holds.ensures ∙ c.if-holds.true)
 
 loop-less : tie.Need-loop-past-smaller invariant-loop decreases-loop
 loop-less c = omega arith
 
 loop-again : tie.Need-loop-past-preserved invariant-loop decreases-loop
 loop-again c =
-    let l = c in
-    let a = l.args in (
+    let a = c.args in (
       omega arith,
       omega arith,
-      λ k g h. fails-at (λ i. has a.places (get_or a.route.now i 0)) (l.loop-past.past - 1) k (sym c.holds.ensures ∙ c.if-holds.false) (λ n. l.loop-past.invariant.2 k (omega arith) h),
+      λ k g h. fails-at (λ i. has a.places (get_or a.route.now i 0)) (c.loop-past.past - 1) k (sym c.holds.ensures ∙ c.if-holds.false) (λ n. c.loop-past.invariant.2 k (omega arith) h),
     )
 
 returns-3 : tie.Need-returns invariant-loop decreases-loop
 returns-3 c =
-    let l = c in
-    let e : l.loop-past.past ≡ l.args.start = omega arith in (omega arith, omega arith, rw e at l.loop-past.invariant.2, λ h. absurd (omega arith))
+    let e : c.loop-past.past ≡ c.args.start = omega arith in (omega arith, omega arith, rw e at c.loop-past.invariant.2, λ h. absurd (omega arith))
 
 pub last_open_spec : {M : Type 1} → statement M
 last_open_spec =

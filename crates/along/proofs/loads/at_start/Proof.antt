@@ -26,16 +26,16 @@ element-copy-out-x : tie.Need-bounds-route-i invariant-loop decreases-loop
 element-copy-out-x c = omega (arith, c.requires.route.long, c.requires.route.most)
 
 mul-sum : tie.Need-offset_bounds-t-x invariant-loop decreases-loop
-mul-sum c = let o = c in let l = c.loop-i in omega (arith, near o.requires l.i (omega arith))
+mul-sum c = let l = c.loop-i in omega (arith, near c.requires l.i (omega arith))
 
 element-copy-out-sum : tie.Need-bounds-t-x invariant-loop decreases-loop
-element-copy-out-sum c = let o = c in let l = c.loop-i in omega (arith, near o.requires l.i (omega arith), o.requires.jobs.long)
+element-copy-out-sum c = let l = c.loop-i in omega (arith, near c.requires l.i (omega arith), c.requires.jobs.long)
 
 cast-sum : tie.Need-overflow_cast-sum invariant-loop decreases-loop
-cast-sum c = let o = c in let l = c.loop-i in omega (arith, low o.requires (get_or o.args.route.now l.i 0))
+cast-sum c = let l = c.loop-i in omega (arith, low c.requires (get_or c.args.route.now l.i 0))
 
 add-sum : tie.Need-overflow_add-sum invariant-loop decreases-loop
-add-sum c = let o = c in let l = c.loop-i in omega (arith, l.invariant.1, low o.requires (get_or o.args.route.now l.i 0), o.requires.route.most)
+add-sum c = let l = c.loop-i in omega (arith, l.invariant.1, low c.requires (get_or c.args.route.now l.i 0), c.requires.route.most)
 
 add-i : tie.Need-overflow_add-i invariant-loop decreases-loop
 add-i c = omega arith
@@ -45,16 +45,14 @@ loop-less c = omega arith
 
 loop-again : tie.Need-loop-i-preserved invariant-loop decreases-loop
 loop-again c =
-    let o = c in
     let l = c.loop-i in
-    (omega arith, omega (arith, l.invariant.1, low o.requires (get_or o.args.route.now l.i 0)), omega (arith, l.invariant.2, start-next o.requires l.i (omega arith)))
+    (omega arith, omega (arith, l.invariant.1, low c.requires (get_or c.args.route.now l.i 0)), omega (arith, l.invariant.2, start-next c.requires l.i (omega arith)))
 
 returns : tie.Need-returns invariant-loop decreases-loop
 returns c =
-    let o = c in
     let l = c.loop-i in
-    let e : l.i ≡ o.args.stops = omega arith in
-    (omega (arith, l.invariant.2, empty-load o.requires l.i e), omega (arith, l.invariant.1, o.requires.route.most))
+    let e : l.i ≡ c.args.stops = omega arith in
+    (omega (arith, l.invariant.2, empty-load c.requires l.i e), omega (arith, l.invariant.1, c.requires.route.most))
 
 pub at_start_spec : {M : Type 1} → statement M
 at_start_spec =

@@ -15,7 +15,7 @@ element-copy-out-soiled : tie.Need-bounds-t-x
 element-copy-out-soiled c = search rules
 
 cast-soiled : tie.Need-overflow_cast-soiled
-cast-soiled c = let o = c in omega (arith, o.requires.2 (64 + o.args.x))
+cast-soiled c = omega (arith, c.requires.2 (64 + c.args.x))
 
 add-result : tie.Need-overflow_add-result
 add-result c = search rules
@@ -27,10 +27,10 @@ element-copy-out-result : tie.Need-bounds-t-x-then-ends
 element-copy-out-result c = search rules
 
 cast-result : tie.Need-overflow_cast-result
-cast-result c = let o = c in omega (arith, o.requires.2 (128 + o.args.x))
+cast-result c = omega (arith, c.requires.2 (128 + c.args.x))
 
 add-result-2 : tie.Need-overflow_add-result-then-ends
-add-result-2 c = let o = c in omega (arith, o.requires.2 (64 + o.args.x), o.requires.2 (128 + o.args.x))
+add-result-2 c = omega (arith, c.requires.2 (64 + c.args.x), c.requires.2 (128 + c.args.x))
 
 returns : tie.Need-returns-then-ends
 returns c = rw c.if-ends.true refl

@@ -12,7 +12,7 @@ element-copy-out-clean : tie.Need-bounds-t-x
 element-copy-out-clean c = search rules
 
 cast-clean : tie.Need-overflow_cast-clean
-cast-clean c = let o = c in omega (arith, o.requires.2 o.args.x)
+cast-clean c = omega (arith, c.requires.2 c.args.x)
 
 add-result : tie.Need-overflow_add-result
 add-result c = search rules
@@ -24,10 +24,10 @@ element-copy-out-result : tie.Need-bounds-t-x-then-begun
 element-copy-out-result c = search rules
 
 cast-result : tie.Need-overflow_cast-result
-cast-result c = let o = c in omega (arith, o.requires.2 (192 + o.args.x))
+cast-result c = omega (arith, c.requires.2 (192 + c.args.x))
 
 add-result-2 : tie.Need-overflow_add-result-then-begun
-add-result-2 c = let o = c in omega (arith, o.requires.2 o.args.x, o.requires.2 (192 + o.args.x))
+add-result-2 c = omega (arith, c.requires.2 c.args.x, c.requires.2 (192 + c.args.x))
 
 returns : tie.Need-returns-then-begun
 returns c = rw c.if-begun.true refl

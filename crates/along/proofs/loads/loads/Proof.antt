@@ -32,60 +32,51 @@ element-copy-out-x : tie.Need-bounds-route-i invariant-loop decreases-loop
 element-copy-out-x c = let r = c.requires.0.route in omega (arith, r.long, r.most)
 
 add-other : tie.Need-overflow_add-other invariant-loop decreases-loop
-add-other c = let o = c in let l = c.loop-i in omega (arith, near o.requires.0 l.i (omega arith))
+add-other c = let l = c.loop-i in omega (arith, near c.requires.0 l.i (omega arith))
 
 mul-other : tie.Need-offset_bounds-t-x invariant-loop decreases-loop
-mul-other c = let o = c in let l = c.loop-i in omega (arith, near o.requires.0 l.i (omega arith))
+mul-other c = let l = c.loop-i in omega (arith, near c.requires.0 l.i (omega arith))
 
 element-copy-out-other : tie.Need-bounds-t-x invariant-loop decreases-loop
 element-copy-out-other c =
-    let o = c in
-    let l = c.loop-i in omega (arith, near o.requires.0 l.i (omega arith), o.requires.0.jobs.long)
+    let l = c.loop-i in omega (arith, near c.requires.0 l.i (omega arith), c.requires.0.jobs.long)
 
 cast-other : tie.Need-overflow_cast-other invariant-loop decreases-loop
 cast-other c =
-    let o = c in
-    let l = c.loop-i in omega (arith, low o.requires.0 (256 + get_or o.args.route.now l.i 0))
+    let l = c.loop-i in omega (arith, low c.requires.0 (256 + get_or c.args.route.now l.i 0))
 
 mul-k : tie.Need-offset_bounds-spots-other invariant-loop decreases-loop
 mul-k c =
-    let o = c in
-    let l = c.loop-i in omega (arith, o.requires.0.jobs.near _ (near o.requires.0 l.i (omega arith)))
+    let l = c.loop-i in omega (arith, c.requires.0.jobs.near _ (near c.requires.0 l.i (omega arith)))
 
 element-copy-out-k : tie.Need-bounds-spots-other invariant-loop decreases-loop
 element-copy-out-k c =
-    let o = c in
-    let l = c.loop-i in omega (arith, o.requires.0.jobs.near _ (near o.requires.0 l.i (omega arith)), o.requires.1.long)
+    let l = c.loop-i in omega (arith, c.requires.0.jobs.near _ (near c.requires.0 l.i (omega arith)), c.requires.1.long)
 
 comes-requires : tie.Need-comes-up-requires invariant-loop decreases-loop
 comes-requires c κs =
-    let o = c in
-    let l = c.loop-i in (o.requires.0.jobs.long, near o.requires.0 l.i (omega arith), low o.requires.0)
+    let l = c.loop-i in (c.requires.0.jobs.long, near c.requires.0 l.i (omega arith), low c.requires.0)
 
 goes-requires : tie.Need-goes-down-requires invariant-loop decreases-loop
 goes-requires c κs =
-    let o = c in
-    let l = c.loop-i in (o.requires.0.jobs.long, near o.requires.0 l.i (omega arith), low o.requires.0)
+    let l = c.loop-i in (c.requires.0.jobs.long, near c.requires.0 l.i (omega arith), low c.requires.0)
 
 add-aboard : tie.Need-overflow_add-aboard invariant-loop decreases-loop
 add-aboard c =
-    let o = c in
     let l = c.loop-i in
-    omega (arith, l.invariant.1.few, o.requires.0.route.most, up-few o.requires.0 o.requires.1 l.invariant.1 (omega arith) c.comes-up.ensures c.goes-down.ensures)
+    omega (arith, l.invariant.1.few, c.requires.0.route.most, up-few c.requires.0 c.requires.1 l.invariant.1 (omega arith) c.comes-up.ensures c.goes-down.ensures)
 
 sub-aboard : tie.Need-overflow_sub-aboard invariant-loop decreases-loop
 sub-aboard c =
-    let o = c in
     let l = c.loop-i in
-    down-few o.requires.0 o.requires.1 l.invariant.1 (omega arith) c.comes-up.ensures c.goes-down.ensures
+    down-few c.requires.0 c.requires.1 l.invariant.1 (omega arith) c.comes-up.ensures c.goes-down.ensures
 
 mul-h : tie.Need-offset_bounds-h-i invariant-loop decreases-loop
 mul-h c = omega (arith, c.requires.0.route.most)
 
 element-write-h : tie.Need-bounds-h-i invariant-loop decreases-loop
 element-write-h c =
-    let o = c in
-    let l = c.loop-i in omega (arith, o.requires.0.route.most, l.invariant.1.legs.long)
+    let l = c.loop-i in omega (arith, c.requires.0.route.most, l.invariant.1.legs.long)
 
 add-i : tie.Need-overflow_add-i-in-loop-i invariant-loop decreases-loop
 add-i c = omega arith
@@ -95,11 +86,9 @@ loop-less c = omega arith
 
 loop-again : tie.Need-loop-i-preserved invariant-loop decreases-loop
 loop-again c =
-    let g = c in
-    let o = g in
-    let l = g.loop-i in (
+    let l = c.loop-i in (
       omega arith,
-      riding-next o.requires.0 o.requires.1 l.invariant.1 (omega arith) g.comes-up.ensures g.goes-down.ensures refl
+      riding-next c.requires.0 c.requires.1 l.invariant.1 (omega arith) c.comes-up.ensures c.goes-down.ensures refl
           (elim c.if-highest-aboard.branch [ then-highest-aboard w ↦ omega arith | else-highest-aboard w ↦ omega arith ]),
     )
 
@@ -112,10 +101,9 @@ cast-heaviest c = omega (arith, low c.requires.0 320)
 returns : tie.Need-returns invariant-loop decreases-loop
 returns c =
     let l = c.loop-i in
-    let o = c in
-    let e : l.i ≡ o.args.stops - 1 = omega arith in (
+    let e : l.i ≡ c.args.stops - 1 = omega arith in (
       rw e at l.invariant.1.legs,
-      record { highest = rw e at l.invariant.1.peak; heaviest = o.requires.0.jobs.heaviest },
+      record { highest = rw e at l.invariant.1.peak; heaviest = c.requires.0.jobs.heaviest },
     )
 
 pub loads_spec : {M : Type 1} → statement M

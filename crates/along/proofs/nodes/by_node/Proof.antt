@@ -27,12 +27,11 @@ job-requires c κs = (c.requires.0, omega arith)
 enter-requires : tie.Need-enter-requires invariant-loop decreases-loop
 enter-requires c κs =
     let l = c.loop-j in
-    let o = c in
     let q = c.job-job in (
-      placed-read o.requires.0 l.j (omega arith) q.ensures,
-      omega (arith, ap load_of q.ensures, (job-load o.requires.0 l.j (omega arith)).1),
+      placed-read c.requires.0 l.j (omega arith) q.ensures,
+      omega (arith, ap load_of q.ensures, (job-load c.requires.0 l.j (omega arith)).1),
       l.invariant.1.long,
-      λ i. omega (arith, l.invariant.1.low i, jobs-are o.requires.0, o.requires.0.fine.m-high),
+      λ i. omega (arith, l.invariant.1.low i, jobs-are c.requires.0, c.requires.0.fine.m-high),
     )
 
 load-requires : tie.Need-load-load-requires invariant-loop decreases-loop
@@ -40,10 +39,9 @@ load-requires c κs = tt
 
 cast-load : tie.Need-overflow_cast-load invariant-loop decreases-loop
 cast-load c =
-    let e = c in
-    let q = e.job-job in
-    let l = e.loop-j in
-    let o = e in omega (arith, c.load-load.ensures, ap load_of q.ensures, (job-load o.requires.0 l.j (omega arith)).1)
+    let q = c.job-job in
+    let l = c.loop-j in
+    omega (arith, c.load-load.ensures, ap load_of q.ensures, (job-load c.requires.0 l.j (omega arith)).1)
 
 element-copy-out-most : tie.Need-bounds-t-320 invariant-loop decreases-loop
 element-copy-out-most c = omega (arith, c.enter.ensures.long)
@@ -59,15 +57,13 @@ loop-less c = omega arith
 
 loop-again : tie.Need-loop-j-preserved invariant-loop decreases-loop
 loop-again c =
-    let e = c in
-    let q = e.job-job in
-    let l = e.loop-j in
-    let o = e in
-    let light : load_of q.result ≤ 1000 = omega (arith, ap load_of q.ensures, (job-load o.requires.0 l.j (omega arith)).1) in
+    let q = c.job-job in
+    let l = c.loop-j in
+    let light : load_of q.result ≤ 1000 = omega (arith, ap load_of q.ensures, (job-load c.requires.0 l.j (omega arith)).1) in
     let w = c.load-load.ensures in (
       omega arith,
-      nodes-next q.ensures (placed-read o.requires.0 l.j (omega arith) q.ensures) light
-          (elim c.if-most-load.branch [ then-most-load t ↦ omega (arith, w) | else-most-load t ↦ omega (arith, w) ]) e.enter.ensures l.invariant.1,
+      nodes-next q.ensures (placed-read c.requires.0 l.j (omega arith) q.ensures) light
+          (elim c.if-most-load.branch [ then-most-load t ↦ omega (arith, w) | else-most-load t ↦ omega (arith, w) ]) c.enter.ensures l.invariant.1,
     )
 
 returns : tie.Need-returns invariant-loop decreases-loop

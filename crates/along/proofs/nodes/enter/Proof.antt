@@ -81,12 +81,11 @@ element-copy-out-t-4 c = let h : c.in-Transfer.to < 64 = (rw c.in-Transfer.is at
 
 add-t-7 : tie.Need-overflow_add-t-in-Transfer-4
 add-t-7 c =
-    let q = c in
-    let p = q.requires in
-    let g = q.in-Transfer in
+    let p = c.requires in
+    let g = c.in-Transfer in
     let h = rw g.is at p.0 in
     let w : g.load ≤ 1000 = rw g.is at p.1 in
-    omega (arith, w, second-low q.args.t.now p.2 g.from g.to g.load h.0 h.1 w p.3)
+    omega (arith, w, second-low c.args.t.now p.2 g.from g.to g.load h.0 h.1 w p.3)
 
 element-write-t-4 : tie.Need-bounds-t-to-in-Transfer
 element-write-t-4 c = let h : c.in-Transfer.to < 64 = (rw c.in-Transfer.is at c.requires.0).1 in omega (arith, h)
@@ -117,26 +116,23 @@ element-write-t-6 c = let h : c.in-Transfer.to < 64 = (rw c.in-Transfer.is at c.
 
 returns : tie.Need-returns-in-Clean
 returns c =
-    let q = c in
-    let p = q.requires in
-    let g = q.in-Clean in
-    rw g.is (entered-clean q.args.t.now p.2 g.node g.load (rw g.is at p.0) (rw g.is at p.1))
+    let p = c.requires in
+    let g = c.in-Clean in
+    rw g.is (entered-clean c.args.t.now p.2 g.node g.load (rw g.is at p.0) (rw g.is at p.1))
 
 returns-2 : tie.Need-returns-in-Soiled
 returns-2 c =
-    let q = c in
-    let p = q.requires in
-    let g = q.in-Soiled in
-    rw g.is (entered-soiled q.args.t.now p.2 g.node g.load (rw g.is at p.0) (rw g.is at p.1))
+    let p = c.requires in
+    let g = c.in-Soiled in
+    rw g.is (entered-soiled c.args.t.now p.2 g.node g.load (rw g.is at p.0) (rw g.is at p.1))
 
 returns-3 : tie.Need-returns-in-Transfer
 returns-3 c =
-    let q = c in
-    let p = q.requires in
-    let g = q.in-Transfer in
+    let p = c.requires in
+    let g = c.in-Transfer in
     let h = rw g.is at p.0 in
     let w : g.load ≤ 1000 = rw g.is at p.1 in
-    rw g.is (entered-transfer q.args.t.now p.2 g.from g.to g.load h.0 h.1 w)
+    rw g.is (entered-transfer c.args.t.now p.2 g.from g.to g.load h.0 h.1 w)
 
 pub enter_spec : {M : Type 1} → statement M
 enter_spec =

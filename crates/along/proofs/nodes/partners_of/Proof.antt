@@ -48,9 +48,8 @@ loop-less c = let l = c.loop-left in omega (arith, c.rest-left.ensures, rest-les
 
 loop-again : tie.Need-loop-left-preserved invariant-loop decreases-loop
 loop-again c =
-    let l = c in
     rw (c.rest-left.ensures, c.put-word.ensures)
-    (named-next (omega arith) l.requires.1 l.loop-left.invariant c.lowest-x.ensures.0 refl)
+    (named-next (omega arith) c.requires.1 c.loop-left.invariant c.lowest-x.ensures.0 refl)
 
 returns : tie.Need-returns invariant-loop decreases-loop
 returns c = let e : c.loop-left.left ≡ 0 = omega arith in named-all (rw e at c.loop-left.invariant)

@@ -40,19 +40,17 @@ loop-less c = omega arith
 loop-again : tie.Need-loop-i-preserved invariant-loop decreases-loop
 loop-again c =
     let v = c.loop-i in
-    let o = c in
-    let p = get_or o.args.route.now v.i 0 in (
+    let p = get_or c.args.route.now v.i 0 in (
       omega arith,
-      λ x. ap (λ (k : ℕ). has k x) c.put-w.ensures ∙ has-with v.w p x (o.requires.2 v.i c.loop-i-test.true)
-          ∙ ap (λ (b : Bool). eqb p x || b) (v.invariant.1 x) ∙ ap (λ (k : ℕ). mem x (behind o.args.route.now k)) (sym (add-one v.i)),
+      λ x. ap (λ (k : ℕ). has k x) c.put-w.ensures ∙ has-with v.w p x (c.requires.2 v.i c.loop-i-test.true)
+          ∙ ap (λ (b : Bool). eqb p x || b) (v.invariant.1 x) ∙ ap (λ (k : ℕ). mem x (behind c.args.route.now k)) (sym (add-one v.i)),
     )
 
 returns : tie.Need-returns invariant-loop decreases-loop
 returns c = λ x.
-    let o = c in
-    let e : c.loop-i.i ≡ o.args.stops = omega arith in
-    c.loop-i.invariant.1 x ∙ ap (λ (k : ℕ). mem x (behind o.args.route.now k)) e
-    ∙ behind-on o.args.route.now o.args.stops (omega (arith, o.requires.0, o.requires.1)) x
+    let e : c.loop-i.i ≡ c.args.stops = omega arith in
+    c.loop-i.invariant.1 x ∙ ap (λ (k : ℕ). mem x (behind c.args.route.now k)) e
+    ∙ behind-on c.args.route.now c.args.stops (omega (arith, c.requires.0, c.requires.1)) x
 
 pub word_spec : {M : Type 1} → statement M
 word_spec =

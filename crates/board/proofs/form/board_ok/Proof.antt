@@ -27,8 +27,7 @@ element-copy-out-if3 c = search rules
 returns-3 : tie.Need-returns-then-route-ne0
 unfolding board_ok
 returns-3 c =
-    let d = c in
-    rw (le-leb 2 _ d.if-stops-lt2.false, le-leb _ _ d.if-n-stops.false, ne_eqb _ 0 c.if-route-ne0.true)
+    rw (le-leb 2 _ c.if-stops-lt2.false, le-leb _ _ c.if-n-stops.false, ne_eqb _ 0 c.if-route-ne0.true)
 
 sub-if4 : tie.Need-overflow_sub-stops
 sub-if4 c = search rules
@@ -45,8 +44,7 @@ sub-if4-2 c = search rules
 returns-4 : tie.Need-returns-then-route-stops
 unfolding board_ok
 returns-4 c =
-    let d = c in
-    rw (le-leb 2 _ d.if-stops-lt2.false, le-leb _ _ d.if-n-stops.false, eq-eqb _ 0 d.if-route-ne0.false, ne_eqb _ _ c.if-route-stops.true)
+    rw (le-leb 2 _ c.if-stops-lt2.false, le-leb _ _ c.if-n-stops.false, eq-eqb _ 0 c.if-route-ne0.false, ne_eqb _ _ c.if-route-stops.true)
 
 abbrev start : tie.Else-route-stops → tie.Start
 start c = c.before.before.before.before.before.before.before
@@ -60,8 +58,7 @@ asked : (c : tie.Else-route-stops) → let b = here (start c) in let n = (start 
     board_ok n b ≡ ((all_below b.stops (stop_ok n b.stops b.route) && all_below 64 (zero_from b.stops b.route)) && all_below 64 (λ y. set_ok n b y && (mark_ok n b y && must_ok n b y)))
 asked c =
     let s = start c in
-    let d = c in
-    board-test s.args.n (here s) s.requires.0 d.if-stops-lt2.false d.if-n-stops.false c.if-route-ne0.false c.if-route-stops.false
+    board-test s.args.n (here s) s.requires.0 c.if-stops-lt2.false c.if-n-stops.false c.if-route-ne0.false c.if-route-stops.false
 
 -- a set that is not 0: the stops are as they must be, and it is theirs
 seen : (c : tie.Else-on-eq0) → let b = here (start c.before.before) in let n = (start c.before.before).args.n in
@@ -77,7 +74,6 @@ seen-of-requires c κs = search rules
 
 returns-5 : tie.Need-returns-then-on-eq0
 returns-5 c =
-    let d = c in
     let a = (start c.before.before).args in
     rw (asked c.before.before, seen_none a.n a.stops a.route.now (start c.before.before).requires.0 (omega arith) (sym c.seen_of-on.ensures ∙ c.if-on-eq0.true))
 
@@ -89,7 +85,6 @@ returns-6 c = rw (asked c.before.before.before.before, (seen c.before.before).0,
 
 stops-shut-requires : tie.Need-stops_shut-requires
 stops-shut-requires c κs =
-    let d = c in
     let a = (start c.before.before.before.before).args in
     (omega arith, λ i h. omega (arith, stop-below a.n a.stops a.route.now i h (below_at a.stops i (stop_ok a.n a.stops a.route.now) (seen c.before.before).0 h)))
 
@@ -104,19 +99,17 @@ marks-ok-requires-2 c κs = search rules
 
 returns-7 : tie.Need-returns
 returns-7 c =
-    let e = c in
-    let d = e in
     let s = start c.before.before.before.before.before.before.before.before in
     rw (
       asked c.before.before.before.before.before.before.before.before,
       (seen c.before.before.before.before.before.before).0,
-      sym e.none_from.ensures ∙ e.if-not-none_from.false,
+      sym c.none_from.ensures ∙ c.if-not-none_from.false,
       c.stops_shut.ensures,
       c.sets_ok.ensures,
       c.marks_ok.ensures,
       c.marks_ok-2.ensures,
       (seen c.before.before.before.before.before.before).1,
-    ) (nodes-test s.args.n (here s) s.requires.0 (omega arith) (omega arith) d.if-route-stops.false (seen c.before.before.before.before.before.before).0)
+    ) (nodes-test s.args.n (here s) s.requires.0 (omega arith) (omega arith) c.if-route-stops.false (seen c.before.before.before.before.before.before).0)
 
 pub board_ok_spec : {M : Type 1} → statement M
 board_ok_spec =

@@ -34,12 +34,11 @@ element-copy-out-v c = omega arith
 
 returns-2 : tie.Need-returns-then-v-u invariant-loop decreases-loop
 returns-2 c =
-    let d = c in
-    let a = d.args in
-    let i = d.loop-i.i in
+    let a = c.args in
+    let i = c.loop-i.i in
     rw (
-      levels-test a.depth a.records a.levels.now d.if-depth-gt-LEVELS.false,
-      below_fails a.depth i (rises a.levels.now) d.loop-i-test.true (falls a.levels.now i (rw d.loop-i.invariant.1 at c.if-v-u.true)),
+      levels-test a.depth a.records a.levels.now c.if-depth-gt-LEVELS.false,
+      below_fails a.depth i (rises a.levels.now) c.loop-i-test.true (falls a.levels.now i (rw c.loop-i.invariant.1 at c.if-v-u.true)),
     )
 
 add-i : tie.Need-overflow_add-i invariant-loop decreases-loop
@@ -51,10 +50,9 @@ loop-less c = omega arith
 loop-again : tie.Need-loop-i-preserved invariant-loop decreases-loop
 unfolding rises
 loop-again c =
-    let d = c in
-    let l = d.args.levels.now in
-    let v = d.loop-i.invariant in
-    (omega arith, sym (before-next l d.loop-i.i), below_next d.loop-i.i (rises l) v.2 (le-leb _ _ (rw v.1 at c.if-v-u.false)))
+    let l = c.args.levels.now in
+    let v = c.loop-i.invariant in
+    (omega arith, sym (before-next l c.loop-i.i), below_next c.loop-i.i (rises l) v.2 (le-leb _ _ (rw v.1 at c.if-v-u.false)))
 
 -- past the loop the rising is known: what is left to ask
 asked : (c : tie.After-loop-i invariant-loop decreases-loop) → let a = c.args in

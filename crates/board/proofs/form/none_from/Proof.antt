@@ -37,12 +37,11 @@ loop-less c = omega arith
 
 loop-again : tie.Need-loop-i-preserved invariant-loop decreases-loop
 loop-again c =
-    let d = c in
-    let from = d.args.from in
-    let a = d.args.a.now in
-    let i = d.loop-i.i in
-    let v = d.loop-i.invariant in
-    (omega arith, omega arith, over-goes i (zero_from from a) true d.loop-i.rest (get_or a i 0) v.2 (zero-past from i a v.0))
+    let from = c.args.from in
+    let a = c.args.a.now in
+    let i = c.loop-i.i in
+    let v = c.loop-i.invariant in
+    (omega arith, omega arith, over-goes i (zero_from from a) true c.loop-i.rest (get_or a i 0) v.2 (zero-past from i a v.0))
 
 returns : tie.Need-returns invariant-loop decreases-loop
 returns c = let v = c.loop-i.invariant in flag-done _ _ _ v.1 c.loop-i-test.false v.2

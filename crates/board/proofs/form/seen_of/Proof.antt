@@ -33,19 +33,17 @@ element-copy-out-e c = omega arith
 tested : (c : tie.After-holds invariant-loop decreases-loop) → let a = c.args in
     stop_ok a.n a.stops a.route.now c.loop-i.i ≡ not c.holds.result
 tested c =
-    let d = c in
-    let a = d.args in
-    let i = d.loop-i.i in
-    stop-test a.n a.stops a.route.now i d.loop-i-test.true (omega arith) (omega arith) c.if-n-e.false
-    ∙ ap not (sym (c.holds.ensures ∙ ap (λ (w : ℕ). has w (get_or a.route.now i 0)) d.loop-i.invariant.1))
+    let a = c.args in
+    let i = c.loop-i.i in
+    stop-test a.n a.stops a.route.now i c.loop-i-test.true (omega arith) (omega arith) c.if-n-e.false
+    ∙ ap not (sym (c.holds.ensures ∙ ap (λ (w : ℕ). has w (get_or a.route.now i 0)) c.loop-i.invariant.1))
 
 returns : tie.Need-returns-then-n-e invariant-loop decreases-loop
 unfolding seen_of
 returns c =
-    let d = c in
-    let a = d.args in
-    let i = d.loop-i.i in
-    let l = d.loop-i-test.true in
+    let a = c.args in
+    let i = c.loop-i.i in
+    let l = c.loop-i-test.true in
     let f = stop_ok a.n a.stops a.route.now in
     rw (below_fails a.stops i f l (stop-far a.n a.stops a.route.now i l c.if-n-e.true))
 
@@ -55,10 +53,9 @@ holds-requires c κs = omega arith
 returns-2 : tie.Need-returns-then-holds invariant-loop decreases-loop
 unfolding seen_of
 returns-2 c =
-    let d = c in
-    let a = d.args in
+    let a = c.args in
     let f = stop_ok a.n a.stops a.route.now in
-    rw (below_fails a.stops d.loop-i.i f d.loop-i-test.true (tested c.before ∙ ap not c.if-holds.true))
+    rw (below_fails a.stops c.loop-i.i f c.loop-i-test.true (tested c.before ∙ ap not c.if-holds.true))
 
 put-requires : tie.Need-put-seen-requires invariant-loop decreases-loop
 put-requires c κs = omega arith

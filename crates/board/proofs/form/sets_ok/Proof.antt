@@ -53,21 +53,19 @@ loop-less c = omega arith
 
 loop-again : tie.Need-loop-y-preserved invariant-loop decreases-loop invariant-loop2 decreases-loop2
 loop-again c =
-    let d = c in
-    let a = d.args in
+    let a = c.args in
     let legs = without a.on (a.n - 1) in
-    let v = d.loop-y.invariant in
-    let y = d.loop-y.y in
+    let v = c.loop-y.invariant in
+    let y = c.loop-y.y in
     let one = set-inner a.n a.sets.now legs y v.0 (omega arith) in
-    (omega arith, omega arith, within-goes y (set_test a.n a.sets.now legs) (eqb (get_or a.sets.now 0 0) 0) legs d.loop-y.places (get_or a.sets.now y 0) v.2 one)
+    (omega arith, omega arith, within-goes y (set_test a.n a.sets.now legs) (eqb (get_or a.sets.now 0 0) 0) legs c.loop-y.places (get_or a.sets.now y 0) v.2 one)
 
 element-copy-out-over : tie.Need-bounds-sets-0 invariant-loop decreases-loop invariant-loop2 decreases-loop2
 element-copy-out-over c = omega arith
 
 loop2-holds : tie.Need-loop-y-2-init invariant-loop decreases-loop invariant-loop2 decreases-loop2
 loop2-holds c =
-    let d = c in
-    (omega arith, omega arith, d.loop-y.invariant.2 ∙ and_comm (eqb (get_or d.args.sets.now 0 0) 0) _)
+    (omega arith, omega arith, c.loop-y.invariant.2 ∙ and_comm (eqb (get_or c.args.sets.now 0 0) 0) _)
 
 mul-over : tie.Need-offset_bounds-sets-y-in-loop-y-2 invariant-loop decreases-loop invariant-loop2 decreases-loop2
 mul-over c = omega arith
@@ -83,14 +81,12 @@ loop2-less c = omega arith
 
 loop2-again : tie.Need-loop-y-2-preserved invariant-loop decreases-loop invariant-loop2 decreases-loop2
 loop2-again c =
-    let d = c in
-    let l = d in
-    let a = l.args in
+    let a = c.args in
     let legs = without a.on (a.n - 1) in
-    let v = d.loop-y-2.invariant in
-    let y = d.loop-y-2.y in
+    let v = c.loop-y-2.invariant in
+    let y = c.loop-y-2.y in
     let one = set-outer a.n a.sets.now legs y (outer a.n y (omega arith)) in
-    (omega arith, omega arith, over-goes y (set_test a.n a.sets.now legs) (within l.loop-y.places legs) d.loop-y-2.over (get_or a.sets.now y 0) v.2 one)
+    (omega arith, omega arith, over-goes y (set_test a.n a.sets.now legs) (within c.loop-y.places legs) c.loop-y-2.over (get_or a.sets.now y 0) v.2 one)
 
 take-requires : tie.Need-take-legs-requires invariant-loop decreases-loop invariant-loop2 decreases-loop2
 take-requires c κs = omega arith
@@ -100,10 +96,9 @@ within-requires c κs = search rules
 
 returns : tie.Need-returns invariant-loop decreases-loop invariant-loop2 decreases-loop2
 returns c =
-    let e = c in
-    let v = e.loop-y-2.invariant in
-    let legs = c.within.ensures ∙ ap (within e.loop-y.places) c.take-legs.ensures in
-    ap (λ (t : Bool). t && eqb e.loop-y-2.over 0) legs ∙ flag-done _ _ _ v.1 e.loop-y-2-test.false v.2
+    let v = c.loop-y-2.invariant in
+    let legs = c.within.ensures ∙ ap (within c.loop-y.places) c.take-legs.ensures in
+    ap (λ (t : Bool). t && eqb c.loop-y-2.over 0) legs ∙ flag-done _ _ _ v.1 c.loop-y-2-test.false v.2
 
 pub sets_ok_spec : {M : Type 1} → statement M
 sets_ok_spec =

@@ -40,9 +40,8 @@ loop-less c = omega arith
 loop-again : tie.Need-loop-i-preserved invariant-loop decreases-loop
 unfolding stop_shut
 loop-again c =
-    let d = c in
-    let a = d.args in
-    (omega arith, over-goes d.loop-i.i (stop_shut a.route.now a.sets.now) true d.loop-i.places _ d.loop-i.invariant.1 refl)
+    let a = c.args in
+    (omega arith, over-goes c.loop-i.i (stop_shut a.route.now a.sets.now) true c.loop-i.places _ c.loop-i.invariant.1 refl)
 
 returns : tie.Need-returns invariant-loop decreases-loop
 returns c = let v = c.loop-i.invariant in flag-done _ _ _ v.0 c.loop-i-test.false v.1

@@ -40,23 +40,18 @@ admits-requires-2 : tie.Need-admits-requires-in-loop-i invariant-loop decreases-
 admits-requires-2 c κs = search rules
 
 -- what was asked of the van is what the sheet's words say of it
-both-admit : (c : tie.After-admits-in-loop-i invariant-loop decreases-loop) → let b = c in
-    let s = b.args.s.now in
-    let i = b.loop-i.i in
+both-admit : (c : tie.After-admits-in-loop-i invariant-loop decreases-loop) → let s = c.args.s.now in
+    let i = c.loop-i.i in
     (c.admits.result && c.admits-in-loop-i.result) ≡ (admitted s i 0 && admitted s i (n_of s - 1))
 both-admit c =
-    let b = c in
-    let e = b in
-    let a = e in
-    ap₂ ◌&&◌ (rw (b.bit-one.ensures, a.class-start.ensures) at c.admits.ensures)
-    (rw (b.bit-one.ensures, e.class-end.ensures, a.requires.nodes) at c.admits-in-loop-i.ensures)
+    ap₂ ◌&&◌ (rw (c.bit-one.ensures, c.class-start.ensures) at c.admits.ensures)
+    (rw (c.bit-one.ensures, c.class-end.ensures, c.requires.nodes) at c.admits-in-loop-i.ensures)
 
 returns : tie.Need-returns-then-not-admits invariant-loop decreases-loop
 unfolding ends_admit
 returns c =
-    let t = c in
-    let p = t.requires in
-    below-stops _ _ _ (omega (arith, t.loop-i-test.true, p.vans)) (both-admit c.before) (not_from_false _ c.if-not-admits.true)
+    let p = c.requires in
+    below-stops _ _ _ (omega (arith, c.loop-i-test.true, p.vans)) (both-admit c.before) (not_from_false _ c.if-not-admits.true)
 
 add-i : tie.Need-overflow_add-i invariant-loop decreases-loop
 add-i c = omega arith
@@ -65,14 +60,13 @@ loop-less : tie.Need-loop-i-smaller invariant-loop decreases-loop
 loop-less c = omega arith
 
 loop-again : tie.Need-loop-i-preserved invariant-loop decreases-loop
-loop-again c = let t = c in (omega arith, below-goes _ _ t.loop-i.invariant.1 (both-admit c.before) (not_from_true _ c.if-not-admits.false))
+loop-again c = (omega arith, below-goes _ _ c.loop-i.invariant.1 (both-admit c.before) (not_from_true _ c.if-not-admits.false))
 
 returns-2 : tie.Need-returns invariant-loop decreases-loop
 unfolding ends_admit
 returns-2 c =
-    let l = c in
-    let p = l.requires in
-    below-done _ _ _ (omega (arith, l.loop-i.invariant.0, p.vans)) (omega (arith, c.loop-i-test.false, p.vans)) l.loop-i.invariant.1
+    let p = c.requires in
+    below-done _ _ _ (omega (arith, c.loop-i.invariant.0, p.vans)) (omega (arith, c.loop-i-test.false, p.vans)) c.loop-i.invariant.1
 
 pub ends_admit_spec : {M : Type 1} → statement M
 ends_admit_spec =

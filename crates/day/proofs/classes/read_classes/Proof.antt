@@ -37,9 +37,8 @@ loop-again c = (omega arith, filled_more _ c.loop-x.invariant.1 (omega arith) c.
 
 returns : tie.Need-returns invariant-loop decreases-loop
 returns c =
-    let v = c in
-    let e : v.loop-x.x ≡ v.args.l.nodes = omega arith in
-    subst (λ (k : ℕ). Filled 64 (class_of v.args.s.now) 0 k v.loop-x.classes) e v.loop-x.invariant.1
+    let e : c.loop-x.x ≡ c.args.l.nodes = omega arith in
+    subst (λ (k : ℕ). Filled 64 (class_of c.args.s.now) 0 k c.loop-x.classes) e c.loop-x.invariant.1
 
 pub read_classes_spec : {M : Type 1} → statement M
 read_classes_spec =

@@ -21,7 +21,7 @@ abbrev decreases-loop : tie.decreases-loop-i
 decreases-loop s l seen₀ heaviest₀ m i₀ seen heaviest i = m - i
 
 placed : (c : tie.After-job-one invariant-loop decreases-loop) → Placed c.job-one.result
-placed c = let t = c in placed-read t.requires _ t.loop-i-test.true c.job-one.ensures
+placed c = placed-read c.requires _ c.loop-i-test.true c.job-one.ensures
 
 loop-holds : tie.Need-loop-i-init invariant-loop decreases-loop
 loop-holds c = (search rules, pass-none _ refl refl refl refl, sym (peak-none _))
@@ -43,22 +43,19 @@ loop-less c = omega arith
 
 loop-again : tie.Need-loop-i-preserved invariant-loop decreases-loop
 loop-again c =
-    let e = c in
-    let j = e in
-    let v = j.loop-i in
-    let g = job_in j.args.s.now in
-    let w : c.load-load.result ≡ load_of (g v.i) = c.load-load.ensures ∙ ap load_of j.job-one.ensures in
+    let v = c.loop-i in
+    let g = job_in c.args.s.now in
+    let w : c.load-load.result ≡ load_of (g v.i) = c.load-load.ensures ∙ ap load_of c.job-one.ensures in
     let p = peak-next (λ k. load_of (g k)) v.i in
-    (omega arith, pass-goes g _ v.invariant.1 j.job-one.ensures (placed c.before.before.before) e.see-seen.ensures, elim c.if-heaviest-load.branch [ then-heaviest-load t ↦ omega (arith, p) | else-heaviest-load t ↦ omega (arith, p) ])
+    (omega arith, pass-goes g _ v.invariant.1 c.job-one.ensures (placed c.before.before.before) c.see-seen.ensures, elim c.if-heaviest-load.branch [ then-heaviest-load t ↦ omega (arith, p) | else-heaviest-load t ↦ omega (arith, p) ])
 
 returns : tie.Need-returns invariant-loop decreases-loop
 returns c =
-    let l = c in
-    let v = l.loop-i in
-    let e : v.i ≡ l.args.l.jobs = omega arith in
+    let v = c.loop-i in
+    let e : v.i ≡ c.args.l.jobs = omega arith in
     let p = v.invariant.1.seen in
     record {
-      apart = pass-done _ _ _ v.invariant.0 l.loop-i-test.false v.invariant.1;
+      apart = pass-done _ _ _ v.invariant.0 c.loop-i-test.false v.invariant.1;
       heaviest = rw e at v.invariant.2;
       clean = met-any clean_at _ _ _ _ e p.clean;
       soiled = met-any soiled_at _ _ _ _ e p.soiled;

@@ -30,19 +30,15 @@ loop-less c = omega arith
 
 loop-again : tie.Need-loop-i-preserved invariant-loop decreases-loop
 loop-again c =
-    let o = c in
-    let v = o in
-    let s = v.args.s.now in
-    let w : o.van-one.result.capacity ≡ (van_of s v.loop-i.i).capacity = ap (λ (x : Van). x.capacity) o.van-one.ensures.0 in
-    let p = peak-next (λ k. (van_of s k).capacity) v.loop-i.i in
+    let s = c.args.s.now in
+    let w : c.van-one.result.capacity ≡ (van_of s c.loop-i.i).capacity = ap (λ (x : Van). x.capacity) c.van-one.ensures.0 in
+    let p = peak-next (λ k. (van_of s k).capacity) c.loop-i.i in
     (omega arith, elim c.if-most-capacity.branch [ then-most-capacity t ↦ omega (arith, p) | else-most-capacity t ↦ omega (arith, p) ])
 
 returns : tie.Need-returns invariant-loop decreases-loop
 returns c =
-    let v = c in
-    let a = v in
-    let e : v.loop-i.i ≡ a.args.l.vans = omega arith in
-    rw (e ∙ a.requires.vans) at v.loop-i.invariant.1
+    let e : c.loop-i.i ≡ c.args.l.vans = omega arith in
+    rw (e ∙ c.requires.vans) at c.loop-i.invariant.1
 
 pub largest_spec : {M : Type 1} → statement M
 largest_spec =

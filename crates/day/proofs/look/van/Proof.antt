@@ -27,10 +27,9 @@ cast-t9 c = search rules
 
 returns : tie.Need-returns
 returns c =
-    let d = c in
-    let p = d.requires in
+    let p = c.requires in
     let l = p.0 in
-    let v = van-limits _ l.fine d.args.i (omega (arith, l.vans, p.1)) in
+    let v = van-limits _ l.fine c.args.i (omega (arith, l.vans, p.1)) in
     let a = rw l.van at c.word.ensures.is in
     let b = rw l.van at c.word-2.ensures.is in
     (rw (a, b), omega (arith, v.capacity), omega (arith, v.limit))

@@ -29,8 +29,7 @@ loop-holds c =
 
 fresh-van-requires : tie.Need-fresh_van-one-requires invariant-loop decreases-loop
 fresh-van-requires c κs =
-    let r = c in
-    (r.requires.1, c.loop-j-test.true, r.read_classes.ensures)
+    (c.requires.1, c.loop-j-test.true, c.read_classes.ensures)
 
 mul-unpack : tie.Need-offset_bounds-routes-j invariant-loop decreases-loop
 mul-unpack c = omega arith
@@ -58,9 +57,8 @@ index-1-unpack-4 c = omega arith
 
 unpack-requires : tie.Need-unpack-requires invariant-loop decreases-loop
 unpack-requires c κs =
-    let l = c in
-    let v = l.loop-j.invariant in
-    v.2.rows.3.wide l.loop-j.j (omega (arith, l.loop-j-test.true, v.1))
+    let v = c.loop-j.invariant in
+    v.2.rows.3.wide c.loop-j.j (omega (arith, c.loop-j-test.true, v.1))
 
 add-j : tie.Need-overflow_add-j invariant-loop decreases-loop
 add-j c = omega arith
@@ -70,20 +68,17 @@ loop-less c = omega arith
 
 loop-again : tie.Need-loop-j-preserved invariant-loop decreases-loop
 loop-again c =
-    let f = c in
-    let l = f in
-    let v = l.loop-j.invariant in
-    (omega arith, v.1, freshly-more c.unpack.new.row v.2 (omega (arith, l.loop-j-test.true, v.1)) (c.unpack.ensures.0 ∙ f.fresh_van-one.ensures) c.unpack.ensures.1)
+    let v = c.loop-j.invariant in
+    (omega arith, v.1, freshly-more c.unpack.new.row v.2 (omega (arith, c.loop-j-test.true, v.1)) (c.unpack.ensures.0 ∙ c.fresh_van-one.ensures) c.unpack.ensures.1)
 
 returns : tie.Need-returns invariant-loop decreases-loop
 returns c =
     let l = c.loop-j in
-    let d = c in
-    let p = d.requires.1 in
-    let e : l.j ≡ d.args.at.vans = omega (arith, l.invariant.0, c.loop-j-test.false) in
-    let all : fleet_with l.routes l.sets l.levels l.figures ≡ fresh_of d.args.sheet.now =
+    let p = c.requires.1 in
+    let e : l.j ≡ c.args.at.vans = omega (arith, l.invariant.0, c.loop-j-test.false) in
+    let all : fleet_with l.routes l.sets l.levels l.figures ≡ fresh_of c.args.sheet.now =
     freshly-all (rw (e ∙ p.vans, p.nodes) at l.invariant.2) in
-    (all, rows-held _ _ _ _ (subst HeldAll (sym all) (fresh-in-form _ d.requires.0).1) l.invariant.2.rows)
+    (all, rows-held _ _ _ _ (subst HeldAll (sym all) (fresh-in-form _ c.requires.0).1) l.invariant.2.rows)
 
 pub fresh_rows_spec : {M : Type 1} → statement M
 fresh_rows_spec =

@@ -30,15 +30,12 @@ same_length c = search rules
 returns : tie.Need-returns-then-found-ne0
 unfolding refused_line
 returns c =
-    let q = c in
-    let t = q in
-    let k = field-takes (bytes "refused") _ (code "\n") q.put_refused.ensures in
-    (listing-refused _ _ (found-answer _ _ t.opening-found.ensures) t.if-found-ne0.true q.put_refused.ensures, omega (arith, k.0))
+    let k = field-takes (bytes "refused") _ (code "\n") c.put_refused.ensures in
+    (listing-refused _ _ (found-answer _ _ c.opening-found.ensures) c.if-found-ne0.true c.put_refused.ensures, omega (arith, k.0))
 
 put-all-requires : tie.Need-put_all-requires
 put-all-requires c κs =
-    let e = c in
-    (call-zero _ (zero c.before.before.before), laid c.before.before.before, e.requires)
+    (call-zero _ (zero c.before.before.before), laid c.before.before.before, c.requires)
 
 same-length-2 : tie.Need-shape_of-trail
 same-length-2 c = search rules
@@ -48,8 +45,7 @@ same-length-3 c = search rules
 
 returns-2 : tie.Need-returns
 returns-2 c =
-    let a = c in
-    (listing-open _ _ (zero c.before.before.before.before.before.before.before.before) a.put_all.ensures.0, a.put_all.ensures.1)
+    (listing-open _ _ (zero c.before.before.before.before.before.before.before.before) c.put_all.ensures.0, c.put_all.ensures.1)
 
 pub list_spec : {M : Type 1} → statement M
 list_spec =

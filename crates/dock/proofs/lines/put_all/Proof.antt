@@ -15,24 +15,19 @@ by-node-requires c κs = (c.requires.1, refl)
 
 put-lines-requires : tie.Need-put_lines-used-requires
 put-lines-requires c κs =
-    let n = c in
-    let u = n in
-    let d = u in
-    let l = d.requires.1 in
-    ((d.requires.0, l, omega (arith, d.requires.2, l.steps, l.fine.k-high), n.by_node.ensures), (u.fresh_rows.ensures.1, u.fresh_rows.ensures.0))
+    let l = c.requires.1 in
+    ((c.requires.0, l, omega (arith, c.requires.2, l.steps, l.fine.k-high), c.by_node.ensures), (c.fresh_rows.ensures.1, c.fresh_rows.ensures.0))
 
 put-routes-requires : tie.Need-put_routes-requires
 put-routes-requires c κs =
-    let p = c in
-    let d = p in
-    let l = d.requires.1 in
-    let w = p.put_lines-used.ensures in (
+    let l = c.requires.1 in
+    let w = c.put_lines-used.ensures in (
       omega (arith, l.vans, l.fine.vans-high),
-      omega (arith, w.2, put-length w.0, d.requires.2, l.steps, l.fine.k-high, l.vans, l.fine.vans-high),
+      omega (arith, w.2, put-length w.0, c.requires.2, l.steps, l.fine.k-high, l.vans, l.fine.vans-high),
       w.3,
       w.4,
-      λ j h. row-stops d.requires.0 l p.put_lines-used.new.routes p.put_lines-used.new.sets p.put_lines-used.new.levels p.put_lines-used.new.figures w.4
-          (reached-at _ _ _ d.requires.0 w.1) j (omega (arith, h, l.vans)),
+      λ j h. row-stops c.requires.0 l c.put_lines-used.new.routes c.put_lines-used.new.sets c.put_lines-used.new.levels c.put_lines-used.new.figures w.4
+          (reached-at _ _ _ c.requires.0 w.1) j (omega (arith, h, l.vans)),
     )
 
 same_length : tie.Need-shape_of-trail
@@ -43,13 +38,10 @@ same-length-2 c = search rules
 
 returns : tie.Need-returns
 returns c =
-    let q = c in
-    let p = q in
-    let d = p in
-    let l = d.requires.1 in
-    let w = p.put_lines-used.ensures in (
-      whole-made _ _ l.steps l.vans w.1 w.0 (q.put_routes.ensures.1 p.put_lines-used.new.sets p.put_lines-used.new.levels),
-      omega (arith, q.put_routes.ensures.0, w.2, l.steps, l.fine.k-high, l.vans, l.fine.vans-high),
+    let l = c.requires.1 in
+    let w = c.put_lines-used.ensures in (
+      whole-made _ _ l.steps l.vans w.1 w.0 (c.put_routes.ensures.1 c.put_lines-used.new.sets c.put_lines-used.new.levels),
+      omega (arith, c.put_routes.ensures.0, w.2, l.steps, l.fine.k-high, l.vans, l.fine.vans-high),
     )
 
 pub put_all_spec : {M : Type 1} → statement M

@@ -15,7 +15,7 @@ same_length : tie.Need-shape_of-out
 same_length c = search rules
 
 returns : tie.Need-returns
-returns c = let p = c in rw p.one_if.ensures at p.put_step.ensures
+returns c = rw c.one_if.ensures at c.put_step.ensures
 
 pub put_line_spec : {M : Type 1} → statement M
 put_line_spec =

@@ -33,10 +33,9 @@ decreases-loop sheet at jobs routes₀ sets₀ levels₀ figures₀ trail₀ out
 
 tell-vans-requires : tie.Need-tell_vans-requires invariant-loop decreases-loop
 tell-vans-requires c κs =
-    let d = c in
-    let a = d.args in
-    let r = readied d.requires.0.0 d.requires.0.1 a.routes.now a.sets.now a.levels.now a.figures.now d.requires.1.0.3 (begun a.trail.now d.requires.1.1) in
-    ((r, rows_none 3, d.requires.0.3), (rows_none 4, λ e. absurd (false-true (sym e))))
+    let a = c.args in
+    let r = readied c.requires.0.0 c.requires.0.1 a.routes.now a.sets.now a.levels.now a.figures.now c.requires.1.0.3 (begun a.trail.now c.requires.1.1) in
+    ((r, rows_none 3, c.requires.0.3), (rows_none 4, λ e. absurd (false-true (sym e))))
 
 -- the fresh fleet is told
 first : (c : tie.After-tell_vans invariant-loop decreases-loop) → let a = c.args in
@@ -45,19 +44,15 @@ first c = c.tell_vans.ensures.1.1 c.args.levels.now (λ j h n same. absurd (fals
 
 sums-now-requires : tie.Need-sums_now-sums-requires invariant-loop decreases-loop
 sums-now-requires c κs =
-    let t = c in
-    let d = t in
-    let a = d.args in
-    let r = begun a.trail.now d.requires.1.1 in
-    let s = serving (readied d.requires.0.0 d.requires.0.1 a.routes.now a.sets.now a.levels.now a.figures.now d.requires.1.0.3 r) in
-    (summing d.requires.0.0 d.requires.0.1 a.routes.now a.sets.now a.levels.now a.figures.now d.requires.1.0.3 r (first c.before), (s.0.1, s.1))
+    let a = c.args in
+    let r = begun a.trail.now c.requires.1.1 in
+    let s = serving (readied c.requires.0.0 c.requires.0.1 a.routes.now a.sets.now a.levels.now a.figures.now c.requires.1.0.3 r) in
+    (summing c.requires.0.0 c.requires.0.1 a.routes.now a.sets.now a.levels.now a.figures.now c.requires.1.0.3 r (first c.before), (s.0.1, s.1))
 
 loop-holds : tie.Need-loop-i-init invariant-loop decreases-loop
 loop-holds c =
-    let t = c in
-    let d = t in
-    let a = d.args in
-    let e = d.requires.1.1 in (
+    let a = c.args in
+    let e = c.requires.1.1 in (
       omega arith,
       omega arith,
       refl,
@@ -66,10 +61,10 @@ loop-holds c =
       come-none _ _ e,
       begun a.trail.now e,
       first c.before.before,
-      t.tell_vans.ensures.0,
-      d.requires.1.0,
+      c.tell_vans.ensures.0,
+      c.requires.1.0,
       c.sums_now-sums.ensures a.levels.now,
-      t.tell_vans.ensures.1.0,
+      c.tell_vans.ensures.1.0,
     )
 
 -- ---- the rows as the step leaves them
@@ -112,48 +107,40 @@ same c =
     told-on d.requires.0.0 d.requires.0.1 v.routes v.sets v.levels v.figures v.invariant.9.3 v.invariant.6 _ _ _ (routes-at c) (sets-at c) (levels-at c) (figures-at c) c.step_at-o.ensures.0 v.invariant.7
 
 -- and the vans are told
-told : (c : tie.After-tell_vans-then-stale invariant-loop decreases-loop) → let p = c in ToldAll (start c.before.before.before.before.before.before.before.before).args.sheet.now (fleet-at c.before.before.before.before.before.before.before.before) c.tell_vans-then-stale.new.told
-told c = let p = c in c.tell_vans-then-stale.ensures.1.1 (levels-at c.before.before.before.before.before.before.before.before) (λ j h e. same c.before.before.before.before.before.before.before.before j h)
+told : (c : tie.After-tell_vans-then-stale invariant-loop decreases-loop) → ToldAll (start c.before.before.before.before.before.before.before.before).args.sheet.now (fleet-at c.before.before.before.before.before.before.before.before) c.tell_vans-then-stale.new.told
+told c = c.tell_vans-then-stale.ensures.1.1 (levels-at c.before.before.before.before.before.before.before.before) (λ j h e. same c.before.before.before.before.before.before.before.before j h)
 
 step-at-requires : tie.Need-step_at-o-requires invariant-loop decreases-loop
 step-at-requires c κs =
-    let t = c in
-    let l = t in
-    let d = l in
-    ((d.requires.0.0, d.requires.0.1, t.loop-i-test.true, d.requires.0.3), (l.loop-i.invariant.9, l.loop-i.invariant.6))
+    ((c.requires.0.0, c.requires.0.1, c.loop-i-test.true, c.requires.0.3), (c.loop-i.invariant.9, c.loop-i.invariant.6))
 
 stale-requires : tie.Need-stale-requires invariant-loop decreases-loop
 stale-requires c κs =
-    let p = c in
-    (p.step_at-o.ensures.1.3, omega (arith, (start c.before.before.before).requires.0.1.vans, (start c.before.before.before).requires.0.1.fine.vans-high))
+    (c.step_at-o.ensures.1.3, omega (arith, (start c.before.before.before).requires.0.1.vans, (start c.before.before.before).requires.0.1.fine.vans-high))
 
 tell-vans-requires-2 : tie.Need-tell_vans-requires-then-stale invariant-loop decreases-loop
 tell-vans-requires-2 c κs =
-    let p = c in
     let d = start c.before.before.before.before.before.before.before in
     let v = (loop-at c.before.before.before.before.before.before.before).loop-i in (
       (ready c.before.before.before.before.before.before.before, v.invariant.8, d.requires.0.3),
       (
         v.invariant.11.rows,
         λ e. kept_on d.requires.0.0 d.requires.0.1 v.routes v.sets v.levels v.figures v.invariant.9.3 v.invariant.6 _ _ _
-            (routes-at c.before.before.before.before.before.before.before) (sets-at c.before.before.before.before.before.before.before) (levels-at c.before.before.before.before.before.before.before) (figures-at c.before.before.before.before.before.before.before) p.step_at-o.ensures.0 v.invariant.7 v.invariant.11,
+            (routes-at c.before.before.before.before.before.before.before) (sets-at c.before.before.before.before.before.before.before) (levels-at c.before.before.before.before.before.before.before) (figures-at c.before.before.before.before.before.before.before) c.step_at-o.ensures.0 v.invariant.7 v.invariant.11,
       ),
     )
 
 sums-now-requires-2 : tie.Need-sums_now-sums-requires-then-stale invariant-loop decreases-loop
 sums-now-requires-2 c κs =
-    let tells = c in
-    let p = tells in
     let d = start c.before.before.before.before.before.before.before.before.before in
     let s = serving (ready c.before.before.before.before.before.before.before.before.before) in
-    (summing d.requires.0.0 d.requires.0.1 (routes-at c.before.before.before.before.before.before.before.before.before) (sets-at c.before.before.before.before.before.before.before.before.before) (levels-at c.before.before.before.before.before.before.before.before.before) (figures-at c.before.before.before.before.before.before.before.before.before) p.step_at-o.ensures.1.3 (on c.before.before.before.before.before.before.before.before.before) (told c.before), (s.0.1, s.1))
+    (summing d.requires.0.0 d.requires.0.1 (routes-at c.before.before.before.before.before.before.before.before.before) (sets-at c.before.before.before.before.before.before.before.before.before) (levels-at c.before.before.before.before.before.before.before.before.before) (figures-at c.before.before.before.before.before.before.before.before.before) c.step_at-o.ensures.1.3 (on c.before.before.before.before.before.before.before.before.before) (told c.before), (s.0.1, s.1))
 
 -- what is told and kept then: anew, or as before where no van is stale
-joined : (c : tie.Joined-stale invariant-loop decreases-loop) → let p = c in let a = (start c.before.before.before.before.before).args in
+joined : (c : tie.Joined-stale invariant-loop decreases-loop) → let a = (start c.before.before.before.before.before).args in
     ToldAll a.sheet.now (fleet-at c.before.before.before.before.before) c.if-stale.told × (c.if-stale.sums ≡ sums_of a.at.vans c.if-stale.told (fleet-at c.before.before.before.before.before))
     × KeptAll a.sheet.now a.jobs.now (routes-at c.before.before.before.before.before) (figures-at c.before.before.before.before.before) c.if-stale.ways × RowsOf 3 c.if-stale.told
 joined c =
-    let p = c in
     let d = start c.before.before.before.before.before in
     let v = (loop-at c.before.before.before.before.before).loop-i in
     elim c.if-stale.branch [
@@ -163,54 +150,43 @@ joined c =
         w.tell_vans-then-stale.ensures.1.0,
         w.tell_vans-then-stale.ensures.0,
       )
-      | else-stale w ↦ let h = still d.requires.0.0 d.requires.0.1 v.routes v.sets v.levels v.figures v.invariant.9.3 v.invariant.6 _ _ _ (routes-at c.before.before.before.before.before) (sets-at c.before.before.before.before.before) (levels-at c.before.before.before.before.before) (figures-at c.before.before.before.before.before) p.step_at-o.ensures.0 v.invariant.7
+      | else-stale w ↦ let h = still d.requires.0.0 d.requires.0.1 v.routes v.sets v.levels v.figures v.invariant.9.3 v.invariant.6 _ _ _ (routes-at c.before.before.before.before.before) (sets-at c.before.before.before.before.before) (levels-at c.before.before.before.before.before) (figures-at c.before.before.before.before.before) c.step_at-o.ensures.0 v.invariant.7
           (sym c.stale.ensures ∙ w.if-stale.false) v.invariant.10 v.invariant.11 in
           rw (w.told-is, w.sums-is, w.ways-is) (h.0, h.1, h.2, v.invariant.8)
     ]
 
 put-line-requires : tie.Need-put_line-used-requires invariant-loop decreases-loop
 put-line-requires c κs =
-    let p = c in
     let d = start c.before.before.before.before.before.before in
-    let t = p in
-    let v = t.loop-i.invariant in
-    (omega (arith, t.loop-i-test.true, d.requires.0.1.steps, d.requires.0.1.fine.k-high), omega (arith, t.loop-i-test.true, v.1, v.2, d.requires.0.2))
+    let v = c.loop-i.invariant in
+    (omega (arith, c.loop-i-test.true, d.requires.0.1.steps, d.requires.0.1.fine.k-high), omega (arith, c.loop-i-test.true, v.1, v.2, d.requires.0.2))
 
 add-i : tie.Need-overflow_add-i invariant-loop decreases-loop
 add-i c =
-    let p = c in
-    let t = p in
-    omega (arith, t.loop-i-test.true, (start c.before.before.before.before.before.before.before.before.before).requires.0.1.steps, (start c.before.before.before.before.before.before.before.before.before).requires.0.1.fine.k-high)
+    omega (arith, c.loop-i-test.true, (start c.before.before.before.before.before.before.before.before.before).requires.0.1.steps, (start c.before.before.before.before.before.before.before.before.before).requires.0.1.fine.k-high)
 
 loop-less : tie.Need-loop-i-smaller invariant-loop decreases-loop
 loop-less c =
-    let t = c in
-    omega (arith, t.loop-i-test.true)
+    omega (arith, c.loop-i-test.true)
 
 loop-again : tie.Need-loop-i-preserved invariant-loop decreases-loop
 loop-again c =
-    let q = c in
-    let j = q in
-    let r = j in
-    let p = r in
-    let t = p in
-    let l = t in
     let d = start c.before.before.before.before.before.before.before.before.before in
-    let v = l.loop-i.invariant in
-    let e = p.step_at-o.ensures.0 in
-    let k = step-takes _ _ _ _ _ _ q.put_line-used.ensures in
+    let v = c.loop-i.invariant in
+    let e = c.step_at-o.ensures.0 in
+    let k = step-takes _ _ _ _ _ _ c.put_line-used.ensures in
     let h = joined c.before.before.before.before in
-    let line = line-is d.requires.0.0 (on c.before.before.before.before.before.before.before.before.before) h.0 l.loop-i.i p.step_at-o.result.answer p.step_at-o.result.rounds d.requires.0.1.vans h.1 in (
-      omega (arith, t.loop-i-test.true),
+    let line = line-is d.requires.0.0 (on c.before.before.before.before.before.before.before.before.before) h.0 c.loop-i.i c.step_at-o.result.answer c.step_at-o.result.rounds d.requires.0.1.vans h.1 in (
+      omega (arith, c.loop-i-test.true),
       omega (arith, k.0, v.1),
       k.1 ∙ v.2,
-      r.trail-1.given ∙ v.3,
-      lines_next _ _ _ v.5 e line v.4 q.put_line-used.ensures,
+      c.trail-1.given ∙ v.3,
+      lines_next _ _ _ v.5 e line v.4 c.put_line-used.ensures,
       come-next _ _ _ v.5 e,
       on c.before.before.before.before.before.before.before.before.before,
       h.0,
       h.3,
-      p.step_at-o.ensures.1,
+      c.step_at-o.ensures.1,
       h.1,
       h.2,
     )
@@ -223,10 +199,8 @@ same-length-2 c = search rules
 
 returns : tie.Need-returns invariant-loop decreases-loop
 returns c =
-    let l = c in
-    let v = l.loop-i.invariant in
-    let d = l in
-    let e : l.loop-i.i ≡ d.args.at.steps = omega (arith, v.0, c.loop-i-test.false) in
+    let v = c.loop-i.invariant in
+    let e : c.loop-i.i ≡ c.args.at.steps = omega (arith, v.0, c.loop-i-test.false) in
     (rw e at v.4, rw e at v.5, omega (arith, v.1, v.0), v.9.0, v.9.3)
 
 pub put_lines_spec : {M : Type 1} → statement M

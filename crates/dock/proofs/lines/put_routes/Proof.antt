@@ -29,8 +29,7 @@ index-1-figures-in c = omega arith
 
 figures-in-requires : tie.Need-figures_in-f-requires invariant-loop decreases-loop
 figures-in-requires c κs =
-    let d = c in
-    d.requires.3.wide d.loop-j.j (omega arith)
+    c.requires.3.wide c.loop-j.j (omega arith)
 
 mul-put-route : tie.Need-offset_bounds-routes-j invariant-loop decreases-loop
 mul-put-route c = omega arith
@@ -40,12 +39,8 @@ index-1-put-route c = omega arith
 
 put-route-requires : tie.Need-put_route-next-requires invariant-loop decreases-loop
 put-route-requires c κs =
-    let g = c in
-    let l = g in
-    let d = l in
-    let s = d in
-    let v = d.loop-j.invariant in
-    rw g.figures_in-f.ensures (s.requires.4 d.loop-j.j l.loop-j-test.true, s.requires.2.wide d.loop-j.j (omega (arith, l.loop-j-test.true, v.1)), omega (arith, l.loop-j-test.true, v.2, v.3, s.requires.1))
+    let v = c.loop-j.invariant in
+    rw c.figures_in-f.ensures (c.requires.4 c.loop-j.j c.loop-j-test.true, c.requires.2.wide c.loop-j.j (omega (arith, c.loop-j-test.true, v.1)), omega (arith, c.loop-j-test.true, v.2, v.3, c.requires.1))
 
 add-j : tie.Need-overflow_add-j invariant-loop decreases-loop
 add-j c = omega arith
@@ -55,14 +50,9 @@ loop-less c = omega arith
 
 loop-again : tie.Need-loop-j-preserved invariant-loop decreases-loop
 loop-again c =
-    let p = c in
-    let g = p in
-    let l = g in
-    let d = l in
-    let s = d in
-    let v = d.loop-j.invariant in
-    let w = rw g.figures_in-f.ensures at p.put_route-next.ensures in
-    let k = route-takes _ _ (s.requires.4 d.loop-j.j l.loop-j-test.true) w in
+    let v = c.loop-j.invariant in
+    let w = rw c.figures_in-f.ensures at c.put_route-next.ensures in
+    let k = route-takes _ _ (c.requires.4 c.loop-j.j c.loop-j-test.true) w in
     (omega arith, v.1, omega (arith, k.0, v.2), k.1 ∙ v.3, rows_next _ _ v.4 w)
 
 same_length : tie.Need-shape_of-out invariant-loop decreases-loop
@@ -70,12 +60,11 @@ same_length c = search rules
 
 returns : tie.Need-returns invariant-loop decreases-loop
 returns c =
-    let d = c in
-    let a = d.args in
-    let v = d.loop-j.invariant in
-    let e : d.loop-j.j ≡ a.v = omega (arith, v.0, c.loop-j-test.false) in (
+    let a = c.args in
+    let v = c.loop-j.invariant in
+    let e : c.loop-j.j ≡ a.v = omega (arith, v.0, c.loop-j-test.false) in (
       omega (arith, v.2, e),
-      λ sets levels. subst (λ (t : List ℕ). Put a.out.now a.used t d.loop-j.next d.loop-j.out)
+      λ sets levels. subst (λ (t : List ℕ). Put a.out.now a.used t c.loop-j.next c.loop-j.out)
           (ap (λ (k : ℕ). joined k (row_line a.routes.now a.figures.now)) e ∙ rows-routes a.routes.now sets levels a.figures.now a.v (omega (arith, v.1))) v.4,
     )
 

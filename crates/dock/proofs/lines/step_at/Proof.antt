@@ -17,19 +17,15 @@ step-requires c κs = search rules
 
 settle-requires : tie.Need-settle-requires
 settle-requires c κs =
-    let t = c in
-    let d = t in ((rows c.before.before.before.before.before.before.before.before.before.before, t.if-step-eq-SETTLE.true), d.requires.0.3)
+    ((rows c.before.before.before.before.before.before.before.before.before.before, c.if-step-eq-SETTLE.true), c.requires.0.3)
 
 same_length : tie.Need-shape_of-trail-then-step-eq-SETTLE
 same_length c = search rules
 
 returns : tie.Need-returns-then-step-eq-SETTLE
 returns c =
-    let m = c in
-    let s = m in
-    let d = s in
-    let w = step_word d.args.sheet.now d.args.i in
-    step-did d.requires.0.0 d.requires.1.1 (w 0) (w 1) (w 2) s.step-step.ensures m.settle.ensures
+    let w = step_word c.args.sheet.now c.args.i in
+    step-did c.requires.0.0 c.requires.1.1 (w 0) (w 1) (w 2) c.step-step.ensures c.settle.ensures
 
 act-requires : tie.Need-act-requires
 act-requires c κs = rows c.before.before.before.before.before.before.before.before.before.before
@@ -39,11 +35,8 @@ same-length-2 c = search rules
 
 returns-2 : tie.Need-returns
 returns-2 c =
-    let m = c in
-    let s = m in
-    let d = s in
-    let w = step_word d.args.sheet.now d.args.i in
-    step-did d.requires.0.0 d.requires.1.1 (w 0) (w 1) (w 2) s.step-step.ensures m.act.ensures
+    let w = step_word c.args.sheet.now c.args.i in
+    step-did c.requires.0.0 c.requires.1.1 (w 0) (w 1) (w 2) c.step-step.ensures c.act.ensures
 
 pub step_at_spec : {M : Type 1} → statement M
 step_at_spec =

@@ -32,8 +32,7 @@ loop-holds c =
 
 fresh-van-requires : tie.Need-fresh_van-requires invariant-loop decreases-loop
 fresh-van-requires c κs =
-    let n = c in
-    (n.requires, c.loop-j-test.true, n.read_classes.ensures)
+    (c.requires, c.loop-j-test.true, c.read_classes.ensures)
 
 mul-vans : tie.Need-offset_bounds-vans-j invariant-loop decreases-loop
 mul-vans c = let v = c.loop-j.invariant in omega (arith, v.1, v.2.long)
@@ -53,10 +52,9 @@ loop-again c = let v = c.loop-j.invariant in (omega arith, v.1, turned_more _ v.
 returns : tie.Need-returns invariant-loop decreases-loop
 unfolding fresh_fleet
 returns c =
-    let l = c in
-    let a = l.args in
-    let e : l.loop-j.j ≡ a.at.vans = omega arith in
-    ap fleet_made (turned-all l.loop-j.invariant.2) ∙ ap (λ (i : ℕ). fleet_of (λ k. cond (ltb k i) (fresh_state a.at.nodes (admitted a.sheet.now k)) no_state)) e
+    let a = c.args in
+    let e : c.loop-j.j ≡ a.at.vans = omega arith in
+    ap fleet_made (turned-all c.loop-j.invariant.2) ∙ ap (λ (i : ℕ). fleet_of (λ k. cond (ltb k i) (fresh_state a.at.nodes (admitted a.sheet.now k)) no_state)) e
 
 pub fresh_spec : {M : Type 1} → statement M
 fresh_spec =

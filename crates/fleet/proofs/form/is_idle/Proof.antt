@@ -58,9 +58,8 @@ loop-less c = omega arith
 
 loop-again : tie.Need-loop-i-preserved invariant-loop decreases-loop
 loop-again c =
-    let d = c in
-    let a = d.args in
-    (omega arith, idle-goes (arrays a.route.now a.sets.now a.levels.now) d.loop-i.i d.loop-i.all (eqb (first a.f) 0) d.loop-i.invariant.1)
+    let a = c.args in
+    (omega arith, idle-goes (arrays a.route.now a.sets.now a.levels.now) c.loop-i.i c.loop-i.all (eqb (first a.f) 0) c.loop-i.invariant.1)
 
 returns : tie.Need-returns invariant-loop decreases-loop
 unfolding idle

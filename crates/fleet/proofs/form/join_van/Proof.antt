@@ -18,13 +18,12 @@ abbrev state : tie.Start → State
 state s = state_with s.args.route.now s.args.sets.now s.args.levels.now s.args.f
 
 -- in form, where the test is passed
-passed : (c : tie.Else-not-van_ok) → let s = c in van_fits s.args.n (state c.before.before) s.args.depth s.args.first ≡ true
+passed : (c : tie.Else-not-van_ok) → van_fits c.args.n (state c.before.before) c.args.depth c.args.first ≡ true
 passed c = sym c.van_ok.ensures ∙ c.if-not-van_ok.false
 
 returns : tie.Need-returns-then-not-van_ok
 returns c =
-    let o = c in
-    let e = sym o.van_ok.ensures ∙ c.if-not-van_ok.true in
+    let e = sym c.van_ok.ensures ∙ c.if-not-van_ok.true in
     record { misfit = λ t. refl; only = λ t. absurd (false-true (sym e ∙ t)); added = λ t. absurd (false-true (sym e ∙ t)) }
 
 returns-2 : tie.Need-returns-then-only
@@ -32,8 +31,7 @@ returns-2 c = record { misfit = λ t. absurd (false-true (sym t ∙ passed c.bef
 
 with-van-requires : tie.Need-with_van-requires
 with-van-requires c κs =
-    let s = c in
-    (s.requires.0, form-nodes s.args.n (state c.before.before.before) s.requires.1 (record { route = s.requires.2; sets = s.requires.3 }) (fits-form s.args.n _ _ _ (passed c.before)))
+    (c.requires.0, form-nodes c.args.n (state c.before.before.before) c.requires.1 (record { route = c.requires.2; sets = c.requires.3 }) (fits-form c.args.n _ _ _ (passed c.before)))
 
 returns-3 : tie.Need-returns
 returns-3 c =

@@ -25,7 +25,7 @@ index-1-figures-in : tie.Need-bounds-figures-j invariant-loop decreases-loop
 index-1-figures-in c = omega arith
 
 figures-in-requires : tie.Need-figures_in-f-requires invariant-loop decreases-loop
-figures-in-requires c κs = let d = c in d.requires.1.wide d.loop-j.j (omega arith)
+figures-in-requires c κs = c.requires.1.wide c.loop-j.j (omega arith)
 
 mul-is-idle : tie.Need-offset_bounds-routes-j invariant-loop decreases-loop
 mul-is-idle c = omega arith
@@ -56,11 +56,9 @@ loop-less c = omega arith
 
 loop-again : tie.Need-loop-j-preserved invariant-loop decreases-loop
 loop-again c =
-    let g = c in
-    let d = g in
-    let a = d.args in
+    let a = c.args in
     let row = row_state a.routes.now a.sets.now a.levels.now a.figures.now in
-    (omega arith, omega arith, resting-more _ _ d.loop-j.j d.loop-j.invariant.0 (rw g.figures_in-f.ensures at c.is_idle-idle.ensures ∙ ap idle (sym (state-of row d.loop-j.j (omega arith)))) d.loop-j.invariant.2)
+    (omega arith, omega arith, resting-more _ _ c.loop-j.j c.loop-j.invariant.0 (rw c.figures_in-f.ensures at c.is_idle-idle.ensures ∙ ap idle (sym (state-of row c.loop-j.j (omega arith)))) c.loop-j.invariant.2)
 
 returns : tie.Need-returns invariant-loop decreases-loop
 returns c = resting-done _ _ _ (omega arith) c.loop-j.invariant.2

@@ -40,7 +40,7 @@ index-1-figures-in-2 : tie.Need-bounds-figures-j invariant-loop decreases-loop
 index-1-figures-in-2 c = omega arith
 
 figures-in-requires-2 : tie.Need-figures_in-f-requires invariant-loop decreases-loop
-figures-in-requires-2 c κs = let d = c in d.requires.6.wide d.loop-j.j (omega arith)
+figures-in-requires-2 c κs = c.requires.6.wide c.loop-j.j (omega arith)
 
 mul-join-van : tie.Need-offset_bounds-routes-j invariant-loop decreases-loop
 mul-join-van c = omega arith
@@ -62,9 +62,8 @@ index-1-join-van-3 c = omega arith
 
 join-van-requires : tie.Need-join_van-wards-requires invariant-loop decreases-loop
 join-van-requires c κs =
-    let d = c in
-    let p = d.requires in
-    (p.2, p.3, p.4.wide d.loop-j.j (omega arith), p.5.wide d.loop-j.j (omega arith))
+    let p = c.requires in
+    (p.2, p.3, p.4.wide c.loop-j.j (omega arith), p.5.wide c.loop-j.j (omega arith))
 
 add-j : tie.Need-overflow_add-j invariant-loop decreases-loop
 add-j c = omega arith
@@ -74,18 +73,15 @@ loop-less c = omega arith
 
 loop-again : tie.Need-loop-j-preserved invariant-loop decreases-loop
 loop-again c =
-    let g = c in
-    let d = g in
-    let s = d in
-    let a = s.args in
-    let j = d.loop-j.j in
+    let a = c.args in
+    let j = c.loop-j.j in
     let row = row_state a.routes.now a.sets.now a.levels.now a.figures.now in
-    let joins = rw (g.figures_in-f.ensures, d.figures_in-one.ensures) at c.join_van-wards.ensures in
-    let one = subst (λ (x : State). JoinsVan a.n d.loop-j.wards x (row 0).depth (eqb j 0) (eqb a.v 1) c.join_van-wards.result) (sym (state-of row j (omega arith))) joins in (
+    let joins = rw (c.figures_in-f.ensures, c.figures_in-one.ensures) at c.join_van-wards.ensures in
+    let one = subst (λ (x : State). JoinsVan a.n c.loop-j.wards x (row 0).depth (eqb j 0) (eqb a.v 1) c.join_van-wards.result) (sym (state-of row j (omega arith))) joins in (
       omega arith,
-      s.requires.0,
-      joined-more a.n a.v s.requires.3 _ j g.loop-j-test.true d.loop-j.invariant.2
-          (subst (λ (x : State). JoinsVan a.n d.loop-j.wards (state_in (fleet_with a.routes.now a.sets.now a.levels.now a.figures.now) j) x.depth (eqb j 0) (eqb a.v 1) c.join_van-wards.result)
+      c.requires.0,
+      joined-more a.n a.v c.requires.3 _ j c.loop-j-test.true c.loop-j.invariant.2
+          (subst (λ (x : State). JoinsVan a.n c.loop-j.wards (state_in (fleet_with a.routes.now a.sets.now a.levels.now a.figures.now) j) x.depth (eqb j 0) (eqb a.v 1) c.join_van-wards.result)
           (sym (state-of row 0 (omega arith))) one),
     )
 

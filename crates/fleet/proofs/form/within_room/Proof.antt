@@ -41,15 +41,13 @@ index-1-figures-in : tie.Need-bounds-figures-j invariant-loop decreases-loop
 index-1-figures-in c = omega arith
 
 figures-in-requires : tie.Need-figures_in-f-requires invariant-loop decreases-loop
-figures-in-requires c κs = let d = c in d.requires.1.wide d.loop-j.j (omega arith)
+figures-in-requires c κs = c.requires.1.wide c.loop-j.j (omega arith)
 
 returns : tie.Need-returns-then-room-f invariant-loop decreases-loop
 returns c =
-    let g = c in
-    let d = g in
-    let a = d.args in
-    λ routes sets levels. sym (below_fails a.v d.loop-j.j (test a.figures.now a.room) g.loop-j-test.true (lt-leb _ _ (rw g.figures_in-f.ensures at c.if-room-f.true)))
-    ∙ told a.figures.now a.v a.room d.requires.0 routes sets levels
+    let a = c.args in
+    λ routes sets levels. sym (below_fails a.v c.loop-j.j (test a.figures.now a.room) c.loop-j-test.true (lt-leb _ _ (rw c.figures_in-f.ensures at c.if-room-f.true)))
+    ∙ told a.figures.now a.v a.room c.requires.0 routes sets levels
 
 add-j : tie.Need-overflow_add-j invariant-loop decreases-loop
 add-j c = omega arith
@@ -59,15 +57,12 @@ loop-less c = omega arith
 
 loop-again : tie.Need-loop-j-preserved invariant-loop decreases-loop
 loop-again c =
-    let g = c in
-    let d = g in
-    (omega arith, d.loop-j.invariant.1, below_next d.loop-j.j (test d.args.figures.now d.args.room) d.loop-j.invariant.2 (le-leb _ _ (rw g.figures_in-f.ensures at c.if-room-f.false)))
+    (omega arith, c.loop-j.invariant.1, below_next c.loop-j.j (test c.args.figures.now c.args.room) c.loop-j.invariant.2 (le-leb _ _ (rw c.figures_in-f.ensures at c.if-room-f.false)))
 
 returns-2 : tie.Need-returns invariant-loop decreases-loop
 returns-2 c =
-    let d = c in
-    let a = d.args in
-    λ routes sets levels. below-done a.v d.loop-j.j (test a.figures.now a.room) d.loop-j.invariant.0 c.loop-j-test.false d.loop-j.invariant.2 ∙ told a.figures.now a.v a.room d.requires.0 routes sets levels
+    let a = c.args in
+    λ routes sets levels. below-done a.v c.loop-j.j (test a.figures.now a.room) c.loop-j.invariant.0 c.loop-j-test.false c.loop-j.invariant.2 ∙ told a.figures.now a.v a.room c.requires.0 routes sets levels
 
 pub within_room_spec : {M : Type 1} → statement M
 within_room_spec =

@@ -48,7 +48,7 @@ index-1-pack-4 : tie.Need-bounds-figures-j invariant-loop decreases-loop
 index-1-pack-4 c = omega arith
 
 pack-requires : tie.Need-pack-requires invariant-loop decreases-loop
-pack-requires c κs = let d = c in d.requires.wide d.loop-j.j (omega arith)
+pack-requires c κs = c.requires.wide c.loop-j.j (omega arith)
 
 mul-vans : tie.Need-offset_bounds-vans-j invariant-loop decreases-loop
 mul-vans c = omega arith
@@ -63,7 +63,7 @@ loop-less : tie.Need-loop-j-smaller invariant-loop decreases-loop
 loop-less c = omega arith
 
 loop-again : tie.Need-loop-j-preserved invariant-loop decreases-loop
-loop-again c = let d = c in (omega arith, turned_more _ d.loop-j.invariant.1 (omega arith) c.pack.ensures)
+loop-again c = (omega arith, turned_more _ c.loop-j.invariant.1 (omega arith) c.pack.ensures)
 
 returns : tie.Need-returns invariant-loop decreases-loop
 returns c = ap fleet_made (turned-end c.loop-j.invariant.1 (omega arith))

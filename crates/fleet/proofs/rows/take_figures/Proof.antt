@@ -36,7 +36,7 @@ figures-of-requires : tie.Need-figures_of-requires invariant-loop decreases-loop
 figures-of-requires c κs = search rules
 
 put-figures-requires : tie.Need-put_figures-requires invariant-loop decreases-loop
-put-figures-requires c κs = let d = c in d.loop-j.invariant.0.wide d.loop-j.j (omega arith)
+put-figures-requires c κs = c.loop-j.invariant.0.wide c.loop-j.j (omega arith)
 
 add-j : tie.Need-overflow_add-j invariant-loop decreases-loop
 add-j c = omega arith
@@ -46,11 +46,9 @@ loop-less c = omega arith
 
 loop-again : tie.Need-loop-j-preserved invariant-loop decreases-loop
 loop-again c =
-    let d = c in
-    let a = d in
-    let own = ap (λ (s : State). row_of (figures_of s)) (state-any a.args.fleet d.loop-j.j _ (is-held-all a.args.fleet _ a.well_formed.0).eight (omega arith)) in
+    let own = ap (λ (s : State). row_of (figures_of s)) (state-any c.args.fleet c.loop-j.j _ (is-held-all c.args.fleet _ c.well_formed.0).eight (omega arith)) in
     rw (c.put_figures.ensures, c.figures_of.ensures)
-    (figured-set _ d.loop-j.j _ d.loop-j.invariant.0, taking-more (λ (s : State). row_of (figures_of s)) a.args.fleet.vans a.args.rows.now d.loop-j.j d.loop-j.invariant.1 (omega arith) own)
+    (figured-set _ c.loop-j.j _ c.loop-j.invariant.0, taking-more (λ (s : State). row_of (figures_of s)) c.args.fleet.vans c.args.rows.now c.loop-j.j c.loop-j.invariant.1 (omega arith) own)
 
 returns : tie.Need-returns invariant-loop decreases-loop
 returns c = turned-end c.loop-j.invariant.1.1 (omega arith)

@@ -37,10 +37,8 @@ loop-less c = omega arith
 
 loop-again : tie.Need-loop-j-preserved invariant-loop decreases-loop
 loop-again c =
-    let d = c in
-    let a = d in
-    let own = ap (λ (s : State). s.levels) (state-any a.args.fleet d.loop-j.j _ (is-held-all a.args.fleet _ a.well_formed.0).eight (omega arith)) in
-    taking-more (λ (s : State). s.levels) a.args.fleet.vans a.args.rows.now d.loop-j.j d.loop-j.invariant (omega arith) own
+    let own = ap (λ (s : State). s.levels) (state-any c.args.fleet c.loop-j.j _ (is-held-all c.args.fleet _ c.well_formed.0).eight (omega arith)) in
+    taking-more (λ (s : State). s.levels) c.args.fleet.vans c.args.rows.now c.loop-j.j c.loop-j.invariant (omega arith) own
 
 returns : tie.Need-returns invariant-loop decreases-loop
 returns c = turned-end c.loop-j.invariant.1 (omega arith)

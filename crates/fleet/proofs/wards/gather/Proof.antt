@@ -20,18 +20,16 @@ abbrev decreases-loop : tie.decreases-loop-j
 decreases-loop routes sets figures n v all₀ j₀ all j = v - j
 
 -- one van more
-more : (c : tie.After-with_van-all invariant-loop decreases-loop) → let d = c in let a = d.args in (levels : List (List ℕ))
-    → HasWards a.n (d.loop-j.j + 1) (fleet_with a.routes.now a.sets.now levels a.figures.now) c.with_van-all.result
+more : (c : tie.After-with_van-all invariant-loop decreases-loop) → let a = c.args in (levels : List (List ℕ))
+    → HasWards a.n (c.loop-j.j + 1) (fleet_with a.routes.now a.sets.now levels a.figures.now) c.with_van-all.result
 more c levels =
-    let g = c in
-    let d = g in
-    let a = d.args in
-    let j = d.loop-j.j in
+    let a = c.args in
+    let j = c.loop-j.j in
     let s = row_state a.routes.now a.sets.now levels a.figures.now in
-    let w = d.loop-j.all in
+    let w = c.loop-j.all in
     let f = figures_in (get_or a.figures.now j []) in
-    let adds = adds-any a.n w (get_or a.routes.now j []) f.stops (get_or a.sets.now j []) f.marks f.must c.with_van-all.result (rw g.figures_in-f.ensures at c.with_van-all.ensures) in
-    wards-more a.n (d.requires.1 j g.loop-j-test.true).0 (fleet_with a.routes.now a.sets.now levels a.figures.now) j w c.with_van-all.result (d.loop-j.invariant.2 levels)
+    let adds = adds-any a.n w (get_or a.routes.now j []) f.stops (get_or a.sets.now j []) f.marks f.must c.with_van-all.result (rw c.figures_in-f.ensures at c.with_van-all.ensures) in
+    wards-more a.n (c.requires.1 j c.loop-j-test.true).0 (fleet_with a.routes.now a.sets.now levels a.figures.now) j w c.with_van-all.result (c.loop-j.invariant.2 levels)
     (subst (λ (x : State). AddsVan a.n w (board_of x) c.with_van-all.result) (sym (state-of s j (omega arith))) adds)
 
 none-requires : tie.Need-none-all-requires invariant-loop decreases-loop
@@ -39,9 +37,8 @@ none-requires c κs = search rules
 
 loop-holds : tie.Need-loop-j-init invariant-loop decreases-loop
 loop-holds c =
-    let d = c in
-    let a = d.args in
-    (omega arith, d.requires.0.0, λ levels. rw c.none-all.ensures (wards-none a.n (fleet_with a.routes.now a.sets.now levels a.figures.now)))
+    let a = c.args in
+    (omega arith, c.requires.0.0, λ levels. rw c.none-all.ensures (wards-none a.n (fleet_with a.routes.now a.sets.now levels a.figures.now)))
 
 mul-figures-in : tie.Need-offset_bounds-figures-j invariant-loop decreases-loop
 mul-figures-in c = omega arith
@@ -50,7 +47,7 @@ index-1-figures-in : tie.Need-bounds-figures-j invariant-loop decreases-loop
 index-1-figures-in c = omega arith
 
 figures-in-requires : tie.Need-figures_in-f-requires invariant-loop decreases-loop
-figures-in-requires c κs = let d = c in d.requires.0.2.wide d.loop-j.j (omega arith)
+figures-in-requires c κs = c.requires.0.2.wide c.loop-j.j (omega arith)
 
 mul-with-van : tie.Need-offset_bounds-routes-j invariant-loop decreases-loop
 mul-with-van c = omega arith
@@ -66,9 +63,7 @@ index-1-with-van-2 c = omega arith
 
 with-van-requires : tie.Need-with_van-all-requires invariant-loop decreases-loop
 with-van-requires c κs =
-    let g = c in
-    let d = g in
-    (d.requires.0.1, rw g.figures_in-f.ensures (d.requires.1 d.loop-j.j g.loop-j-test.true))
+    (c.requires.0.1, rw c.figures_in-f.ensures (c.requires.1 c.loop-j.j c.loop-j-test.true))
 
 add-j : tie.Need-overflow_add-j invariant-loop decreases-loop
 add-j c = omega arith

@@ -20,13 +20,10 @@ near : (c : tie.After-lowest-x invariant-loop decreases-loop) → c.lowest-x.res
 near c = omega (arith, c.lowest-x.ensures.0, least-low (omega arith) c.loop-left.invariant)
 
 -- it is missed no more if it is open
-joined : (c : tie.Joined-sets-x-ne0 invariant-loop decreases-loop) → let d = c in
-    Missing d.args.sets.now d.minus-off.result (without d.loop-left.left (lowest d.loop-left.left)) c.if-sets-x-ne0.kept
+joined : (c : tie.Joined-sets-x-ne0 invariant-loop decreases-loop) → Missing c.args.sets.now c.minus-off.result (without c.loop-left.left (lowest c.loop-left.left)) c.if-sets-x-ne0.kept
 joined c =
-    let l = c in
-    let d = l in
-    let e = l.lowest-x.ensures.0 in
-    elim c.if-sets-x-ne0.branch [ then-sets-x-ne0 t ↦ rw (t.kept-is, t.take-kept.ensures, e) (missing-open (omega arith) d.loop-left.invariant (rw e at t.if-sets-x-ne0.true)) | else-sets-x-ne0 t ↦ rw t.kept-is (missing-shut (omega arith) d.loop-left.invariant (rw e at t.if-sets-x-ne0.false)) ]
+    let e = c.lowest-x.ensures.0 in
+    elim c.if-sets-x-ne0.branch [ then-sets-x-ne0 t ↦ rw (t.kept-is, t.take-kept.ensures, e) (missing-open (omega arith) c.loop-left.invariant (rw e at t.if-sets-x-ne0.true)) | else-sets-x-ne0 t ↦ rw t.kept-is (missing-shut (omega arith) c.loop-left.invariant (rw e at t.if-sets-x-ne0.false)) ]
 
 word-requires : tie.Need-word-requires invariant-loop decreases-loop
 word-requires c κs = (c.requires.1, c.requires.3)
@@ -62,11 +59,9 @@ loop-again c = rw c.rest-left.ensures (joined c.before)
 
 returns : tie.Need-returns invariant-loop decreases-loop
 returns c =
-    let d = c in
-    let w = d in
-    let a = w.args in
-    let e : d.loop-left.left ≡ 0 = omega arith in
-    missing-all a.members a.route.now a.stops a.sets.now w.word.ensures (omega arith) w.requires (rw (e, d.minus-off.ensures) at d.loop-left.invariant)
+    let a = c.args in
+    let e : c.loop-left.left ≡ 0 = omega arith in
+    missing-all a.members a.route.now a.stops a.sets.now c.word.ensures (omega arith) c.requires (rw (e, c.minus-off.ensures) at c.loop-left.invariant)
 
 pub missed_spec : {M : Type 1} → statement M
 missed_spec =

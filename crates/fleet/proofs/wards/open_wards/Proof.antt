@@ -17,12 +17,11 @@ abbrev decreases-loop : tie.decreases-loop-y
 decreases-loop sets n w₀ y₀ w y = n - y
 
 -- a node with a place open is put in, another is not
-joined : (c : tie.Joined-sets-y-ne0 invariant-loop decreases-loop) → let d = c in Opens d.args.sets.now (d.loop-y.y + 1) c.if-sets-y-ne0.w
+joined : (c : tie.Joined-sets-y-ne0 invariant-loop decreases-loop) → Opens c.args.sets.now (c.loop-y.y + 1) c.if-sets-y-ne0.w
 joined c =
-    let d = c in
-    let sets = d.args.sets.now in
-    let v = d.loop-y.invariant in
-    elim c.if-sets-y-ne0.branch [ then-sets-y-ne0 t ↦ rw (t.w-is, t.put-w.ensures) (opens-more sets d.loop-y.y d.loop-y.w (omega arith) t.if-sets-y-ne0.true v.2) | else-sets-y-ne0 t ↦ rw t.w-is (opens_not sets d.loop-y.y d.loop-y.w t.if-sets-y-ne0.false v.2) ]
+    let sets = c.args.sets.now in
+    let v = c.loop-y.invariant in
+    elim c.if-sets-y-ne0.branch [ then-sets-y-ne0 t ↦ rw (t.w-is, t.put-w.ensures) (opens-more sets c.loop-y.y c.loop-y.w (omega arith) t.if-sets-y-ne0.true v.2) | else-sets-y-ne0 t ↦ rw t.w-is (opens_not sets c.loop-y.y c.loop-y.w t.if-sets-y-ne0.false v.2) ]
 
 loop-holds : tie.Need-loop-y-init invariant-loop decreases-loop
 loop-holds c = (omega arith, c.requires, opens-none c.args.sets.now)

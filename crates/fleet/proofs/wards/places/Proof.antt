@@ -39,8 +39,7 @@ loop-less c = omega arith
 
 loop-again : tie.Need-loop-j-preserved invariant-loop decreases-loop
 loop-again c =
-    let d = c in
-    let v = d.loop-j.invariant in
+    let v = c.loop-j.invariant in
     (omega arith, v.1, omega (arith, v.2, c.count-all.ensures.1), sum-next _ _ v.3 c.count-all.ensures.0)
 
 returns : tie.Need-returns invariant-loop decreases-loop

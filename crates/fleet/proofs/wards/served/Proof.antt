@@ -22,18 +22,16 @@ abbrev decreases-loop : tie.decreases-loop-left
 decreases-loop routes sets figures v left₀ j₀ left j = v - j
 
 -- one van more
-more : (c : tie.After-missed-left invariant-loop decreases-loop) → let d = c in let a = d.args in (levels : List (List ℕ))
-    → Unserved (fleet_with a.routes.now a.sets.now levels a.figures.now) (d.loop-left.j + 1) c.missed-left.result
+more : (c : tie.After-missed-left invariant-loop decreases-loop) → let a = c.args in (levels : List (List ℕ))
+    → Unserved (fleet_with a.routes.now a.sets.now levels a.figures.now) (c.loop-left.j + 1) c.missed-left.result
 more c levels =
-    let g = c in
-    let d = g in
-    let a = d.args in
-    let j = d.loop-left.j in
-    let left = d.loop-left.left in
+    let a = c.args in
+    let j = c.loop-left.j in
+    let left = c.loop-left.left in
     let row = row_state a.routes.now a.sets.now levels a.figures.now in
     let f = figures_in (get_or a.figures.now j []) in
-    unserved-more (fleet_with a.routes.now a.sets.now levels a.figures.now) j left c.missed-left.result (d.loop-left.invariant.2 levels)
-    (λ y l. rw g.figures_in-f.ensures at (c.missed-left.ensures f.marks f.must y l)
+    unserved-more (fleet_with a.routes.now a.sets.now levels a.figures.now) j left c.missed-left.result (c.loop-left.invariant.2 levels)
+    (λ y l. rw c.figures_in-f.ensures at (c.missed-left.ensures f.marks f.must y l)
     ∙ ap (λ (x : State). has left y && not (has_ward (board_of x) y)) (sym (state-of row j (omega arith))))
 
 index-1-figures-in : tie.Need-bounds-figures-0 invariant-loop decreases-loop
@@ -53,11 +51,10 @@ loop-holds c =
 
 returns : tie.Need-returns-then-j-v invariant-loop decreases-loop
 returns c =
-    let d = c in
-    let a = d.args in
+    let a = c.args in
     λ levels.
     let f = fleet_with a.routes.now a.sets.now levels a.figures.now in
-    served-not f a.v (subst (λ (i : ℕ). Unserved f i d.loop-left.left) c.if-j-v.true (d.loop-left.invariant.2 levels)) (omega arith) d.loop-left.invariant.1
+    served-not f a.v (subst (λ (i : ℕ). Unserved f i c.loop-left.left) c.if-j-v.true (c.loop-left.invariant.2 levels)) (omega arith) c.loop-left.invariant.1
 
 mul-figures-in : tie.Need-offset_bounds-figures-j invariant-loop decreases-loop
 mul-figures-in c = omega arith
@@ -66,7 +63,7 @@ index-1-figures-in-2 : tie.Need-bounds-figures-j invariant-loop decreases-loop
 index-1-figures-in-2 c = omega arith
 
 figures-in-requires-2 : tie.Need-figures_in-f-requires invariant-loop decreases-loop
-figures-in-requires-2 c κs = let d = c in d.requires.0.1.wide d.loop-left.j (omega arith)
+figures-in-requires-2 c κs = c.requires.0.1.wide c.loop-left.j (omega arith)
 
 mul-missed : tie.Need-offset_bounds-routes-j invariant-loop decreases-loop
 mul-missed c = omega arith
@@ -82,9 +79,7 @@ index-1-missed-2 c = omega arith
 
 missed-requires : tie.Need-missed-left-requires invariant-loop decreases-loop
 missed-requires c κs =
-    let g = c in
-    let d = g in
-    rw g.figures_in-f.ensures (d.requires.1 d.loop-left.j (omega arith))
+    rw c.figures_in-f.ensures (c.requires.1 c.loop-left.j (omega arith))
 
 add-j : tie.Need-overflow_add-j invariant-loop decreases-loop
 add-j c = omega arith
@@ -97,9 +92,8 @@ loop-again c = (omega arith, omega arith, λ levels. more c levels)
 
 returns-2 : tie.Need-returns invariant-loop decreases-loop
 returns-2 c =
-    let d = c in
-    let a = d.args in
-    λ levels. served-all (fleet_with a.routes.now a.sets.now levels a.figures.now) d.loop-left.j a.v (d.loop-left.invariant.2 levels) d.loop-left.invariant.0 (omega arith)
+    let a = c.args in
+    λ levels. served-all (fleet_with a.routes.now a.sets.now levels a.figures.now) c.loop-left.j a.v (c.loop-left.invariant.2 levels) c.loop-left.invariant.0 (omega arith)
 
 pub served_spec : {M : Type 1} → statement M
 served_spec =

@@ -16,21 +16,18 @@ use Rattle.fleet.proofs.wards.with_van.Tie as tie
 abbrev here : tie.Start → Board
 here c = board c.args.route.now c.args.stops c.args.sets.now 0 0
 
-on-at : (c : tie.After-take-on) → let d = c in (y : ℕ) → has c.take-on.result y ≡ is_inner d.args.n y && on_route (here c.before.before.before) y
+on-at : (c : tie.After-take-on) → (y : ℕ) → has c.take-on.result y ≡ is_inner c.args.n y && on_route (here c.before.before.before) y
 on-at c y =
-    let d = c in
-    let n = d.args.n in
+    let n = c.args.n in
     let e = c.take-on.ensures ∙ ap (λ (w : ℕ). without w (n - 1)) (c.take.ensures ∙ ap (λ (w : ℕ). without w 0) c.word.ensures) in
-    ap (λ (w : ℕ). has w y) e ∙ on-wards n d.requires.0 d.requires.1.0 (here c.before.before.before) d.requires.1 y
+    ap (λ (w : ℕ). has w y) e ∙ on-wards n c.requires.0 c.requires.1.0 (here c.before.before.before) c.requires.1 y
 
-more-at : (c : tie.After-take-open) → let d = c in (y : ℕ)
-    → has c.take-open.result y ≡ is_inner d.args.n y && not (eqb (set_of (here c.before.before.before.before.before.before) y) 0)
+more-at : (c : tie.After-take-open) → (y : ℕ)
+    → has c.take-open.result y ≡ is_inner c.args.n y && not (eqb (set_of (here c.before.before.before.before.before.before) y) 0)
 more-at c y =
-    let d = c in
-    let n = d.args.n in
-    let o = c in
+    let n = c.args.n in
     let e = c.take-open.ensures ∙ ap (λ (w : ℕ). without w (n - 1)) c.take-2.ensures in
-    ap (λ (w : ℕ). has w y) e ∙ open-wards n d.requires.0 d.requires.1.0 (here c.before.before.before.before.before.before) o.open_wards.result o.open_wards.ensures y
+    ap (λ (w : ℕ). has w y) e ∙ open-wards n c.requires.0 c.requires.1.0 (here c.before.before.before.before.before.before) c.open_wards.result c.open_wards.ensures y
 
 word-requires : tie.Need-word-requires
 word-requires c κs = (c.requires.1.1, λ i h. omega (arith, c.requires.1.3 i h, c.requires.1.0))
@@ -73,19 +70,15 @@ apart-requires-2 c κs = search rules
 
 returns : tie.Need-returns
 returns c =
-    let j = c in
-    let t = j in
-    let u = t in
-    let d = u in
-    let w = d.args.wards in
-    let f = is-words w _ d.well_formed.0 in
+    let w = c.args.wards in
+    let f = is-words w _ c.well_formed.0 in
     rw (
-      j.join.ensures,
-      j.join-3.ensures,
-      j.join-2.ensures,
+      c.join.ensures,
+      c.join-3.ensures,
+      c.join-2.ensures,
       c.apart.ensures,
       c.apart-2.ensures,
-    ) (adds-van d.args.n d.requires.0 d.requires.1.0 w (here c.before.before.before.before.before.before.before.before.before.before.before.before) u.take-on.result t.take-open.result f.0 f.1 (on-at c.before.before.before.before.before.before.before.before.before) (more-at c.before.before.before.before.before.before))
+    ) (adds-van c.args.n c.requires.0 c.requires.1.0 w (here c.before.before.before.before.before.before.before.before.before.before.before.before) c.take-on.result c.take-open.result f.0 f.1 (on-at c.before.before.before.before.before.before.before.before.before) (more-at c.before.before.before.before.before.before))
 
 pub with_van_spec : {M : Type 1} → statement M
 with_van_spec =

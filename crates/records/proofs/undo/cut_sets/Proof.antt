@@ -48,26 +48,24 @@ loop-less c = omega arith
 
 loop-again : tie.Need-loop-y-preserved invariant-loop decreases-loop
 loop-again c =
-    let l = c in
-    let v = l.loop-y.invariant in
+    let v = c.loop-y.invariant in
     let e = c.cut_set.ensures in
-    let long = length-map l.args.sets.now (cut l.args.legs) in (
+    let long = length-map c.args.sets.now (cut c.args.legs) in (
       omega arith,
       v.1,
       v.2,
       map-turn (cut _) _ _ (omega arith) v.3 e.0,
-      below_more _ _ v.4 (rw (ap (λ (t : List ℕ). get_or t l.loop-y.y 0) v.3 ∙ swept-ahead _ _ l.loop-y.y l.loop-y.y long (le_refl _)) at e.1),
+      below_more _ _ v.4 (rw (ap (λ (t : List ℕ). get_or t c.loop-y.y 0) v.3 ∙ swept-ahead _ _ c.loop-y.y c.loop-y.y long (le_refl _)) at e.1),
     )
 
 returns : tie.Need-returns invariant-loop decreases-loop
 returns c =
     let l = c.loop-y in
-    let d = c in
-    let e : l.y ≡ d.args.n = omega arith in (
-      l.invariant.3 ∙ ap (swept _ _) e ∙ map-ends _ _ _ (cut-none _ d.ranges.legs.fits) d.requires.2,
-      λ y g. decided (ltb y d.args.n)
+    let e : l.y ≡ c.args.n = omega arith in (
+      l.invariant.3 ∙ ap (swept _ _) e ∙ map-ends _ _ _ (cut-none _ c.ranges.legs.fits) c.requires.2,
+      λ y g. decided (ltb y c.args.n)
           (λ q. l.invariant.4 y (omega (arith, e, ltb-true y _ q)))
-          (λ q. rw (d.requires.2 y (ltb-false y _ q)) (omega arith)),
+          (λ q. rw (c.requires.2 y (ltb-false y _ q)) (omega arith)),
     )
 
 pub cut_sets_spec : {M : Type 1} → statement M

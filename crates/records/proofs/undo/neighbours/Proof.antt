@@ -18,7 +18,7 @@ decreases-loop next₀ last₀ route stops i₀ next last i = stops - i
 low : (c : tie.Start invariant-loop decreases-loop) → let a = c.args in (a.stops ≤ 64) × (1 ≤ a.stops) × ((i : ℕ) → i < a.stops → get_or a.route.now i 0 < 64)
 low c = let s = c.requires.1.4 in let r = readable _ _ s in (r.1, omega (arith, s.form.route.two), r.3)
 
-prior : (c : tie.After-k-1 invariant-loop decreases-loop) → let l = c in get_or l.args.route.now (l.loop-i.i - 1) 0 < 64
+prior : (c : tie.After-k-1 invariant-loop decreases-loop) → get_or c.args.route.now (c.loop-i.i - 1) 0 < 64
 prior c = (low c.before.before.before.before.before).2 _ (omega arith)
 
 loop-holds : tie.Need-loop-i-init invariant-loop decreases-loop
@@ -59,9 +59,8 @@ loop-less c = omega arith
 
 loop-again : tie.Need-loop-i-preserved invariant-loop decreases-loop
 loop-again c =
-    let t = c in
-    let v = t.loop-i.invariant in
-    (omega arith, omega arith, beside-more _ _ _ _ _ t.requires.1.4 v.0 t.loop-i-test.true v.2)
+    let v = c.loop-i.invariant in
+    (omega arith, omega arith, beside-more _ _ _ _ _ c.requires.1.4 v.0 c.loop-i-test.true v.2)
 
 returns : tie.Need-returns invariant-loop decreases-loop
 returns c = let l = c.loop-i in let e : l.i ≡ c.args.stops = omega arith in rw (← e) l.invariant.2

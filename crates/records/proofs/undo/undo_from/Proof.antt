@@ -64,13 +64,11 @@ undo-one-requires c κs =
 returns : tie.Need-returns-then-not-u invariant-loop decreases-loop
 unfolding first_of second_of
 returns c =
-    let o = c in
-    let t = o in
-    let v = t.loop-left.invariant in
+    let v = c.loop-left.invariant in
     λ b h.
     let r = v.4 b h in
-    let g = o.undo_one-u.ensures r.0 r.1 in
-    follows_by _ _ _ _ _ (r.2 ∙ many-stop _ _ _ _ _ t.loop-left-test.true (g.0 ∙ not-true _ c.if-not-u.true)) g
+    let g = c.undo_one-u.ensures r.0 r.1 in
+    follows_by _ _ _ _ _ (r.2 ∙ many-stop _ _ _ _ _ c.loop-left-test.true (g.0 ∙ not-true _ c.if-not-u.true)) g
 
 loop-less : tie.Need-loop-left-smaller invariant-loop decreases-loop
 loop-less c = omega arith
@@ -78,24 +76,21 @@ loop-less c = omega arith
 loop-again : tie.Need-loop-left-preserved invariant-loop decreases-loop
 unfolding first_of second_of
 loop-again c =
-    let o = c in
-    let t = o in
-    let v = t.loop-left.invariant in (
+    let v = c.loop-left.invariant in (
       omega arith,
       omega arith,
       not-false _ c.if-not-u.false,
       v.3,
       λ b h.
           let r = v.4 b h in
-          let g = o.undo_one-u.ensures r.0 r.1 in
-          (_, g.1, r.2 ∙ many-on _ _ _ _ _ t.loop-left-test.true (g.0 ∙ not-false _ c.if-not-u.false)),
+          let g = c.undo_one-u.ensures r.0 r.1 in
+          (_, g.1, r.2 ∙ many-on _ _ _ _ _ c.loop-left-test.true (g.0 ∙ not-false _ c.if-not-u.false)),
     )
 
 returns-2 : tie.Need-returns invariant-loop decreases-loop
 returns-2 c =
-    let l = c in
-    let v = l.loop-left.invariant in
-    let z : l.loop-left.left - l.args.base ≡ 0 = omega arith in
+    let v = c.loop-left.invariant in
+    let z : c.loop-left.left - c.args.base ≡ 0 = omega arith in
     λ b h.
     let r = v.4 b h in
     follows_by _ _ _ _ _ (r.2 ∙ rw z (many-none _ _ _ _)) (sym v.2, r.1)

@@ -9,14 +9,12 @@ use Rattle.records.proofs.UndoingLaws.{told, undoing-none, ended}
 use Rattle.records.proofs.undo.undo_many.Statement.{statement}
 use Rattle.records.proofs.undo.undo_many.Tie as tie
 
-begun : (c : tie.After-undo_from-arg-1) → let d = c in let a = d.args in
+begun : (c : tie.After-undo_from-arg-1) → let a = c.args in
     Undoing a.n (board a.route.now a.f.stops a.sets.now a.f.marks a.f.must) (told true a.f.stops a.f.marks a.f.must c.word.result)
     c.neighbours.new.next c.neighbours.new.last a.sets.now
 unfolding legs_of
 begun c =
-    let w = c in
-    let g = w in
-    undoing-none _ _ _ _ _ g.requires.0 g.neighbours.ensures refl refl refl (sym w.word.ensures)
+    undoing-none _ _ _ _ _ c.requires.0 c.neighbours.ensures refl refl refl (sym c.word.ensures)
 
 neighbours-requires : tie.Need-neighbours-requires
 neighbours-requires c κs = search rules
@@ -32,21 +30,18 @@ undo-from-requires c κs = let p = c.requires in (((_, begun c), refl), (p.1, p.
 
 cut-sets-requires : tie.Need-cut_sets-requires
 cut-sets-requires c κs =
-    let u = c in
-    let g = (u.undo_from-u.ensures _ (begun c.before.before)).1 in
+    let g = (c.undo_from-u.ensures _ (begun c.before.before)).1 in
     (g.long, g.sound.small, g.past)
 
 walk-requires : tie.Need-walk-requires
 walk-requires c κs =
-    let u = c in
-    let s = u.requires.0 in
-    let g = (u.undo_from-u.ensures _ (begun c.before.before.before.before.before)).1 in
+    let s = c.requires.0 in
+    let g = (c.undo_from-u.ensures _ (begun c.before.before.before.before.before)).1 in
     ((s.wide.route, (readable _ _ s).1, s.form.route.past), (_, _, _, g.sound, g.stops, g.beside))
 
 returns : tie.Need-returns
 returns c =
-    let u = c in
-    let g = u.undo_from-u.ensures _ (begun c.before.before.before.before.before.before) in
+    let g = c.undo_from-u.ensures _ (begun c.before.before.before.before.before.before) in
     let k = c.cut_sets.ensures in
     ended _ _ _ _ _ _ g k.1 (c.walk.ensures _ _ _ g.1.sound g.1.stops g.1.beside) k.0
 

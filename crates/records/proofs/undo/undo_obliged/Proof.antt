@@ -24,9 +24,8 @@ misfit-requires c κs = search rules
 
 returns : tie.Need-returns-then-not-fits
 returns c =
-    let t = c in
     λ n b next last sets h.
-    follows_by n _ next last sets (undone-no _ _ (fits-is c.before.before n b next last sets h ∙ t.if-not-fits.true)) (c.misfit.ensures n b next last sets h)
+    follows_by n _ next last sets (undone-no _ _ (fits-is c.before.before n b next last sets h ∙ c.if-not-fits.true)) (c.misfit.ensures n b next last sets h)
 
 without-requires : tie.Need-without-requires
 without-requires c κs = search rules

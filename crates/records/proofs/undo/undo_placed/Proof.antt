@@ -44,8 +44,7 @@ misfit-requires c κs = search rules
 
 returns : tie.Need-returns-then-not-inner-has
 returns c =
-    let t = c in
-    λ b h. follows_by _ _ _ _ _ (undone-no _ _ (test-off _ _ _ _ _ _ h _ _ (node c.before.before ∙ t.if-not-inner-has.true))) (c.misfit.ensures _ _ _ _ _ h)
+    λ b h. follows_by _ _ _ _ _ (undone-no _ _ (test-off _ _ _ _ _ _ h _ _ (node c.before.before ∙ c.if-not-inner-has.true))) (c.misfit.ensures _ _ _ _ _ h)
 
 element-copy-out-p : tie.Need-bounds-last-x
 element-copy-out-p c = (low c.before).0
@@ -61,8 +60,7 @@ misfit-requires-2 c κs = search rules
 
 returns-2 : tie.Need-returns-then-not-left_legs
 returns-2 c =
-    let t = c in
-    λ b h. follows_by _ _ _ _ _ (undone-no _ _ (fits-is c.before.before b h ∙ t.if-not-left_legs.true)) (c.misfit-then-not-left_legs.ensures _ _ _ _ _ h)
+    λ b h. follows_by _ _ _ _ _ (undone-no _ _ (fits-is c.before.before b h ∙ c.if-not-left_legs.true)) (c.misfit-then-not-left_legs.ensures _ _ _ _ _ h)
 
 element-copy-out-k : tie.Need-bounds-next-x
 element-copy-out-k c = (low c.before.before.before.before.before).0
@@ -93,11 +91,10 @@ without-requires c κs = search rules
 
 returns-3 : tie.Need-returns
 returns-3 c =
-    let l = c in
     λ b h.
-    let e = fits-is c.before.before.before.before.before.before b h ∙ l.if-not-left_legs.false in
+    let e = fits-is c.before.before.before.before.before.before b h ∙ c.if-not-left_legs.false in
     rw c.without.ensures
-    (follows_by _ _ _ _ _ (undone-yes _ _ e) (refl, undoing-placed _ _ _ _ _ _ h _ _ l.ranges.old.fits e))
+    (follows_by _ _ _ _ _ (undone-yes _ _ e) (refl, undoing-placed _ _ _ _ _ _ h _ _ c.ranges.old.fits e))
 
 pub undo_placed_spec : {M : Type 1} → statement M
 undo_placed_spec =

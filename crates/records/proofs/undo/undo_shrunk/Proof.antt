@@ -33,9 +33,8 @@ misfit-requires c κs = search rules
 
 returns : tie.Need-returns-then-not-inner
 returns c =
-    let t = c in
     λ b next last h.
-    follows_by _ _ _ _ _ (undone-no _ _ (shrunk-out _ _ _ _ (sym t.inner.ensures ∙ t.if-not-inner.true))) (c.misfit.ensures _ _ _ _ _ h)
+    follows_by _ _ _ _ _ (undone-no _ _ (shrunk-out _ _ _ _ (sym c.inner.ensures ∙ c.if-not-inner.true))) (c.misfit.ensures _ _ _ _ _ h)
 
 mul-v : tie.Need-offset_bounds-sets-x
 mul-v c = omega (arith, low c)
@@ -57,8 +56,7 @@ misfit-requires-2 c κs = search rules
 
 returns-2 : tie.Need-returns-then-not-fits
 returns-2 c =
-    let t = c in
-    λ b next last h. follows_by _ _ _ _ _ (undone-no _ _ (fits-is c.before.before b next last h ∙ t.if-not-fits.true)) (c.misfit-then-not-fits.ensures _ _ _ _ _ h)
+    λ b next last h. follows_by _ _ _ _ _ (undone-no _ _ (fits-is c.before.before b next last h ∙ c.if-not-fits.true)) (c.misfit-then-not-fits.ensures _ _ _ _ _ h)
 
 mul-sets : tie.Need-offset_bounds-sets-x-2
 mul-sets c = omega (arith, low c.before.before.before.before.before.before)

@@ -36,8 +36,7 @@ most c = let q = c.requires.1 in omega (arith, q.3.small, q.3.form.route.most, q
 -- the stop met next is a node, and so a place of the array
 low : (c : tie.In-loop-i invariant-loop decreases-loop invariant-loop2 decreases-loop2) → c.loop-i.p < 64
 low c =
-    let d = c in
-    let q = d.requires.1 in
+    let q = c.requires.1 in
     let s = q.3 in
     let w = (c.loop-i.invariant.2 q.0 q.1 q.2 s q.4 q.5).1 c.loop-i-test.true in
     omega (arith, s.small, w, s.form.route.below c.loop-i.i (omega (arith, q.4, c.loop-i-test.true)))
@@ -65,15 +64,14 @@ loop-less c = omega arith
 
 loop-again : tie.Need-loop-i-preserved invariant-loop decreases-loop invariant-loop2 decreases-loop2
 loop-again c =
-    let l = c in
-    let v = l.loop-i.invariant in (
+    let v = c.loop-i.invariant in (
       omega arith,
-      length-set l.loop-i.route l.loop-i.i l.loop-i.p ∙ v.1,
+      length-set c.loop-i.route c.loop-i.i c.loop-i.p ∙ v.1,
       λ n b last s e h.
           let w = v.2 n b last s e h in
           let q = c.loop-i-test.true in (
-            sweep-up _ _ _ (s.wide.route ∙ sym l.requires.0.0) (omega (arith, most c.before.before.before.before.before.before, l.requires.0.0)) w.0 (w.1 q),
-            λ g. c.node_of-p.ensures ∙ ap (λ (k : ℕ). get_or l.args.next.now k 0) (w.1 q) ∙ h.ahead _ (omega (arith, e)),
+            sweep-up _ _ _ (s.wide.route ∙ sym c.requires.0.0) (omega (arith, most c.before.before.before.before.before.before, c.requires.0.0)) w.0 (w.1 q),
+            λ g. c.node_of-p.ensures ∙ ap (λ (k : ℕ). get_or c.args.next.now k 0) (w.1 q) ∙ h.ahead _ (omega (arith, e)),
           ),
     )
 
@@ -97,29 +95,23 @@ loop2-less c = omega arith
 
 loop2-again : tie.Need-loop-i-2-preserved invariant-loop decreases-loop invariant-loop2 decreases-loop2
 loop2-again c =
-    let l = c in
-    let a = l in
-    let d = a in
-    let v = l.loop-i-2.invariant in (
+    let v = c.loop-i-2.invariant in (
       omega arith,
       omega arith,
       λ n b last s e h.
-          sweep-up _ _ _ (s.wide.route ∙ sym a.loop-i.invariant.1) (omega (arith, d.requires.0.1, a.loop-i.invariant.1)) (v.2 n b last s e h)
-          (sym (s.form.route.past _ (omega (arith, e)) (omega (arith, d.requires.0.1)))),
+          sweep-up _ _ _ (s.wide.route ∙ sym c.loop-i.invariant.1) (omega (arith, c.requires.0.1, c.loop-i.invariant.1)) (v.2 n b last s e h)
+          (sym (s.form.route.past _ (omega (arith, e)) (omega (arith, c.requires.0.1)))),
     )
 
 returns : tie.Need-returns invariant-loop decreases-loop invariant-loop2 decreases-loop2
 returns c =
-    let l = c in
-    let a = l in
-    let d = a in
     λ n b last s e h.
-    let long = s.wide.route ∙ sym d.requires.0.0 in
-    l.loop-i-2.invariant.2 n b last s e h
-    ∙ swept-past _ _ _ (s.wide.route ∙ sym a.loop-i.invariant.1) (λ k g f.
-    let m : k < 64 = omega (arith, a.loop-i.invariant.1) in
-    ap (λ (t : List ℕ). get_or t k 0) (a.loop-i.invariant.2 n b last s e h).0 ∙ swept-ahead _ _ _ k long (omega (arith, g, l.loop-i-2.invariant.0, a.loop-i.invariant.0))
-    ∙ d.requires.0.2 k (omega (arith, g, c.loop-i-2-test.false)) m ∙ sym (s.form.route.past k (omega (arith, e, g, l.loop-i-2.invariant.0)) m))
+    let long = s.wide.route ∙ sym c.requires.0.0 in
+    c.loop-i-2.invariant.2 n b last s e h
+    ∙ swept-past _ _ _ (s.wide.route ∙ sym c.loop-i.invariant.1) (λ k g f.
+    let m : k < 64 = omega (arith, c.loop-i.invariant.1) in
+    ap (λ (t : List ℕ). get_or t k 0) (c.loop-i.invariant.2 n b last s e h).0 ∙ swept-ahead _ _ _ k long (omega (arith, g, c.loop-i-2.invariant.0, c.loop-i.invariant.0))
+    ∙ c.requires.0.2 k (omega (arith, g, c.loop-i-2-test.false)) m ∙ sym (s.form.route.past k (omega (arith, e, g, c.loop-i-2.invariant.0)) m))
 
 pub walk_spec : {M : Type 1} → statement M
 walk_spec =

@@ -41,10 +41,9 @@ loop-again c = let v = c.loop-y.invariant in (omega arith, v.1, omega (arith, c.
 
 returns : tie.Need-returns invariant-loop decreases-loop
 returns c =
-    let d = c in
-    let a = d.args in
+    let a = c.args in
     let e : c.loop-y.y ≡ a.n = omega arith in
-    (c.loop-y.invariant.3 ∙ ap (shrunk _ _) e ∙ shrunk-end a.old.now a.new.now a.n 64 d.requires.0 d.requires.1, omega arith)
+    (c.loop-y.invariant.3 ∙ ap (shrunk _ _) e ∙ shrunk-end a.old.now a.new.now a.n 64 c.requires.0 c.requires.1, omega arith)
 
 pub needed_spec : {M : Type 1} → statement M
 needed_spec =

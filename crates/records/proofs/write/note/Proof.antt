@@ -31,13 +31,12 @@ element-copy-out-note-one-2 c = omega arith
 note-one-requires : tie.Need-note_one-i-requires invariant-loop decreases-loop
 unfolding room_of
 note-one-requires c κs =
-    let l = c in
-    let v = l.loop-y.invariant in
-    let a = l.args in
-    let h = l.requires.2 in (
+    let v = c.loop-y.invariant in
+    let a = c.args in
+    let h = c.requires.2 in (
       omega arith,
-      omega (arith, h, l.well_formed, shrunk-upto a.old.now a.new.now l.loop-y.y 64 (omega arith)),
-      λ d. omega (arith, v.2, v.3, h, shrunk-differ a.old.now a.new.now l.loop-y.y d, shrunk-upto a.old.now a.new.now (l.loop-y.y + 1) 64 (omega arith)),
+      omega (arith, h, c.well_formed, shrunk-upto a.old.now a.new.now c.loop-y.y 64 (omega arith)),
+      λ d. omega (arith, v.2, v.3, h, shrunk-differ a.old.now a.new.now c.loop-y.y d, shrunk-upto a.old.now a.new.now (c.loop-y.y + 1) 64 (omega arith)),
     )
 
 add-y : tie.Need-overflow_add-y invariant-loop decreases-loop
@@ -48,8 +47,7 @@ loop-less c = omega arith
 
 loop-again : tie.Need-loop-y-preserved invariant-loop decreases-loop
 loop-again c =
-    let l = c in
-    let v = l.loop-y.invariant in
+    let v = c.loop-y.invariant in
     let e = c.note_one-i.ensures in
     let g = note-grows _ _ _ _ _ _ _ e v.2 in
     (omega arith, v.1, g.0, g.1 ∙ v.3, note-next _ _ _ _ v.4 e)
@@ -59,9 +57,8 @@ same_length c = c.loop-y.invariant.3
 
 returns : tie.Need-returns invariant-loop decreases-loop
 returns c =
-    let d = c in
-    let e : c.loop-y.y ≡ d.args.n = omega arith in
-    note-end _ _ _ 64 _ d.requires.0 d.requires.1 ∙ rw e at c.loop-y.invariant.4
+    let e : c.loop-y.y ≡ c.args.n = omega arith in
+    note-end _ _ _ 64 _ c.requires.0 c.requires.1 ∙ rw e at c.loop-y.invariant.4
 
 pub note_spec : {M : Type 1} → statement M
 note_spec =

@@ -10,7 +10,7 @@ first-word-requires : tie.Need-first_word-requires
 first-word-requires c κs = search rules
 
 push-requires : tie.Need-push-requires
-push-requires c κs = let e = c in e.requires.2 e.if-w-v.false
+push-requires c κs = c.requires.2 c.if-w-v.false
 
 add-result : tie.Need-overflow_add-result
 add-result c = search rules
@@ -20,8 +20,7 @@ same_length c = search rules
 
 returns-2 : tie.Need-returns
 returns-2 c =
-    let p = c in
-    rw (p.push.ensures, p.first_word.ensures) (note-differ _ _ _ _ p.if-w-v.false)
+    rw (c.push.ensures, c.first_word.ensures) (note-differ _ _ _ _ c.if-w-v.false)
 
 pub note_one_spec : {M : Type 1} → statement M
 note_one_spec =

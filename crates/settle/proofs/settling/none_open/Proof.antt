@@ -32,9 +32,8 @@ loop-less c = omega arith
 
 loop-again : tie.Need-loop-i-preserved invariant-loop decreases-loop
 loop-again c =
-    let l = c in
-    let ws = l.args.sets.now in
-    (omega arith, l.loop-i.invariant.1, flag-goes _ (λ k. eqb (get_or ws k 0) 0) l.loop-i.invariant.2 refl ∙ sym (or-none l.loop-i.all (get_or ws l.loop-i.i 0)))
+    let ws = c.args.sets.now in
+    (omega arith, c.loop-i.invariant.1, flag-goes _ (λ k. eqb (get_or ws k 0) 0) c.loop-i.invariant.2 refl ∙ sym (or-none c.loop-i.all (get_or ws c.loop-i.i 0)))
 
 returns : tie.Need-returns invariant-loop decreases-loop
 returns c = flag-done _ _ _ c.loop-i.invariant.0 c.loop-i-test.false c.loop-i.invariant.2

@@ -12,40 +12,29 @@ round-requires c κs = let p = c.requires in ((rw p.1.0 p.0.0, p.0.1), p.1.1)
 
 same-requires : tie.Need-same-requires
 same-requires c κs =
-    let d = c in
-    let r = d.requires.0.0 in
-    let f = ready-first d.args.pass.van r (rw d.requires.1.0 at c.round.ensures) in
+    let r = c.requires.0.0 in
+    let f = ready-first c.args.pass.van r (rw c.requires.1.0 at c.round.ensures) in
     (r.sized, f.sized, nodes-most r.laid, past_same r f)
 
 returns : tie.Need-returns-then-same
 returns c =
-    let d = c in
-    none_left d.args.pass.van d.requires.0.0 (rw d.requires.1.0 at c.round.ensures) (sym c.same.ensures ∙ c.if-same.true)
+    none_left c.args.pass.van c.requires.0.0 (rw c.requires.1.0 at c.round.ensures) (sym c.same.ensures ∙ c.if-same.true)
 
 strike-pairs-requires : tie.Need-strike_pairs-requires
 strike-pairs-requires c κs =
-    let d = c in
-    let p = d.requires.0 in
-    let f = ready-first d.args.pass.van p.0 (rw d.requires.1.0 at c.round.ensures) in
-    ((f, legs p.0 p.1), (marked p.0 p.1.spots p.1.before, d.requires.1.1))
+    let p = c.requires.0 in
+    let f = ready-first c.args.pass.van p.0 (rw c.requires.1.0 at c.round.ensures) in
+    ((f, legs p.0 p.1), (marked p.0 p.1.spots p.1.before, c.requires.1.1))
 
 returns-2 : tie.Need-returns-then-strike_pairs
 returns-2 c =
-    let k = c in
-    let e = k in
-    let o = e in
-    let d = o in
-    two-left d.args.pass d.requires.0.0 (rw d.requires.1.0 at o.round.ensures) d.requires.0.1.loads k.strike_pairs.ensures.0
-    (sym e.same.ensures ∙ e.if-same.false) (not-true _ (sym k.strike_pairs.ensures.1 ∙ c.if-strike_pairs.true))
+    two-left c.args.pass c.requires.0.0 (rw c.requires.1.0 at c.round.ensures) c.requires.0.1.loads c.strike_pairs.ensures.0
+    (sym c.same.ensures ∙ c.if-same.false) (not-true _ (sym c.strike_pairs.ensures.1 ∙ c.if-strike_pairs.true))
 
 returns-3 : tie.Need-returns-else-strike_pairs
 returns-3 c =
-    let k = c in
-    let e = k in
-    let o = e in
-    let d = o in
-    one_left d.args.pass d.requires.0.0 (rw d.requires.1.0 at o.round.ensures) d.requires.0.1.loads k.strike_pairs.ensures.0
-    (sym e.same.ensures ∙ e.if-same.false) (not-false _ (sym k.strike_pairs.ensures.1 ∙ c.if-strike_pairs.false))
+    one_left c.args.pass c.requires.0.0 (rw c.requires.1.0 at c.round.ensures) c.requires.0.1.loads c.strike_pairs.ensures.0
+    (sym c.same.ensures ∙ c.if-same.false) (not-false _ (sym c.strike_pairs.ensures.1 ∙ c.if-strike_pairs.false))
 
 pub rounds_spec : {M : Type 1} → statement M
 rounds_spec =

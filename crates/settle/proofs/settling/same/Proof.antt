@@ -38,16 +38,14 @@ loop-less c = omega arith
 
 loop-again : tie.Need-loop-i-preserved invariant-loop decreases-loop
 loop-again c =
-    let l = c in
-    let v = l.loop-i.invariant in
-    (omega arith, v.1, flag-goes _ (λ k. eqb (get_or l.args.a.now k 0) (get_or l.args.b.now k 0)) v.2 refl)
+    let v = c.loop-i.invariant in
+    (omega arith, v.1, flag-goes _ (λ k. eqb (get_or c.args.a.now k 0) (get_or c.args.b.now k 0)) v.2 refl)
 
 returns : tie.Need-returns invariant-loop decreases-loop
 returns c =
     let v = c.loop-i.invariant in
-    let b = c in
-    let e : 64 - b.args.n + b.args.n ≡ 64 = omega (arith, b.requires.2) in
-    flag-done _ _ _ v.0 c.loop-i-test.false v.2 ∙ sym (rw e at (below-ends (64 - b.args.n) _ _ (λ i h. eq-eqb _ _ (b.requires.3 i h))))
+    let e : 64 - c.args.n + c.args.n ≡ 64 = omega (arith, c.requires.2) in
+    flag-done _ _ _ v.0 c.loop-i-test.false v.2 ∙ sym (rw e at (below-ends (64 - c.args.n) _ _ (λ i h. eq-eqb _ _ (c.requires.3 i h))))
 
 pub same_spec : {M : Type 1} → statement M
 same_spec =

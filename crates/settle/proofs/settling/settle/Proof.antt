@@ -20,25 +20,20 @@ befores-requires c κs =
 
 loads-requires : tie.Need-loads-peaks-requires
 loads-requires c κs =
-    let a = c in
-    let p = a.requires in (routed p.0.0 p.1, a.spots.ensures, refl)
+    let p = c.requires in (routed p.0.0 p.1, c.spots.ensures, refl)
 
 rounds-requires : tie.Need-rounds-requires
 rounds-requires c κs =
-    let h = c in
-    let b = h in
-    let a = b in
-    let l = a in
-    let d = l.requires in
+    let d = c.requires in
     let p = d.0 in (
       (
         p.0,
         record {
-          lasts = l.lasts.ensures;
-          loads = h.loads-peaks.ensures.0;
-          peaks = h.loads-peaks.ensures.1;
-          spots = a.spots.ensures;
-          before = b.befores.ensures;
+          lasts = c.lasts.ensures;
+          loads = c.loads-peaks.ensures.0;
+          peaks = c.loads-peaks.ensures.1;
+          spots = c.spots.ensures;
+          before = c.befores.ensures;
           limit = p.2;
         },
       ),

@@ -19,10 +19,8 @@ strike-mixed-requires c κs = ready-kepts c.requires.0.0 c.strike_pairs.ensures.
 
 stand-all-requires : tie.Need-stand_all-requires
 stand-all-requires c κs =
-    let m = c in
-    let b = m in
-    let p = b.requires.0 in
-    ((ready-kepts (ready-kepts p.0 b.strike_pairs.ensures.0) m.strike_mixed.ensures, p.1.spots), p.1.limit)
+    let p = c.requires.0 in
+    ((ready-kepts (ready-kepts p.0 c.strike_pairs.ensures.0) c.strike_mixed.ensures, p.1.spots), p.1.limit)
 
 strike-loads-requires : tie.Need-strike_loads-requires
 strike-loads-requires c κs =
@@ -31,17 +29,13 @@ strike-loads-requires c κs =
 
 returns : tie.Need-returns
 returns c =
-    let t = c in
-    let m = t in
-    let p = m in
-    let d = p in
-    let a = d.args in
-    let r = d.requires.0.0 in
-    let e = d.requires.0.1 in
+    let a = c.args in
+    let r = c.requires.0.0 in
+    let e = c.requires.0.1 in
     round-sets a.pass (day_of a.s.now) (job_in a.s.now) a.at.jobs (ap (λ (k : ℕ). tab k (job_in a.s.now)) (sym (jobs-are r.laid)))
     a.route.now r.long (two-stops r) r.most (few-nodes r) r.form.nodes a.h.now e.loads a.new.now r.form.off r.form.leg
     a.l.now e.lasts _
-    (kepts-both (kepts-both (kepts-both p.strike_pairs.ensures.0 m.strike_mixed.ensures) t.stand_all.ensures) c.strike_loads.ensures)
+    (kepts-both (kepts-both (kepts-both c.strike_pairs.ensures.0 c.strike_mixed.ensures) c.stand_all.ensures) c.strike_loads.ensures)
 
 pub round_spec : {M : Type 1} → statement M
 round_spec =

@@ -41,13 +41,11 @@ element-copy-out-w c = omega (arith, nodes-most c.requires.0.0.laid, c.loop-x.in
 
 stand-requires : tie.Need-stand-requires invariant-loop decreases-loop
 stand-requires c κs =
-    let l = c in
     let v = c.loop-x in
-    let b = l in
-    let a = b.args in
-    let r = b.requires.0.0 in
-    let e = l.legs_of-total.ensures in
-    let w = rw (← v.invariant.1.rest v.x (omega arith)) at (named r b.requires.0.1 v.x) in (
+    let a = c.args in
+    let r = c.requires.0.0 in
+    let e = c.legs_of-total.ensures in
+    let w = rw (← v.invariant.1.rest v.x (omega arith)) at (named r c.requires.0.1 v.x) in (
       r.laid,
       places-at (day_of a.s.now) a.route.now e.0 w {k = a.at.nodes} (low a.s.now) (rw (stops-legs (route-of r)) (route-of r))
           c.loop-x-test.true e.2,
@@ -67,25 +65,21 @@ loop-less c = omega arith
 
 loop-again : tie.Need-loop-x-preserved invariant-loop decreases-loop
 loop-again c =
-    let l = c in
-    let v = l.loop-x in
-    let b = l in
-    let a = b.args in
-    let r = b.requires.0.0 in
-    let e = l.legs_of-total.ensures in
+    let v = c.loop-x in
+    let a = c.args in
+    let r = c.requires.0.0 in
+    let e = c.legs_of-total.ensures in
     let o = v.invariant.1.rest v.x (omega arith) in
-    let w = rw (← o) at (named r b.requires.0.1 v.x) in
-    let k = stand-kept (day_of a.s.now) a.route.now e.0 w a.l.now _ _ (spotted r b.requires.0.1) c.stand.ensures in
+    let w = rw (← o) at (named r c.requires.0.1 v.x) in
+    let k = stand-kept (day_of a.s.now) a.route.now e.0 w a.l.now _ _ (spotted r c.requires.0.1) c.stand.ensures in
     (omega arith, upto-more (omega (arith, nodes-most r.laid)) v.invariant.1 (rw o at k))
 
 returns : tie.Need-returns invariant-loop decreases-loop
 returns c =
-    let b = c in
-    let o = b in
-    let a = o.args in
-    let r = o.requires.0.0 in
+    let a = c.args in
+    let r = c.requires.0.0 in
     let d = day_of a.s.now in
-    let e = b.legs_of-total.ensures in
+    let e = c.legs_of-total.ensures in
     let g = e.1 ∙ ap (λ (k : ℕ). driven d (take k a.route.now)) (stops-legs (route-of r)) in
     rw (← g) (kepts-same (λ y i n. gap-stands d a.route.now e.0 a.l.now _ y i n)
     (upto_all (λ y h. past-nodes r y (omega arith)) c.loop-x.invariant.1))

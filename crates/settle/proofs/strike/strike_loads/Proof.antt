@@ -20,13 +20,12 @@ abbrev decreases-loop : tie.decreases-loop-j
 decreases-loop s at pass new₀ route h m j₀ new j = m - j
 
 has-room-requires : tie.Need-has_room-requires invariant-loop decreases-loop
-has-room-requires c κs = let d = c in (d.requires.0.3.high, rw d.requires.1 (peak-low _ _ 4294967296 (omega arith) (λ k b. job-low d.args.s.now k)))
+has-room-requires c κs = (c.requires.0.3.high, rw c.requires.1 (peak-low _ _ 4294967296 (omega arith) (λ k b. job-low c.args.s.now k)))
 
 returns : tie.Need-returns-then-has_room invariant-loop decreases-loop
 returns c =
-    let d = c in
-    let q = d.requires.0 in
-    loads-spared d.args.pass q.2 (job_in d.args.s.now) d.args.at.jobs (λ k b. (job-asked q.0 d.args.pass q.3 k b refl).2) d.requires.1
+    let q = c.requires.0 in
+    loads-spared c.args.pass q.2 (job_in c.args.s.now) c.args.at.jobs (λ k b. (job-asked q.0 c.args.pass q.3 k b refl).2) c.requires.1
     (leb-true _ _ (sym c.has_room.ensures ∙ c.if-has_room.true))
 
 loop-holds : tie.Need-loop-j-init invariant-loop decreases-loop
@@ -48,20 +47,16 @@ element-copy-out-w c =
 
 left-of-requires : tie.Need-left_of-requires invariant-loop decreases-loop
 left-of-requires c κs =
-    let d = c in
-    let k = c in
-    (d.requires.0.1, (job-asked d.requires.0.0 d.args.pass d.requires.0.3 _ k.loop-j-test.true k.job-job.ensures).2)
+    (c.requires.0.1, (job-asked c.requires.0.0 c.args.pass c.requires.0.3 _ c.loop-j-test.true c.job-job.ensures).2)
 
 mul-new : tie.Need-offset_bounds-new-x-in-loop-j invariant-loop decreases-loop
 mul-new c =
-    let k = c in
-    omega (arith, node-word c.requires.0.0 _ k.loop-j-test.true k.job-job.ensures k.node_of-x.ensures)
+    omega (arith, node-word c.requires.0.0 _ c.loop-j-test.true c.job-job.ensures c.node_of-x.ensures)
 
 element-write-new : tie.Need-bounds-new-x-in-loop-j invariant-loop decreases-loop
 element-write-new c =
-    let k = c in
-    let n = node-word c.requires.0.0 _ k.loop-j-test.true k.job-job.ensures k.node_of-x.ensures in
-    omega (arith, n, k.loop-j.invariant.1.long)
+    let n = node-word c.requires.0.0 _ c.loop-j-test.true c.job-job.ensures c.node_of-x.ensures in
+    omega (arith, n, c.loop-j.invariant.1.long)
 
 add-j : tie.Need-overflow_add-j invariant-loop decreases-loop
 add-j c = omega arith
@@ -71,11 +66,9 @@ loop-less c = omega arith
 
 loop-again : tie.Need-loop-j-preserved invariant-loop decreases-loop
 loop-again c =
-    let k = c in
-    let q = k in
-    let v = q.loop-j in
-    let n = node-word c.requires.0.0 _ q.loop-j-test.true q.job-job.ensures k.node_of-x.ensures in
-    (omega arith, jobs-more _ _ _ q.job-job.ensures v.invariant.1 (rw (← k.node_of-x.ensures) (kepts-one _ v.invariant.1.long n c.left_of.ensures)))
+    let v = c.loop-j in
+    let n = node-word c.requires.0.0 _ c.loop-j-test.true c.job-job.ensures c.node_of-x.ensures in
+    (omega arith, jobs-more _ _ _ c.job-job.ensures v.invariant.1 (rw (← c.node_of-x.ensures) (kepts-one _ v.invariant.1.long n c.left_of.ensures)))
 
 returns-2 : tie.Need-returns invariant-loop decreases-loop
 returns-2 c =

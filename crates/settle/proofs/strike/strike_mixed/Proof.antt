@@ -26,9 +26,7 @@ profile-requires c κs = c.requires.laid
 
 returns : tie.Need-returns-then-not-profile invariant-loop decreases-loop
 returns c =
-    let p = c in
-    let d = p in
-    let e = sym p.profile.ensures ∙ c.if-not-profile.true in kepts-all d.requires.sized (λ y i b. unasked (day_of d.args.s.now) (take d.args.stops d.args.route.now) e y i)
+    let e = sym c.profile.ensures ∙ c.if-not-profile.true in kepts-all c.requires.sized (λ y i b. unasked (day_of c.args.s.now) (take c.args.stops c.args.route.now) e y i)
 
 look-over-requires : tie.Need-look_over-jobs-requires invariant-loop decreases-loop
 look-over-requires c κs = c.requires.laid
@@ -67,13 +65,9 @@ loop-less c = omega arith
 
 loop-again : tie.Need-loop-x-preserved invariant-loop decreases-loop
 loop-again c =
-    let t = c in
-    let v = t.loop-x in
-    let h = t in
-    let o = h in
-    let p = o in
-    let r = p.requires in
-    let k = mixed-kept r o.look_over-jobs.ensures h.shut_legs-shut.ensures v.x (node c.before.before.before) (sym p.profile.ensures ∙ o.if-not-profile.false) c.cut.ensures in
+    let v = c.loop-x in
+    let r = c.requires in
+    let k = mixed-kept r c.look_over-jobs.ensures c.shut_legs-shut.ensures v.x (node c.before.before.before) (sym c.profile.ensures ∙ c.if-not-profile.false) c.cut.ensures in
     (omega arith, upto-more (node c.before.before.before) v.invariant.1 (rw (v.invariant.1.rest v.x (omega arith)) at k))
 
 returns-2 : tie.Need-returns invariant-loop decreases-loop

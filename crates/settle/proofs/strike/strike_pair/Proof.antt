@@ -33,9 +33,8 @@ element-copy-out-b c = search rules
 returns : tie.Need-returns-then-a-b
 unfolding pair_leaves
 returns c =
-    let d = c in
     let z = and-true _ _ c.if-a-b.true in
-    (kepts-empty _ _ _ _ d.requires.1.0 (eqb-true _ 0 z.0) (eqb-true _ 0 z.1), flag-none d.args.struck d.args.new.now)
+    (kepts-empty _ _ _ _ c.requires.1.0 (eqb-true _ 0 z.0) (eqb-true _ 0 z.1), flag-none c.args.struck c.args.new.now)
 
 add-ride-of : tie.Need-overflow_add-x
 add-ride-of c = search rules
@@ -74,13 +73,11 @@ element-write-new-2 c = search rules
 returns-2 : tie.Need-returns
 unfolding pair_leaves
 returns-2 c =
-    let r = c in
-    let d = r in
-    let h = d.requires.0.1 in
-    let ne = eqb-false _ _ (not-true _ d.requires.0.2) in
-    let ride = r.ride_of-ride.ensures in (
-      kepts-two d.requires.1.0 h.0 h.1 ne (rw ride at c.backward-c.ensures) (rw ride at c.forward-d.ensures),
-      pair-flag d.args.struck d.args.new.now _ _ _ _ d.requires.1.0 h.0 h.1 ne,
+    let h = c.requires.0.1 in
+    let ne = eqb-false _ _ (not-true _ c.requires.0.2) in
+    let ride = c.ride_of-ride.ensures in (
+      kepts-two c.requires.1.0 h.0 h.1 ne (rw ride at c.backward-c.ensures) (rw ride at c.forward-d.ensures),
+      pair-flag c.args.struck c.args.new.now _ _ _ _ c.requires.1.0 h.0 h.1 ne,
     )
 
 pub strike_pair_spec : {M : Type 1} → statement M

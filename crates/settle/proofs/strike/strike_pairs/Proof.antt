@@ -38,13 +38,10 @@ element-copy-out-if1 c = omega (arith, node c.before, c.requires.1.1.long)
 
 strike-pair-requires : tie.Need-strike_pair-struck-requires invariant-loop decreases-loop
 strike-pair-requires c κs =
-    let k = c in
-    let l = k in
-    let d = l in
-    let p = d.requires.0 in
-    let b = d.requires.1.1 in
-    let j = from-asked (routed p.0 b) d.args.pass p.1 l.loop-x.x (node c.before.before.before.before) c.if-t-x-ne0.true in
-    ((b.long, j.0, j.1, omega (arith, two-stops p.0)), (l.loop-x.invariant.1.long, j.2, d.requires.1.0))
+    let p = c.requires.0 in
+    let b = c.requires.1.1 in
+    let j = from-asked (routed p.0 b) c.args.pass p.1 c.loop-x.x (node c.before.before.before.before) c.if-t-x-ne0.true in
+    ((b.long, j.0, j.1, omega (arith, two-stops p.0)), (c.loop-x.invariant.1.long, j.2, c.requires.1.0))
 
 add-x : tie.Need-overflow_add-x-in-loop-x invariant-loop decreases-loop
 add-x c = omega (arith, node c.before.before.before)
@@ -53,23 +50,20 @@ loop-less : tie.Need-loop-x-smaller invariant-loop decreases-loop
 loop-less c = omega arith
 
 -- the transfer that begins at x is struck, or none begins there
-joined : (c : tie.Joined-t-x-ne0 invariant-loop decreases-loop) → let d = c in let a = d.args in
-    Kepts a.route.now (a.pass.stops - 1) (jobs_leave (pair_leaves a.new.now a.route.now a.h.now a.pass) (job_from a.t.now) (d.loop-x.x + 1)) a.new.now c.if-t-x-ne0.new
+joined : (c : tie.Joined-t-x-ne0 invariant-loop decreases-loop) → let a = c.args in
+    Kepts a.route.now (a.pass.stops - 1) (jobs_leave (pair_leaves a.new.now a.route.now a.h.now a.pass) (job_from a.t.now) (c.loop-x.x + 1)) a.new.now c.if-t-x-ne0.new
     × (c.if-t-x-ne0.struck ≡ not (same_sets a.new.now c.if-t-x-ne0.new))
 joined c =
-    let k = c in
-    let l = k in
-    let d = l in
-    let a = d.args in
-    let v = l.loop-x.invariant in
-    let x = l.loop-x.x in
+    let a = c.args in
+    let v = c.loop-x.invariant in
+    let x = c.loop-x.x in
     let g = job_from a.t.now in
-    let apart = from-apart (routed d.requires.0.0 d.requires.1.1) x (node c.before.before.before) in
+    let apart = from-apart (routed c.requires.0.0 c.requires.1.1) x (node c.before.before.before) in
     elim c.if-t-x-ne0.branch [
       | then-t-x-ne0 w ↦ (
           let e = sym (from_some a.t.now x w.if-t-x-ne0.true) in
           let p = w.strike_pair-struck.ensures in
-          rw (w.new-is, w.struck-is) (jobs-more _ g x e v.1 (kepts-same (λ y i b. pair_turn g a.h.now a.pass x apart v.1 _ e y i) p.0), flag-more d.requires.0.0.sized v.1 p.0 v.2 p.1)
+          rw (w.new-is, w.struck-is) (jobs-more _ g x e v.1 (kepts-same (λ y i b. pair_turn g a.h.now a.pass x apart v.1 _ e y i) p.0), flag-more c.requires.0.0.sized v.1 p.0 v.2 p.1)
           )
       | else-t-x-ne0 w ↦ (
           let e = sym (from-none a.t.now x w.if-t-x-ne0.false) in
@@ -83,10 +77,9 @@ loop-again c = let j = joined c in (omega arith, j.0, j.1)
 returns : tie.Need-returns invariant-loop decreases-loop
 returns c =
     let v = c.loop-x.invariant in
-    let d = c in
-    let a = d.args in
+    let a = c.args in
     let e : c.loop-x.x ≡ a.at.nodes = omega arith in
-    (kepts-same (λ y i b. from_all (routed d.requires.0.0 d.requires.1.1) a.new.now a.h.now a.pass y i) (rw e at v.1), v.2)
+    (kepts-same (λ y i b. from_all (routed c.requires.0.0 c.requires.1.1) a.new.now a.h.now a.pass y i) (rw e at v.1), v.2)
 
 pub strike_pairs_spec : {M : Type 1} → statement M
 strike_pairs_spec =

@@ -22,9 +22,8 @@ low c = omega (arith, (is-inner _ _ (node c)).1, c.requires)
 
 on-x : (c : tie.After-has) → let a = c.args in on_route (board a.route.now a.f.stops a.sets.now a.f.marks a.f.must) a.x ≡ c.has.result
 on-x c =
-    let d = c in
-    let a = d.args in
-    sym (on_word (board a.route.now a.f.stops a.sets.now a.f.marks a.f.must) a.x (low c.before.before) (omega (arith, d.requires)))
+    let a = c.args in
+    sym (on_word (board a.route.now a.f.stops a.sets.now a.f.marks a.f.must) a.x (low c.before.before) (omega (arith, c.requires)))
     ∙ ap (λ (w : ℕ). has w a.x) (sym c.word-on.ensures) ∙ sym c.has.ensures
 
 inner-requires : tie.Need-inner-requires
@@ -46,7 +45,7 @@ returns-2 c = rw (node c.before.before.before, on-x c.before ∙ c.if-has.true)
 
 returns-3 : tie.Need-returns-then-owed
 unfolding exclude_refusal or_else
-returns-3 c = let h = c in rw (node c.before.before.before.before, on-x c.before.before ∙ c.if-has.false, c.if-owed.true)
+returns-3 c = rw (node c.before.before.before.before, on-x c.before.before ∙ c.if-has.false, c.if-owed.true)
 
 mul-if4 : tie.Need-offset_bounds-sets-x
 mul-if4 c = omega (arith, low c.before.before.before.before)
@@ -57,23 +56,17 @@ element-copy-out-if4 c = low c.before.before.before.before.before
 returns-4 : tie.Need-returns-then-sets-x-eq0
 unfolding exclude_refusal or_else set_of
 returns-4 c =
-    let e = c in
-    let h = e in
-    rw (node c.before.before.before.before.before.before.before, on-x c.before.before.before.before.before ∙ e.if-has.false, e.if-owed.false, eq-eqb _ 0 c.if-sets-x-eq0.true)
+    rw (node c.before.before.before.before.before.before.before, on-x c.before.before.before.before.before ∙ c.if-has.false, c.if-owed.false, eq-eqb _ 0 c.if-sets-x-eq0.true)
 
 returns-5 : tie.Need-returns-then-f-room
 unfolding exclude_refusal or_else set_of
 returns-5 c =
-    let e = c in
-    let h = e in
-    rw (node c.before.before.before.before.before.before.before.before.before, on-x c.before.before.before.before.before.before.before ∙ e.if-has.false, e.if-owed.false, ne_eqb _ 0 c.if-sets-x-eq0.false, lt-ltb _ _ c.if-f-room.true)
+    rw (node c.before.before.before.before.before.before.before.before.before, on-x c.before.before.before.before.before.before.before ∙ c.if-has.false, c.if-owed.false, ne_eqb _ 0 c.if-sets-x-eq0.false, lt-ltb _ _ c.if-f-room.true)
 
 returns-6 : tie.Need-returns-else-f-room
 unfolding exclude_refusal or_else set_of
 returns-6 c =
-    let e = c in
-    let h = e in
-    rw (node c.before.before.before.before.before.before.before.before.before, on-x c.before.before.before.before.before.before.before ∙ e.if-has.false, e.if-owed.false, ne_eqb _ 0 c.if-sets-x-eq0.false, le-ltb _ _ c.if-f-room.false)
+    rw (node c.before.before.before.before.before.before.before.before.before, on-x c.before.before.before.before.before.before.before ∙ c.if-has.false, c.if-owed.false, ne_eqb _ 0 c.if-sets-x-eq0.false, le-ltb _ _ c.if-f-room.false)
 
 pub exclude_refusal_spec : {M : Type 1} → statement M
 exclude_refusal_spec =

@@ -28,14 +28,12 @@ returns-2 c = λ route sets. rw (node c.before.before, sym c.has.ensures ∙ c.i
 returns-3 : tie.Need-returns-then-f-room
 unfolding oblige_refusal or_else
 returns-3 c = λ route sets.
-    let e = c in
-    rw (node c.before.before.before.before, sym e.has.ensures ∙ e.if-has.false, lt-ltb _ _ c.if-f-room.true)
+    rw (node c.before.before.before.before, sym c.has.ensures ∙ c.if-has.false, lt-ltb _ _ c.if-f-room.true)
 
 returns-4 : tie.Need-returns-else-f-room
 unfolding oblige_refusal or_else
 returns-4 c = λ route sets.
-    let e = c in
-    rw (node c.before.before.before.before, sym e.has.ensures ∙ e.if-has.false, le-ltb _ _ c.if-f-room.false)
+    rw (node c.before.before.before.before, sym c.has.ensures ∙ c.if-has.false, le-ltb _ _ c.if-f-room.false)
 
 pub oblige_refusal_spec : {M : Type 1} → statement M
 oblige_refusal_spec =

@@ -15,11 +15,11 @@ returns c = let e = c.place_shut-shut.ensures in e ∙ sym (place-shut _ _ _ _ _
 
 returns-2 : tie.Need-returns-then-f-room
 unfolding place_refusal or_else
-returns-2 c = let d = c in rw (sym d.place_shut-shut.ensures ∙ d.if-shut-ne0.false, lt-ltb _ _ c.if-f-room.true)
+returns-2 c = rw (sym c.place_shut-shut.ensures ∙ c.if-shut-ne0.false, lt-ltb _ _ c.if-f-room.true)
 
 returns-3 : tie.Need-returns-else-f-room
 unfolding place_refusal or_else
-returns-3 c = let d = c in rw (sym d.place_shut-shut.ensures ∙ d.if-shut-ne0.false, le-ltb _ _ c.if-f-room.false)
+returns-3 c = rw (sym c.place_shut-shut.ensures ∙ c.if-shut-ne0.false, le-ltb _ _ c.if-f-room.false)
 
 pub place_refusal_spec : {M : Type 1} → statement M
 place_refusal_spec = tie.close (tie.spec place-shut-requires returns returns-2 returns-3)

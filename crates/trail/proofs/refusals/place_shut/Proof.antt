@@ -25,16 +25,14 @@ low c = omega (arith, (is-inner _ _ (node c)).1, c.requires)
 
 on-x : (c : tie.After-has) → let a = c.args in on_route (board a.route.now a.f.stops a.sets.now a.f.marks a.f.must) a.x ≡ c.has.result
 on-x c =
-    let d = c in
-    let a = d.args in
-    sym (on_word (board a.route.now a.f.stops a.sets.now a.f.marks a.f.must) a.x (low c.before.before.before.before) (omega (arith, d.requires)))
+    let a = c.args in
+    sym (on_word (board a.route.now a.f.stops a.sets.now a.f.marks a.f.must) a.x (low c.before.before.before.before) (omega (arith, c.requires)))
     ∙ ap (λ (w : ℕ). has w a.x) (sym c.word-on.ensures) ∙ sym c.has.ensures
 
 on-p : (c : tie.After-has-2) → let a = c.args in on_route (board a.route.now a.f.stops a.sets.now a.f.marks a.f.must) a.p ≡ c.has-2.result
 on-p c =
-    let d = c in
-    let a = d.args in
-    sym (on_word (board a.route.now a.f.stops a.sets.now a.f.marks a.f.must) a.p (omega (arith, leg-in _ _ (leg c.before.before.before.before), d.requires)) (omega (arith, d.requires)))
+    let a = c.args in
+    sym (on_word (board a.route.now a.f.stops a.sets.now a.f.marks a.f.must) a.p (omega (arith, leg-in _ _ (leg c.before.before.before.before), c.requires)) (omega (arith, c.requires)))
     ∙ ap (λ (w : ℕ). has w a.p) (sym c.word-on.ensures) ∙ sym c.has-2.ensures
 
 inner-requires : tie.Need-inner-requires
@@ -60,7 +58,6 @@ has-requires c κs = search rules
 returns-3 : tie.Need-returns-then-has
 unfolding place_shut or_else
 returns-3 c =
-    let l = c in
     rw (node c.before.before.before.before.before, leg c.before.before.before, on-x c.before ∙ c.if-has.true)
 
 has-requires-2 : tie.Need-has-requires-2
@@ -69,8 +66,6 @@ has-requires-2 c κs = search rules
 returns-4 : tie.Need-returns-then-not-has
 unfolding place_shut or_else
 returns-4 c =
-    let h = c in
-    let l = h in
     rw (node c.before.before.before.before.before.before.before, leg c.before.before.before.before.before, on-x c.before.before.before ∙ c.if-has.false, on-p c.before ∙ c.if-not-has.true)
 
 mul-has : tie.Need-offset_bounds-sets-x
@@ -85,18 +80,12 @@ has-requires-3 c κs = search rules
 returns-5 : tie.Need-returns-then-has-2
 unfolding place_shut or_else open_at set_of
 returns-5 c =
-    let k = c in
-    let h = k in
-    let l = h in
-    rw (node c.before.before.before.before.before.before.before.before.before.before.before, leg c.before.before.before.before.before.before.before.before.before, on-x c.before.before.before.before.before.before.before ∙ k.if-has.false, on-p c.before.before.before.before.before ∙ c.if-not-has.false, sym c.has-3.ensures ∙ c.if-has-2.true)
+    rw (node c.before.before.before.before.before.before.before.before.before.before.before, leg c.before.before.before.before.before.before.before.before.before, on-x c.before.before.before.before.before.before.before ∙ c.if-has.false, on-p c.before.before.before.before.before ∙ c.if-not-has.false, sym c.has-3.ensures ∙ c.if-has-2.true)
 
 returns-6 : tie.Need-returns-else-has-2
 unfolding place_shut or_else open_at set_of
 returns-6 c =
-    let k = c in
-    let h = k in
-    let l = h in
-    rw (node c.before.before.before.before.before.before.before.before.before.before.before, leg c.before.before.before.before.before.before.before.before.before, on-x c.before.before.before.before.before.before.before ∙ k.if-has.false, on-p c.before.before.before.before.before ∙ c.if-not-has.false, sym c.has-3.ensures ∙ c.if-has-2.false)
+    rw (node c.before.before.before.before.before.before.before.before.before.before.before, leg c.before.before.before.before.before.before.before.before.before, on-x c.before.before.before.before.before.before.before ∙ c.if-has.false, on-p c.before.before.before.before.before ∙ c.if-not-has.false, sym c.has-3.ensures ∙ c.if-has-2.false)
 
 pub place_shut_spec : {M : Type 1} → statement M
 place_shut_spec =

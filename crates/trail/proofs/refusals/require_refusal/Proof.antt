@@ -20,9 +20,8 @@ node c = sym c.inner.ensures ∙ c.if-not-inner.false
 
 on-x : (c : tie.After-has) (l : List ℕ) → let a = c.args in on_route (board a.route.now a.f.stops l a.f.marks a.f.must) a.x ≡ c.has.result
 on-x c l =
-    let d = c in
-    let a = d.args in
-    sym (on_word (board a.route.now a.f.stops l a.f.marks a.f.must) a.x (omega (arith, (is-inner _ _ (node c.before.before)).1, d.requires)) (omega (arith, d.requires)))
+    let a = c.args in
+    sym (on_word (board a.route.now a.f.stops l a.f.marks a.f.must) a.x (omega (arith, (is-inner _ _ (node c.before.before)).1, c.requires)) (omega (arith, c.requires)))
     ∙ ap (λ (w : ℕ). has w a.x) (sym c.word-on.ensures) ∙ sym c.has.ensures
 
 inner-requires : tie.Need-inner-requires
@@ -47,15 +46,15 @@ has-requires-2 c κs = search rules
 
 returns-3 : tie.Need-returns-then-has-2
 unfolding require_refusal or_else
-returns-3 c = let h = c in λ l. rw (node c.before.before.before.before.before, on-x c.before.before.before l ∙ c.if-has.false, sym c.has-2.ensures ∙ c.if-has-2.true)
+returns-3 c = λ l. rw (node c.before.before.before.before.before, on-x c.before.before.before l ∙ c.if-has.false, sym c.has-2.ensures ∙ c.if-has-2.true)
 
 returns-4 : tie.Need-returns-then-f-room
 unfolding require_refusal or_else
-returns-4 c = let h = c in λ l. rw (node c.before.before.before.before.before.before.before, on-x c.before.before.before.before.before l ∙ c.if-has.false, sym c.has-2.ensures ∙ c.if-has-2.false, lt-ltb _ _ c.if-f-room.true)
+returns-4 c = λ l. rw (node c.before.before.before.before.before.before.before, on-x c.before.before.before.before.before l ∙ c.if-has.false, sym c.has-2.ensures ∙ c.if-has-2.false, lt-ltb _ _ c.if-f-room.true)
 
 returns-5 : tie.Need-returns-else-f-room
 unfolding require_refusal or_else
-returns-5 c = let h = c in λ l. rw (node c.before.before.before.before.before.before.before, on-x c.before.before.before.before.before l ∙ c.if-has.false, sym c.has-2.ensures ∙ c.if-has-2.false, le-ltb _ _ c.if-f-room.false)
+returns-5 c = λ l. rw (node c.before.before.before.before.before.before.before, on-x c.before.before.before.before.before l ∙ c.if-has.false, sym c.has-2.ensures ∙ c.if-has-2.false, le-ltb _ _ c.if-f-room.false)
 
 pub require_refusal_spec : {M : Type 1} → statement M
 require_refusal_spec =

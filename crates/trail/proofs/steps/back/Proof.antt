@@ -30,25 +30,20 @@ untouched-requires c κs = search rules
 
 drop-level-requires : tie.Need-drop_level-requires
 drop-level-requires c κs =
-    let e = c in
-    (e.if-depth-lt1.false, (form c.before.before.before.before.before.before).levels.most, e.requires.0.1)
+    (c.if-depth-lt1.false, (form c.before.before.before.before.before.before).levels.most, c.requires.0.1)
 
 returns-2 : tie.Need-returns-then-base-f
 unfolding base_of
 returns-2 c =
-    let u = c in
-    let t = u in
-    let e = t in
-    let a = e.args in
-    back_fits _ _ _ _ _ e.if-depth-lt1.false (level-empty _ _ _ t.if-base-f.true) refl
-    ∙ rw u.untouched.ensures at (c.drop_level.ensures a.route.now a.sets.now a.route.now a.sets.now a.trail.now)
+    let a = c.args in
+    back_fits _ _ _ _ _ c.if-depth-lt1.false (level-empty _ _ _ c.if-base-f.true) refl
+    ∙ rw c.untouched.ensures at (c.drop_level.ensures a.route.now a.sets.now a.route.now a.sets.now a.trail.now)
 
 undo-many-requires : tie.Need-undo_many-u-requires
 unfolding base_of
 undo-many-requires c κs =
-    let e = c in
-    let h = e.requires in
-    (h.0.0, base-low _ _ (form c.before.before.before.before.before.before.before.before) e.if-depth-lt1.false, (form-with _ _ _ h.1).1)
+    let h = c.requires in
+    (h.0.0, base-low _ _ (form c.before.before.before.before.before.before.before.before) c.if-depth-lt1.false, (form-with _ _ _ h.1).1)
 
 same-requires-2 : tie.Need-same-requires-then-not-u
 same-requires-2 c κs = search rules
@@ -56,22 +51,16 @@ same-requires-2 c κs = search rules
 returns-3 : tie.Need-returns-then-not-u
 unfolding undo_level base_of
 returns-3 c =
-    let u = c in
-    let e = u in
-    rw c.same-then-not-u.ensures (back-misfit _ _ _ _ _ e.if-depth-lt1.false u.undo_many-u.ensures (not-true _ c.if-not-u.true))
+    rw c.same-then-not-u.ensures (back-misfit _ _ _ _ _ c.if-depth-lt1.false c.undo_many-u.ensures (not-true _ c.if-not-u.true))
 
 drop-level-requires-2 : tie.Need-drop_level-requires-2
 drop-level-requires-2 c κs =
-    let e = c in
-    (e.if-depth-lt1.false, (form c.before.before.before.before.before.before.before.before.before.before.before.before).levels.most, e.requires.0.1)
+    (c.if-depth-lt1.false, (form c.before.before.before.before.before.before.before.before.before.before.before.before).levels.most, c.requires.0.1)
 
 returns-4 : tie.Need-returns
 unfolding undo_level base_of
 returns-4 c =
-    let l = c in
-    let u = l in
-    let e = u in
-    back_fits _ _ _ _ _ e.if-depth-lt1.false u.undo_many-u.ensures (not-false _ l.if-not-u.false) ∙ c.drop_level-2.ensures _ _ _ _ _
+    back_fits _ _ _ _ _ c.if-depth-lt1.false c.undo_many-u.ensures (not-false _ c.if-not-u.false) ∙ c.drop_level-2.ensures _ _ _ _ _
 
 pub back_spec : {M : Type 1} → statement M
 back_spec =

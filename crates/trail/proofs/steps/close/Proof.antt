@@ -33,9 +33,8 @@ same-requires c κs = search rules
 returns : tie.Need-returns-then-code-ne0
 unfolding close_step room_of
 returns c =
-    let d = c in
-    λ levels. rw (c.same.ensures, d.place_refusal-code.ensures)
-    (step-no _ _ _ _ (λ e. c.if-code-ne0.true (d.place_refusal-code.ensures ∙ e)))
+    λ levels. rw (c.same.ensures, c.place_refusal-code.ensures)
+    (step-no _ _ _ _ (λ e. c.if-code-ne0.true (c.place_refusal-code.ensures ∙ e)))
 
 mul-w : tie.Need-offset_bounds-sets-x
 mul-w c = omega (arith, low c)
@@ -47,7 +46,7 @@ without-requires : tie.Need-without-requires
 without-requires c κs = search rules
 
 shrink-requires : tie.Need-shrink-requires
-shrink-requires c κs = let e = c in (low c.before.before.before.before.before, (ok c.before.before.before.before.before).left)
+shrink-requires c κs = (low c.before.before.before.before.before, (ok c.before.before.before.before.before).left)
 
 same_length : tie.Need-shape_of-trail
 same_length c = search rules
@@ -55,10 +54,7 @@ same_length c = search rules
 returns-2 : tie.Need-returns
 unfolding close_step set_of
 returns-2 c =
-    let k = c in
-    let w = k in
-    let e = w in
-    λ levels. step-yes _ _ _ _ (code c.before.before.before.before.before.before.before.before) ∙ rw w.without.ensures at (k.shrink.ensures e.args.route.now levels)
+    λ levels. step-yes _ _ _ _ (code c.before.before.before.before.before.before.before.before) ∙ rw c.without.ensures at (c.shrink.ensures c.args.route.now levels)
 
 pub close_spec : {M : Type 1} → statement M
 close_spec =

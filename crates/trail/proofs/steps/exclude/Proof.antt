@@ -23,24 +23,20 @@ same-requires c κs = search rules
 returns : tie.Need-returns-then-code-ne0
 unfolding exclude_step room_of
 returns c =
-    let d = c in
-    λ levels. rw (c.same.ensures, d.exclude_refusal-code.ensures)
-    (step-no _ _ _ _ (λ e. c.if-code-ne0.true (d.exclude_refusal-code.ensures ∙ e)))
+    λ levels. rw (c.same.ensures, c.exclude_refusal-code.ensures)
+    (step-no _ _ _ _ (λ e. c.if-code-ne0.true (c.exclude_refusal-code.ensures ∙ e)))
 
 shut-out-requires : tie.Need-shut_out-requires
 shut-out-requires c κs =
-    let e = c in
-    shut-out-asks _ _ _ _ _ _ e.requires.small (code c.before.before)
+    shut-out-asks _ _ _ _ _ _ c.requires.small (code c.before.before)
 
 same_length : tie.Need-shape_of-trail
 same_length c = search rules
 
 returns-2 : tie.Need-returns
 returns-2 c =
-    let k = c in
-    let e = k in
     let o = not-owed _ _ _ _ _ _ (code c.before.before.before.before.before) in
-    λ levels. rw o (k.shut_out.ensures _ _ levels (rw o at (code c.before.before.before.before.before)))
+    λ levels. rw o (c.shut_out.ensures _ _ levels (rw o at (code c.before.before.before.before.before)))
 
 pub exclude_spec : {M : Type 1} → statement M
 exclude_spec =

@@ -33,9 +33,8 @@ same-requires c κs = search rules
 returns : tie.Need-returns-then-code-ne0
 unfolding oblige_step room_of
 returns c =
-    let d = c in
-    λ route sets levels. rw (c.same.ensures, d.oblige_refusal-code.ensures route sets)
-    (step-no _ _ _ _ (λ e. c.if-code-ne0.true (d.oblige_refusal-code.ensures route sets ∙ e)))
+    λ route sets levels. rw (c.same.ensures, c.oblige_refusal-code.ensures route sets)
+    (step-no _ _ _ _ (λ e. c.if-code-ne0.true (c.oblige_refusal-code.ensures route sets ∙ e)))
 
 has-requires : tie.Need-has-requires
 has-requires c κs = search rules
@@ -46,8 +45,7 @@ same-requires-2 c κs = search rules
 returns-2 : tie.Need-returns-then-has
 unfolding oblige_step
 returns-2 c =
-    let t = c in
-    λ route sets levels. rw (c.same-then-has.ensures, sym t.has.ensures ∙ t.if-has.true)
+    λ route sets levels. rw (c.same-then-has.ensures, sym c.has.ensures ∙ c.if-has.true)
     (step-yes _ _ _ _ (code c.before.before.before route sets))
 
 first-word-requires : tie.Need-first_word-requires
@@ -62,8 +60,7 @@ with-requires c κs = search rules
 add-t9 : tie.Need-overflow_add-result
 unfolding room_of
 add-t9 c =
-    let e = c in
-    omega (arith, room c.before.before.before.before.before.before, e.well_formed)
+    omega (arith, room c.before.before.before.before.before.before, c.well_formed)
 
 same_length : tie.Need-shape_of-trail
 same_length c = search rules
@@ -71,9 +68,7 @@ same_length c = search rules
 returns-3 : tie.Need-returns
 unfolding oblige_step recorded obliged
 returns-3 c =
-    let p = c in
-    let e = p in
-    λ route sets levels. rw (c.with.ensures, p.push.ensures, p.first_word.ensures, sym e.has.ensures ∙ e.if-has.false) (step-yes _ _ _ _ (code c.before.before.before.before.before.before.before.before route sets))
+    λ route sets levels. rw (c.with.ensures, c.push.ensures, c.first_word.ensures, sym c.has.ensures ∙ c.if-has.false) (step-yes _ _ _ _ (code c.before.before.before.before.before.before.before.before route sets))
 
 pub oblige_spec : {M : Type 1} → statement M
 oblige_spec =

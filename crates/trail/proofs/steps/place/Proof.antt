@@ -31,8 +31,7 @@ push-requires c κs = (ok c.before.before.before.before.before).left
 
 place-requires : tie.Need-place-requires
 place-requires c κs =
-    let d = c in
-    (_, _, d.requires.0, (ok c.before.before.before.before.before.before.before.before.before.before).split)
+    (_, _, c.requires.0, (ok c.before.before.before.before.before.before.before.before.before.before).split)
 
 add-t14 : tie.Need-overflow_add-result
 add-t14 c = search rules
@@ -40,8 +39,7 @@ add-t14 c = search rules
 add-t20 : tie.Need-overflow_add-result-2
 unfolding room_of
 add-t20 c =
-    let d = c in
-    omega (arith, (ok c.before.before.before.before.before.before.before.before.before.before.before).left, d.well_formed)
+    omega (arith, (ok c.before.before.before.before.before.before.before.before.before.before.before).left, c.well_formed)
 
 same_length : tie.Need-shape_of-trail
 same_length c = search rules
@@ -49,10 +47,7 @@ same_length c = search rules
 returns : tie.Need-returns
 unfolding place_step recorded set_of
 returns c =
-    let p = c in
-    let w = p in
-    let d = w in
-    λ levels. step-yes _ _ _ _ d.requires.1 ∙ rw (c.place.ensures d.args.f.marks d.args.f.must, p.push.ensures, w.first_word.ensures) refl
+    λ levels. step-yes _ _ _ _ c.requires.1 ∙ rw (c.place.ensures c.args.f.marks c.args.f.must, c.push.ensures, c.first_word.ensures) refl
 
 pub place_spec : {M : Type 1} → statement M
 place_spec =

@@ -19,16 +19,14 @@ same-requires c κs = search rules
 
 returns : tie.Need-returns-then-rounds-eq0
 returns c =
-    let e = c in
-    let d = e in
-    λ route levels. rw (c.same.ensures, e.if-rounds-eq0.true, d.requires.1.1 e.if-rounds-eq0.true) (settle-still _ _ d.requires.1.0)
+    λ route levels. rw (c.same.ensures, c.if-rounds-eq0.true, c.requires.1.1 c.if-rounds-eq0.true) (settle-still _ _ c.requires.1.0)
 
 needed-requires : tie.Need-needed-more-requires
 needed-requires c κs = let p = c.requires.0 in (p.2, p.3)
 
 add-if2 : tie.Need-overflow_add-i
 unfolding room_of
-add-if2 c = let d = c in omega (arith, d.requires.1.0, c.needed-more.ensures.1, d.well_formed)
+add-if2 c = omega (arith, c.requires.1.0, c.needed-more.ensures.1, c.well_formed)
 
 same-requires-2 : tie.Need-same-requires-then-room-i
 same-requires-2 c κs = search rules
@@ -36,18 +34,16 @@ same-requires-2 c κs = search rules
 returns-2 : tie.Need-returns-then-room-i
 unfolding settle_step room_of
 returns-2 c =
-    let k = c in
-    let a = k.args in
+    let a = c.args in
     let e = lt-leb (a.f.records + shrunk a.sets.now a.new.now 64) (length a.trail.now / 2)
-    (omega (arith, k.needed-more.ensures.0, c.if-room-i.true)) in
+    (omega (arith, c.needed-more.ensures.0, c.if-room-i.true)) in
     λ route levels. rw (c.same-then-room-i.ensures, e) (step-no refusal.ROOM _ _ _ (eqb-false refusal.ROOM 0 refl))
 
 note-requires : tie.Need-note-records-requires
 unfolding room_of
 note-requires c κs =
-    let n = c in
-    let p = n.requires.0 in
-    (p.2, p.3, omega (arith, n.needed-more.ensures.0, c.if-room-i.false))
+    let p = c.requires.0 in
+    (p.2, p.3, omega (arith, c.needed-more.ensures.0, c.if-room-i.false))
 
 same_length : tie.Need-shape_of-trail
 same_length c = search rules
@@ -55,12 +51,10 @@ same_length c = search rules
 returns-3 : tie.Need-returns
 unfolding settle_step room_of
 returns-3 c =
-    let k = c in
-    let e = k in
-    let a = e.args in
-    let n = k.note-records.ensures in
+    let a = c.args in
+    let n = c.note-records.ensures in
     let h = le-leb (a.f.records + shrunk a.sets.now a.new.now 64) (length a.trail.now / 2)
-    (omega (arith, e.needed-more.ensures.0, e.if-room-i.false)) in
+    (omega (arith, c.needed-more.ensures.0, c.if-room-i.false)) in
     λ route levels. rw h
     (step-yes 0 _ _ _ refl
     ∙ ap₂ (λ (i : ℕ) (t : List ℕ). acted 0 a.rounds (state_of route a.f.stops a.new.now a.f.marks a.f.must levels a.f.depth i) t)

@@ -28,14 +28,14 @@ element-write-sets c = search rules
 
 add-t11 : tie.Need-overflow_add-result
 unfolding room_of
-add-t11 c = let d = c in omega (arith, d.requires.1, d.well_formed)
+add-t11 c = omega (arith, c.requires.1, c.well_formed)
 
 same_length : tie.Need-shape_of-trail
 same_length c = search rules
 
 returns : tie.Need-returns
 unfolding recorded put_set set_of
-returns c = λ route levels. let p = c in rw (p.push.ensures, p.first_word.ensures) refl
+returns c = λ route levels. rw (c.push.ensures, c.first_word.ensures) refl
 
 pub shrink_spec : {M : Type 1} → statement M
 shrink_spec =

@@ -22,9 +22,8 @@ returns c = λ n route levels h. rw (c.same.ensures, eq-eqb _ 0 c.if-sets-x-eq0.
 
 shrink-requires : tie.Need-shrink-requires
 shrink-requires c κs =
-    let e = c in
-    let p = e.requires in
-    (p.0, p.1 e.if-sets-x-eq0.false)
+    let p = c.requires in
+    (p.0, p.1 c.if-sets-x-eq0.false)
 
 same_length : tie.Need-shape_of-trail
 same_length c = search rules
@@ -32,8 +31,7 @@ same_length c = search rules
 returns-2 : tie.Need-returns
 unfolding exclude_step set_of
 returns-2 c =
-    let k = c in
-    λ n route levels h. rw (ne_eqb _ 0 k.if-sets-x-eq0.false) (step-yes _ _ _ _ h ∙ k.shrink.ensures route levels)
+    λ n route levels h. rw (ne_eqb _ 0 c.if-sets-x-eq0.false) (step-yes _ _ _ _ h ∙ c.shrink.ensures route levels)
 
 pub shut_out_spec : {M : Type 1} → statement M
 shut_out_spec =

@@ -33,8 +33,7 @@ In-loop = lts.In-loop-j (figures-in-reads.Asked, figures-in-reads.Learnt, turn-r
 
 inside : (c : In-loop) → c.loop-j.j * c.args.share + c.args.share ≤ length c.loop-j.trail
 inside c =
-    let d = c in
-    spot d.args.v d.args.share c.loop-j.j d.args.trail.now c.loop-j.trail d.requires.0.2 c.loop-j.invariant.long c.loop-j-test.true
+    spot c.args.v c.args.share c.loop-j.j c.args.trail.now c.loop-j.trail c.requires.0.2 c.loop-j.invariant.long c.loop-j-test.true
 
 -- j is a van
 low : (i : In-loop) → i.loop-j.j < 8
@@ -56,7 +55,7 @@ index-1-figures-in : tie.Need-bounds-figures-j invariant-loop decreases-loop
 index-1-figures-in c = low c
 
 figures-in-requires : tie.Need-figures_in-f-requires invariant-loop decreases-loop
-figures-in-requires c κs = let i = c in i.loop-j.invariant.rows.3.wide i.loop-j.j (low c.before)
+figures-in-requires c κs = c.loop-j.invariant.rows.3.wide c.loop-j.j (low c.before)
 
 mul-turn : tie.Need-offset_bounds-routes-j invariant-loop decreases-loop
 mul-turn c = omega (arith, low c.before.before)
@@ -77,7 +76,7 @@ index-1-turn-3 : tie.Need-bounds-levels-j invariant-loop decreases-loop
 index-1-turn-3 c = low c.before.before.before.before
 
 mul-turn-4 : tie.Need-offset_bounds-trail-from invariant-loop decreases-loop
-mul-turn-4 c = let i = c in omega (arith, inside c.before.before.before.before.before, i.loop-j.invariant.long, i.well_formed)
+mul-turn-4 c = omega (arith, inside c.before.before.before.before.before, c.loop-j.invariant.long, c.well_formed)
 
 sub-turn : tie.Need-slice_bounds-turn-count invariant-loop decreases-loop
 sub-turn c = omega arith
@@ -90,10 +89,7 @@ part-turn-end c = inside c.before.before.before.before.before
 
 turn-requires : tie.Need-turn-o-requires invariant-loop decreases-loop
 turn-requires c κs =
-    let g = c in
-    let i = g in
-    let d = i in
-    rw g.figures_in-f.ensures (taken-asks d.args.share i.loop-j.invariant d.requires.0.2 i.loop-j-test.true d.requires.0.1 (d.requires.1 i.loop-j.j i.loop-j-test.true))
+    rw c.figures_in-f.ensures (taken-asks c.args.share c.loop-j.invariant c.requires.0.2 c.loop-j-test.true c.requires.0.1 (c.requires.1 c.loop-j.j c.loop-j-test.true))
 
 -- the loop, once van j has taken its turn
 abbrev turned : tie.After-g-1 invariant-loop decreases-loop → In-loop
@@ -116,23 +112,16 @@ loop-less c = omega (arith, (turned c.before.before.before).loop-j-test.true)
 
 loop-again : tie.Need-loop-j-preserved invariant-loop decreases-loop
 loop-again c =
-    let p = c in
-    let r = p in
-    let k = r in
-    let g = k in
-    let i = g in
-    let d = i in
-    rw p.put_figures.ensures
-    (taken-goes d.args.share i.loop-j.invariant d.requires.0.2 i.loop-j-test.true d.requires.0.1 k.turn-o.result (rw g.figures_in-f.ensures at k.turn-o.ensures) r.trail-1.given.0)
+    rw c.put_figures.ensures
+    (taken-goes c.args.share c.loop-j.invariant c.requires.0.2 c.loop-j-test.true c.requires.0.1 c.turn-o.result (rw c.figures_in-f.ensures at c.turn-o.ensures) c.trail-1.given.0)
 
 same_length : tie.Need-shape_of-trail invariant-loop decreases-loop
 same_length c = c.loop-j.invariant.long
 
 returns : tie.Need-returns invariant-loop decreases-loop
 returns c =
-    let d = c in
     let b = c.loop-j.invariant in
-    (together-is _ _ _ _ _ _ _ (taken-all _ _ _ _ _ _ b c.loop-j-test.false d.requires.0.1), flag-done _ _ _ b.most c.loop-j-test.false b.flag, b.rows)
+    (together-is _ _ _ _ _ _ _ (taken-all _ _ _ _ _ _ b c.loop-j-test.false c.requires.0.1), flag-done _ _ _ b.most c.loop-j-test.false b.flag, b.rows)
 
 pub each_spec : {M : Type 1} → statement M
 each_spec =

@@ -14,9 +14,7 @@ state d = state_with d.args.route.now d.args.sets.now d.args.levels.now d.args.f
 
 place-requires : tie.Need-place-requires
 place-requires c κs =
-    let m = c in
-    let d = m in
-    (turning-sound d.requires, place-free d.requires m.if-step-eq-PLACE.true m.if-j-step.true)
+    (turning-sound c.requires, place-free c.requires c.if-step-eq-PLACE.true c.if-j-step.true)
 
 same_length : tie.Need-shape_of-trail-then-j-step
 same_length c = search rules
@@ -24,16 +22,11 @@ same_length c = search rules
 returns : tie.Need-returns-then-j-step
 unfolding turn_of
 returns c =
-    let k = c in
-    let m = k in
-    let d = m in
-    rw (eq-eqb _ _ m.if-step-eq-PLACE.true, eq-eqb _ _ m.if-j-step.true) (k.place.ensures d.args.levels.now)
+    rw (eq-eqb _ _ c.if-step-eq-PLACE.true, eq-eqb _ _ c.if-j-step.true) (c.place.ensures c.args.levels.now)
 
 shut-out-requires : tie.Need-shut_out-requires
 shut-out-requires c κs =
-    let m = c in
-    let d = m in
-    shut-out-asks _ (board_of (state c.before.before.before.before.before.before.before)) _ _ _ _ d.requires.small (exclude-free d.requires m.if-step-eq-PLACE.true m.if-j-step.false)
+    shut-out-asks _ (board_of (state c.before.before.before.before.before.before.before)) _ _ _ _ c.requires.small (exclude-free c.requires c.if-step-eq-PLACE.true c.if-j-step.false)
 
 same-length-2 : tie.Need-shape_of-trail-then-step-eq-PLACE
 same-length-2 c = search rules
@@ -41,11 +34,8 @@ same-length-2 c = search rules
 returns-2 : tie.Need-returns-then-step-eq-PLACE
 unfolding turn_of
 returns-2 c =
-    let k = c in
-    let m = k in
-    let d = m in
-    rw (eq-eqb _ _ m.if-step-eq-PLACE.true, ne_eqb _ _ m.if-j-step.false)
-    (k.shut_out.ensures d.args.n d.args.route.now d.args.levels.now (exclude-free d.requires m.if-step-eq-PLACE.true m.if-j-step.false))
+    rw (eq-eqb _ _ c.if-step-eq-PLACE.true, ne_eqb _ _ c.if-j-step.false)
+    (c.shut_out.ensures c.args.n c.args.route.now c.args.levels.now (exclude-free c.requires c.if-step-eq-PLACE.true c.if-j-step.false))
 
 level-requires : tie.Need-level-requires
 level-requires c κs = search rules
@@ -53,14 +43,11 @@ level-requires c κs = search rules
 returns-3 : tie.Need-returns-then-step-eq-LEVEL
 unfolding turn_of
 returns-3 c =
-    let m = c in
-    let d = m in
-    rw (ne_eqb _ _ m.if-step-eq-PLACE.false, eq-eqb _ _ m.if-step-eq-LEVEL.true) (c.level.ensures d.args.route.now d.args.sets.now d.args.trail.now)
+    rw (ne_eqb _ _ c.if-step-eq-PLACE.false, eq-eqb _ _ c.if-step-eq-LEVEL.true) (c.level.ensures c.args.route.now c.args.sets.now c.args.trail.now)
 
 back-requires : tie.Need-back-requires
 back-requires c κs =
-    let d = c in
-    ((turning-sound d.requires, d.requires.held.levels), d.requires.form)
+    ((turning-sound c.requires, c.requires.held.levels), c.requires.form)
 
 same-length-3 : tie.Need-shape_of-trail
 same-length-3 c = search rules
@@ -68,8 +55,7 @@ same-length-3 c = search rules
 returns-4 : tie.Need-returns
 unfolding turn_of
 returns-4 c =
-    let m = c in
-    rw (ne_eqb _ _ m.if-step-eq-PLACE.false, ne_eqb _ _ m.if-step-eq-LEVEL.false) c.back.ensures
+    rw (ne_eqb _ _ c.if-step-eq-PLACE.false, ne_eqb _ _ c.if-step-eq-LEVEL.false) c.back.ensures
 
 pub turn_spec : {M : Type 1} → statement M
 turn_spec =
