@@ -3,7 +3,7 @@ use mathlib.Core.Path.{◌≡◌, refl, sym, ap, ap₂, subst, ◌∙◌}
 use mathlib.Core.Bool.{Bool, true, false, ◌&&◌, and-true}
 use mathlib.Core.List.{List, []}
 use mathlib.Core.Logic.{◌≢◌}
-use Prim.Native.Nat.{ℕ, ◌/◌, ◌-◌, ◌≤◌, ◌<◌}
+use Prim.Native.Nat.{ℕ, ◌+◌, ◌*◌, ◌/◌, ◌-◌, ◌≤◌, ◌<◌}
 use native.Mathlib.Omega.{arith}
 use lib.ListN.{length, get_or, take, drop}
 use lib.Dec.{eqb, ltb}
@@ -41,9 +41,9 @@ use Rattle.acts.specs.Act.{back_bar, van_act, act_all}
 use Rattle.acts.specs.Known.{KnownRows, Did}
 use Rattle.turns.specs.declared.Outcomes.{Outcomes}
 use Rattle.turns.proofs.TogetherLaws.{Reads, barred, unbarred, trails-same, alone-is}
-use Rattle.turns.proofs.PutLaws.{Spot, part-lent}
+use Rattle.turns.proofs.PutLaws.{Spot, spot-at, part-lent}
 use Rattle.turns.proofs.EachLaws.{turn_in}
-use Rattle.acts.proofs.KnownLaws.{form-depth, known-held, known-form}
+use Rattle.acts.proofs.KnownLaws.{form-depth, known-held, known-form, known-eight}
 use Rattle.acts.proofs.ActLaws.{van-alone, act-back, back-asks, back_fits, back-stays, back-trail, back-sound}
 use Rattle.acts.proofs.Moves.{turns-read, turn-back}
 
@@ -160,6 +160,14 @@ module _ {sheet : List ℕ} {at : Layout} {routes sets levels figures : List (Li
       let s = state_in (fleet_with routes sets levels figures) j in
       let held = known-held k j h in
       record { small = k.laid.fine.n-high; wide = held.wide; form = (in-form (n_of sheet) s k.laid.fine.n-high held.wide (form-with (n_of sheet) s _ (known-form k j h)).0).board }
+
+  -- its part of the trail
+  pub known-spot : (j : ℕ) → Spot (vans_of sheet) t j (j * (length t / at.vans)) (j * (length t / at.vans) + length t / at.vans)
+  known-spot j = spot-at (vans_of sheet) (length t / at.vans) j t (share-as t k.laid.vans)
+
+  -- what the turns of all ask
+  pub known-shares : (1 ≤ at.vans) × (at.vans ≤ most_vans) × (length t / at.vans ≡ share_of at.vans t) × EightRows routes sets levels figures
+  known-shares = (omega (arith, k.laid.vans, k.laid.fine.vans-low), omega (arith, k.laid.vans, k.laid.fine.vans-high), share-as t refl, known-eight k)
 
   -- what its step asks
   pub known-van : (j from end : ℕ) → j < vans_of sheet → Spot (vans_of sheet) t j from end → Known sheet at (row_state routes sets levels figures j) (take (end - from) (drop from t))

@@ -28,10 +28,7 @@ use turns::each::each;
 fn answered(answer: usize) -> Outcomes
     ensures { result ≡ record { answer = answer; rounds = 0 } }
 {
-    Outcomes {
-        answer: answer,
-        rounds: 0,
-    }
+    Outcomes { answer, rounds: 0 }
 }
 
 // Step 1: place a ward in a van, and exclude it from all others.
@@ -104,8 +101,7 @@ fn alone(
         &mut trail[from..end],
         step,
     );
-    let g = o.after;
-    put_figures(&mut figures[i], g);
+    put_figures(&mut figures[i], o.after);
     Outcomes {
         answer: o.answer,
         rounds: o.rounds,
@@ -149,8 +145,7 @@ fn settle_van(
         &mut trail[from..end],
         step,
     );
-    let g = o.after;
-    put_figures(&mut figures[i], g);
+    put_figures(&mut figures[i], o.after);
     Outcomes {
         answer: o.answer,
         rounds: o.rounds,
@@ -320,8 +315,7 @@ fn oblige(
     let share = trail.len() / at.vans;
     let f = figures_in(&figures[0]);
     let o = trail::steps::oblige(f, at.nodes, step.first, &mut trail[0..share]);
-    let g = o.after;
-    put_figures(&mut figures[0], g);
+    put_figures(&mut figures[0], o.after);
     Outcomes {
         answer: o.answer,
         rounds: o.rounds,

@@ -23,105 +23,6 @@ use Rattle.day.specs.Seen.{Placed}
 use Rattle.along.specs.Nodes.{clean_load, soiled_load, first_load, second_load, mate_or, mate_in, Entered, ByNode, Mates}
 use Rattle.laws.proofs.Table.{same_entries}
 
--- ---- one job more
-
--- w more at i, where b tells whether that is j
-plus : (t : List ℕ) (i j w : ℕ) (b : Bool) → i < length t → (b ≡ true → j ≡ i) → (b ≡ false → j ≡ i → ⊥)
-    → get_or (set t i (get_or t i 0 + w)) j 0 ≡ get_or t j 0 + cond b w 0
-plus t i j w true h y n = rw (y refl) (get_or-set_same t i (get_or t i 0 + w) 0 h)
-plus t i j w false h y n = get_or-set_other t i j (get_or t i 0 + w) 0 (n refl) ∙ omega arith
-
--- w more at the node a of the part that begins at o
-plus-at : (t : List ℕ) (o a w x : ℕ) → o + a < length t → get_or (set t (o + a) (get_or t (o + a) 0 + w)) (o + x) 0 ≡ get_or t (o + x) 0 + cond (eqb x a) w 0
-plus-at t o a w x h =
-    plus t (o + a) (o + x) w (eqb x a) h (λ e. ap (λ (k : ℕ). o + k) (eqb-true x a e)) (λ e z. eqb-false x a e (omega (arith, z)))
-
--- no entry grows by more than that
-grows : (t : List ℕ) (i v j w : ℕ) → i < length t → v ≤ get_or t i 0 + w → get_or (set t i v) j 0 ≤ get_or t j 0 + w
-grows t i v j w h l =
-    decided (eqb j i) (λ e. rw (eqb-true j i e) (omega (arith, get_or-set_same t i v 0 h, l))) (λ e. omega (arith, get_or-set_other t i j v 0 (eqb-false j i e)))
-
--- another entry, with nothing more
-far : (t : List ℕ) (i j v : ℕ) → (j ≡ i → ⊥) → get_or (set t i v) j 0 ≡ get_or t j 0 + 0
-far t i j v n = get_or-set_other t i j v 0 n ∙ omega arith
-
-module _ (t : List ℕ) (long : length t ≡ 321) (a w : ℕ) (h : a < 64) (low : w ≤ 1000) where
-  pub entered-clean : Entered (Clean a w) t (set t a (get_or t a 0 + w))
-  entered-clean = record {
-    long = length-set t a (get_or t a 0 + w) ∙ long;
-    low = λ i. grows t a (get_or t a 0 + w) i 4000 (omega arith) (omega arith);
-    clean = λ x l. plus t a x w (eqb x a) (omega arith) (eqb-true x a) (eqb-false x a);
-    soiled = λ x l. far t a (64 + x) _ (λ e. omega (arith, e));
-    first = λ x l. far t a (128 + x) _ (λ e. omega (arith, e));
-    second = λ x l. far t a (192 + x) _ (λ e. omega (arith, e));
-    partner = λ x l. get_or-set_other t a (256 + x) _ 0 (λ e. omega (arith, e));
-    most = get_or-set_other t a 320 _ 0 (λ e. omega (arith, e));
-  }
-
-  pub entered-soiled : Entered (Soiled a w) t (set t (64 + a) (get_or t (64 + a) 0 + w))
-  entered-soiled = record {
-    long = length-set t (64 + a) (get_or t (64 + a) 0 + w) ∙ long;
-    low = λ i. grows t (64 + a) (get_or t (64 + a) 0 + w) i 4000 (omega arith) (omega arith);
-    clean = λ x l. far t (64 + a) x _ (λ e. omega (arith, e));
-    soiled = λ x l. plus-at t 64 a w x (omega arith);
-    first = λ x l. far t (64 + a) (128 + x) _ (λ e. omega (arith, e));
-    second = λ x l. far t (64 + a) (192 + x) _ (λ e. omega (arith, e));
-    partner = λ x l. get_or-set_other t (64 + a) (256 + x) _ 0 (λ e. omega (arith, e));
-    most = get_or-set_other t (64 + a) 320 _ 0 (λ e. omega (arith, e));
-  }
-
-module _ (t : List ℕ) (long : length t ≡ 321) (a b w : ℕ) (h : a < 64) (k : b < 64) (low : w ≤ 1000) where
-  abbrev t1 : List ℕ
-  t1 = set t (128 + a) (get_or t (128 + a) 0 + w)
-
-  abbrev t2 : List ℕ
-  t2 = set t1 (192 + b) (get_or t1 (192 + b) 0 + w)
-
-  abbrev t3 : List ℕ
-  t3 = set t2 (256 + a) b
-
-  -- the second load that is read
-  pub second-low : ((i : ℕ) → get_or t i 0 ≤ 1048576) → get_or t1 (192 + b) 0 ≤ 1049576
-  second-low f = omega (arith, f (192 + b), grows t (128 + a) (get_or t (128 + a) 0 + w) (192 + b) 1000 (omega arith) (omega arith))
-
-  pub entered-transfer : Entered (Transfer a b w) t (set t3 (256 + b) a)
-  entered-transfer = record {
-    long = length-set t3 (256 + b) a ∙ l3;
-    low = λ i. omega (
-      arith,
-      grows t (128 + a) (get_or t (128 + a) 0 + w) i 1000 (omega arith) (omega arith),
-      grows t1 (192 + b) (get_or t1 (192 + b) 0 + w) i 1000 (omega (arith, l1)) (omega arith),
-      grows t2 (256 + a) b i 1000 (omega (arith, l2)) (omega arith),
-      grows t3 (256 + b) a i 1000 (omega (arith, l3)) (omega arith),
-    );
-    clean = λ x l. low_part x (omega arith) ∙ get_or-set_other t1 (192 + b) x _ 0 (λ e. omega (arith, e)) ∙ far t (128 + a) x _ (λ e. omega (arith, e));
-    soiled = λ x l. low_part (64 + x) (omega arith) ∙ get_or-set_other t1 (192 + b) (64 + x) _ 0 (λ e. omega (arith, e)) ∙ far t (128 + a) (64 + x) _ (λ e. omega (arith, e));
-    first = λ x l. low_part (128 + x) (omega arith) ∙ get_or-set_other t1 (192 + b) (128 + x) _ 0 (λ e. omega (arith, e)) ∙ plus-at t 128 a w x (omega arith);
-    second = λ x l. low_part (192 + x) (omega arith) ∙ plus-at t1 192 b w x (omega (arith, l1))
-        ∙ ap (λ (n : ℕ). n + cond (eqb x b) w 0) (get_or-set_other t (128 + a) (192 + x) _ 0 (λ e. omega (arith, e)));
-    partner = λ x l. decided (eqb x b) (λ e. rw (e, eqb-true x b e) (get_or-set_same t3 (256 + b) a 0 (omega (arith, l3))))
-        (λ e. rw e (get_or-set_other t3 (256 + b) (256 + x) a 0 (λ z. eqb-false x b e (omega (arith, z))) ∙ rest x));
-    most = get_or-set_other t3 (256 + b) 320 a 0 (λ e. omega (arith, e)) ∙ get_or-set_other t2 (256 + a) 320 b 0 (λ e. omega (arith, e))
-        ∙ get_or-set_other t1 (192 + b) 320 _ 0 (λ e. omega (arith, e)) ∙ get_or-set_other t (128 + a) 320 _ 0 (λ e. omega (arith, e));
-  }
-    where
-      l1 : length t1 ≡ 321
-      l1 = length-set t (128 + a) _ ∙ long
-
-      l2 : length t2 ≡ 321
-      l2 = length-set t1 (192 + b) _ ∙ l1
-
-      l3 : length t3 ≡ 321
-      l3 = length-set t2 (256 + a) b ∙ l2
-
-      low_part : (i : ℕ) → i < 256 → get_or (set t3 (256 + b) a) i 0 ≡ get_or t2 i 0
-      low_part i q = get_or-set_other t3 (256 + b) i a 0 (λ e. omega (arith, e)) ∙ get_or-set_other t2 (256 + a) i b 0 (λ e. omega (arith, e))
-
-      rest : (x : ℕ) → get_or t3 (256 + x) 0 ≡ cond (eqb x a) b (get_or t (256 + x) 0)
-      rest x = decided (eqb x a) (λ e. rw (e, eqb-true x a e) (get_or-set_same t2 (256 + a) b 0 (omega (arith, l2))))
-          (λ e. rw e (get_or-set_other t2 (256 + a) (256 + x) b 0 (λ z. eqb-false x a e (omega (arith, z)))
-          ∙ get_or-set_other t1 (192 + b) (256 + x) _ 0 (λ z. omega (arith, z)) ∙ get_or-set_other t (128 + a) (256 + x) _ 0 (λ z. omega (arith, z))))
-
 -- ---- all of them
 
 pub nodes-none : (g : ℕ → Job) → ByNode g 0 (replicate 321 0)
@@ -195,21 +96,24 @@ pub named-low : {t : List ℕ} {members left word x : ℕ} → 0 < left → Name
 named-low {left = left} {x = x} some p e = has-low left x p.fits (ap (has left) e ∙ lowest-has left some p.fits)
 
 -- the least of those that are left, x, is named next
-pub named-next : {t : List ℕ} {members left word x y : ℕ} → 0 < left → ((x : ℕ) → x < 64 → get_or t (256 + x) 0 < 64) → Named t members left word
-    → x ≡ lowest left → y ≡ get_or t (256 + x) 0 → Named t members (without left (lowest left)) (with word y)
-named-next {t} {members} {left} {word} {x} {y} some near p e f = record {
-  fits = without-fits left (lowest left) p.fits;
-  part = λ z h. p.part z (without-part left (lowest left) z h);
-  sound = λ z h. decided (eqb z y) (λ q. (x, p.part x here, sym f ∙ sym (eqb-true z y q))) (λ q. p.sound z (sym (with-other word y z (eqb-false z y q)) ∙ h));
-  full = λ z h n. decided (eqb z x) (λ q. rw (eqb-true z x q, ← f) (with-same word y low))
-      (λ q. kept word y (get_or t (256 + z) 0) low (p.full z h (sym (without_other left (lowest left) z (λ c. eqb-false z x q (c ∙ sym e))) ∙ n)));
-}
+pub named-next : {t : List ℕ} {members left word x rest next : ℕ} → 0 < left → ((x : ℕ) → x < 64 → get_or t (256 + x) 0 < 64) → Named t members left word
+    → x ≡ lowest left → rest ≡ without left x → next ≡ with word (get_or t (256 + x) 0) → Named t members rest next
+named-next {t} {members} {left} {word} {x} some near p e f g = rw (f, g) (record {
+  fits = without-fits left x p.fits;
+  part = λ z h. p.part z (without-part left x z h);
+  sound = λ z h. decided (eqb z y) (λ q. (x, p.part x here, sym (eqb-true z y q))) (λ q. p.sound z (sym (with-other word y z (eqb-false z y q)) ∙ h));
+  full = λ z h n. decided (eqb z x) (λ q. rw (eqb-true z x q) (with-same word y low))
+      (λ q. kept word y (get_or t (256 + z) 0) low (p.full z h (sym (without_other left x z (eqb-false z x q)) ∙ n)));
+})
   where
+    y : ℕ
+    y = get_or t (256 + x) 0
+
     here : has left x ≡ true
     here = ap (has left) e ∙ lowest-has left some p.fits
 
     low : y < 64
-    low = subst (λ (n : ℕ). n < 64) (sym f) (near x (named-low some p e))
+    low = near x (named-low some p e)
 
 pub named-all : {t : List ℕ} {members word : ℕ} → Named t members 0 word → Mates t members word
 named-all p = record { sound = p.sound; full = λ x h. p.full x h (has-none x) }

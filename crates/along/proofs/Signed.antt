@@ -10,7 +10,7 @@ use lib.Signed.{mag, le_z}
 use lib.ListN.{get_or, take, drop, length, length-take, length-drop}
 use mir.Syntax.{w64}
 use mir.Val.{to_z, of_z}
-use mir.Facts.{to_z-of_z, to_z_pos}
+use mir.Facts.{to_z-of_z}
 use Rattle.rules.specs.Day.{Day}
 use Rattle.rules.specs.Time.{last_moment, in_time, last_start, min_z}
 use Rattle.rules.specs.Along.{last_at}
@@ -45,9 +45,6 @@ mag-min a b k p q = go (le_z a b)
 -- what is written of a number near 0 is read back
 pub back-64 : (z : ℤ) → mag z < 9223372036854775808 → to_z w64 (of_z w64 z) ≡ z
 back-64 z h = to_z-of_z {w = w64} (record { sfits = h })
-
-pub ahead : (n : ℕ) → n < 9223372036854775808 → to_z w64 n ≡ pos n
-ahead n h = to_z_pos w64 h
 
 last-far : (d : Day) → Low d → (B : List ℕ) (k : ℕ) → mag (last_start d B k) < 12884901888 * (length B + 1)
 last-far d w [] k = omega (arith, w.moment k)

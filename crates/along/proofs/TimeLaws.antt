@@ -54,12 +54,11 @@ pub from_last : {A : Type 0} (f : ℕ → A) (d : A) (n : ℕ) (l : List A) (v :
 from_last f d n l v m g h e =
     record { long = length-set l (n - 1) v ∙ m; at = λ k a b. let q : k ≡ n - 1 = omega arith in rw q (get_or-set_same l (n - 1) v d (omega arith) ∙ e) }
 
-pub from-down : {A : Type 0} {f : ℕ → A} {d : A} (i : ℕ) {hi : ℕ} {l : List A} {v : A} → 0 < i → i ≤ 64 → v ≡ f (i - 1) → From f d i hi l
-    → From f d (i - 1) hi (set l (i - 1) v)
-from-down {f = f} {d = d} i {hi} {l} {v} g h e p = record {
-  long = length-set l (i - 1) v ∙ p.long;
-  at = λ k a b. ⊎_elim (λ q. rw (← q) (get_or-set_same l (i - 1) v d (omega (arith, p.long)) ∙ e))
-      (λ q. get_or-set_other l (i - 1) k v d (λ z. ne_of_lt q (sym z)) ∙ p.at k (omega arith) b) (eq-or-lt_of_le a);
+pub from-down : {A : Type 0} {f : ℕ → A} {d : A} (i : ℕ) {lo hi : ℕ} {l : List A} {v : A} → lo ≡ suc i → lo ≤ 64 → v ≡ f i → From f d lo hi l → From f d i hi (set l i v)
+from-down {f = f} {d = d} i {l = l} {v = v} g h e p = record {
+  long = length-set l i v ∙ p.long;
+  at = λ k a b. ⊎_elim (λ q. rw (← q) (get_or-set_same l i v d (omega (arith, p.long)) ∙ e))
+      (λ q. get_or-set_other l i k v d (λ z. ne_of_lt q (sym z)) ∙ p.at k (omega arith) b) (eq-or-lt_of_le a);
 }
 
 pub from_all : {A : Type 0} {f : ℕ → A} {d : A} {hi : ℕ} {l : List A} {i : ℕ} → i ≡ 0 → From f d i hi l → Filled 64 f d hi l
@@ -68,19 +67,18 @@ from_all e p = record { long = p.long; at = λ k b. p.at k (omega arith) b }
 pub last-first : (d : Day) (l : List ℕ) (n : ℕ) → 0 < n → n ≤ length l → last_moment d (get_or l (n - 1) 0) ≡ last_at d (take n l) (n - 1)
 last-first d l n g h = ap (last_moment d) (sym (get_or-take n l (n - 1) 0 (omega arith))) ∙ sym (last_end d (take n l) (n - 1) (simp length-take (omega arith)))
 
--- one step back, from the stop i to the one before it
-pub last_turn : (d : Day) (l : List ℕ) (n i : ℕ) {z : ℤ} → 0 < i → i < n → n ≤ length l → z ≡ last_at d (take n l) i
-    → min_z (last_moment d (get_or l (i - 1) 0)) (z -ℤ pos (d.service (get_or l (i - 1) 0) + d.seconds (get_or l (i - 1) 0) (get_or l i 0))) ≡ last_at d (take n l) (i - 1)
-last_turn d l n zero g h k e = absurd (omega arith)
-last_turn d l n (suc i) {z} g h k e =
-    let q : suc i - 1 ≡ i = omega arith in
-    rw (q, e, ← get_or-take n l i 0 (omega arith), ← get_or-take n l (suc i) 0 h) (sym (last-next d (take n l) i (simp length-take (omega arith))))
+-- one step back, to the stop i from the one after it
+last_turn : (d : Day) (l : List ℕ) (n i : ℕ) {k : ℕ} {z : ℤ} → k ≡ suc i → k < n → n ≤ length l → z ≡ last_at d (take n l) k
+    → min_z (last_moment d (get_or l i 0)) (z -ℤ pos (d.service (get_or l i 0) + d.seconds (get_or l i 0) (get_or l (i + 1) 0))) ≡ last_at d (take n l) i
+last_turn d l n i q h g e =
+    rw (e, q, add-one i, ← get_or-take n l i 0 (omega arith), ← get_or-take n l (suc i) 0 (omega arith))
+    (sym (last-next d (take n l) i (simp length-take (omega arith))))
 
 -- the same from what the code has read
-pub last-told : (d : Day) (l : List ℕ) (n i : ℕ) {z r o : ℤ} {b c : ℕ} → 0 < i → i < n → n ≤ length l → z ≡ last_at d (take n l) i
-    → r ≡ min_z o (z -ℤ pos (b + c))
-    → o ≡ last_moment d (get_or l (i - 1) 0) → b ≡ d.service (get_or l (i - 1) 0) → c ≡ d.seconds (get_or l (i - 1) 0) (get_or l i 0) → r ≡ last_at d (take n l) (i - 1)
-last-told d l n i {z} g h k e f p q s = f ∙ (λ j. min_z (p j) (z -ℤ pos (q j + s j))) ∙ last_turn d l n i g h k e
+pub last-told : (d : Day) (l : List ℕ) (n i : ℕ) {k : ℕ} {z r o : ℤ} {b c : ℕ} → k ≡ suc i → k < n → n ≤ length l → z ≡ last_at d (take n l) k
+    → r ≡ min_z o (z -ℤ pos (b + c)) → o ≡ last_moment d (get_or l i 0) → b ≡ d.service (get_or l i 0) → c ≡ d.seconds (get_or l i 0) (get_or l (i + 1) 0)
+    → r ≡ last_at d (take n l) i
+last-told d l n i {z = z} g h k e f p q s = f ∙ (λ j. min_z (p j) (z -ℤ pos (q j + s j))) ∙ last_turn d l n i g h k e
 
 -- ---- the length of the route
 

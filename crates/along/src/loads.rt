@@ -57,11 +57,8 @@ pub fn at_start(
     ensures { (result ≡ load (day_of s.now) [] (take stops route.now)) × (result ≤ 281474976710656) }
 {
     let mut sum = 0;
-    let mut i = 0;
-    while i < stops {
-        let x = route[i];
-        sum += t[x] as usize;
-        i += 1;
+    for x in &route[..stops] {
+        sum += t[*x] as usize;
     }
     sum
 }
@@ -81,9 +78,8 @@ pub fn loads(
         × Peaked (day_of s.now) (take stops route.now) (stops - 1) (job_in s.now) at.jobs result }
 {
     let mut aboard = at_start(s, at, t, route, stops);
-    let mut highest = 0;
-    let mut i = 0;
-    while i + 1 < stops {
+    let mut highest: usize = 0;
+    for i in 0..stops - 1 {
         let x = route[i];
         let other = t[Jobs::PARTNER + x] as usize;
         let k = spots[other];
@@ -91,12 +87,10 @@ pub fn loads(
         let down = goes(t, x, k < i);
         aboard = aboard + up - down;
         h[i] = aboard;
-        highest = if highest < aboard { aboard } else { highest };
-        i += 1;
+        highest = highest.max(aboard);
     }
-    let heaviest = t[Jobs::HEAVIEST] as usize;
     Peaks {
-        highest: highest,
-        heaviest: heaviest,
+        highest,
+        heaviest: t[Jobs::HEAVIEST] as usize,
     }
 }

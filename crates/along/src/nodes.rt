@@ -6,6 +6,7 @@ ghost use Rattle.day.specs.Tell.{job_in};
 ghost use Rattle.day.specs.Seen.{Placed};
 ghost use Rattle.along.specs.Nodes.{Entered, ByNode, Mates};
 
+use bits::Each;
 use rules::Job;
 use sheet::Layout;
 
@@ -53,15 +54,10 @@ pub fn by_node(s: &[u8], at: Layout, t: &mut [u32; Jobs::ROOM])
     requires { Laid s.now at × (t.old ≡ replicate 321 0) }
     ensures { ByNode (job_in s.now) at.jobs t.new }
 {
-    let m = at.jobs;
-    let mut j = 0;
-    while j < m {
+    for j in 0..at.jobs {
         let job = day::jobs::job(s, at, j);
         enter(job, t);
-        let load = job.load() as u32;
-        let most = t[Jobs::HEAVIEST];
-        t[Jobs::HEAVIEST] = if most < load { load } else { most };
-        j += 1;
+        t[Jobs::HEAVIEST] = t[Jobs::HEAVIEST].max(job.load() as u32);
     }
 }
 
@@ -70,13 +66,9 @@ pub fn partners_of(t: &[u32; Jobs::ROOM], members: u64) -> u64
     requires { (length t.now ≡ 321) × ((x : ℕ) → x < 64 → get_or t.now (256 + x) 0 < 64) }
     ensures { Mates t.now members result }
 {
-    let mut left = members;
     let mut word: u64 = 0;
-    while left != 0 {
-        let x = bits::lowest(left);
-        let y = t[Jobs::PARTNER + x] as usize;
-        word = bits::put(word, y);
-        left = bits::rest(left);
+    for x in Each::of(members) {
+        word = bits::put(word, t[Jobs::PARTNER + x] as usize);
     }
     word
 }

@@ -12,11 +12,8 @@ pub fn spots(route: &[usize; Node::MOST], stops: usize, at: &mut [usize; Node::M
     requires at_value { at.old ≡ replicate 64 64 }
     ensures { Spots route.now stops at.new }
 {
-    let mut i = 0;
-    while i < stops {
-        let x = route[i];
-        at[x] = i;
-        i += 1;
+    for i in 0..stops {
+        at[route[i]] = i;
     }
 }
 
@@ -26,11 +23,8 @@ pub fn word(route: &[usize; Node::MOST], stops: usize) -> u64
     ensures { (x : ℕ) → has result x ≡ mem x (take stops route.now) }
 {
     let mut w: u64 = 0;
-    let mut i = 0;
-    while i < stops {
-        let x = route[i];
-        w = bits::put(w, x);
-        i += 1;
+    for x in &route[..stops] {
+        w = bits::put(w, *x);
     }
     w
 }

@@ -69,15 +69,12 @@ pub fn lasts(
     requires { Laid s.now at × Route at.nodes route.now stops × (length l.old ≡ 64) }
     ensures { Filled 64 (last_at (day_of s.now) (take stops route.now)) (pos 0) stops l.new }
 {
-    let mut i = stops - 1;
-    let z = route[i];
-    let mut t = last_moment(s, at, z);
-    l[i] = t;
-    while 0 < i {
-        let k = route[i];
-        i -= 1;
+    let end = stops - 1;
+    let mut t = last_moment(s, at, route[end]);
+    l[end] = t;
+    for i in (0..end).rev() {
         let p = route[i];
-        let gap = service(s, at, p) + seconds(s, at, p, k);
+        let gap = service(s, at, p) + seconds(s, at, p, route[i + 1]);
         t = before(last_moment(s, at, p), t, gap);
         l[i] = t;
     }

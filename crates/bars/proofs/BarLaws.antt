@@ -2,16 +2,13 @@
 use mathlib.Core.Path.{◌≡◌, refl, sym, ap, subst, ◌∙◌}
 use mathlib.Core.Bool.{Bool, true, false, not, ◌&&◌, ◌||◌}
 use mathlib.Core.List.{List, []}
-use Prim.Native.Nat.{ℕ, ◌+◌, ◌≤◌, ◌<◌}
-use native.Mathlib.Nat.{le_antisymm}
-use native.Mathlib.Numerals.{add-one}
+use Prim.Native.Nat.{ℕ, ◌≤◌, ◌<◌}
 use native.Mathlib.Omega.{arith}
 use borrow.Author.Tests.{eq-eqb}
 use lib.ListN.{get_or, take}
 use lib.Dec.{eqb, ltb}
 use Rattle.laws.specs.Basic.{all_below, any_below, or_else, unless}
-use Rattle.laws.proofs.Logic.{T→true, true→T}
-use Rattle.laws.proofs.AnyLaws.{any-below-i, any-below-same}
+use Rattle.laws.proofs.AnyLaws.{any-below-same}
 use Rattle.laws.proofs.Below.{below-same}
 use Rattle.laws.proofs.Choice.{first_stops}
 use Rattle.bits.specs.Places.{has}
@@ -21,8 +18,9 @@ use Rattle.rules.specs.Verdict.{owed}
 use Rattle.sheet.specs.Section.{n_of, vans_of}
 use Rattle.sheet.specs.declared.Layout.{Layout}
 use Rattle.day.specs.Tell.{day_of}
-use Rattle.board.specs.Board.{board_of, route_of, set_of, open_at}
+use Rattle.board.specs.Board.{board, board_of, route_of, set_of, open_at}
 use Rattle.board.specs.declared.State.{State}
+use Rattle.board.specs.declared.Figures.{Figures}
 use Rattle.records.specs.Trail.{room_of}
 use Rattle.trail.specs.Refusals.{place_shut}
 use Rattle.records.specs.Undo.{Readable}
@@ -35,22 +33,6 @@ use Rattle.fleet.specs.Rows.{figures_in, row_state, row_board, fleet_with, Ready
 use Rattle.fleet.specs.declared.Fleet.{Fleet}
 use Rattle.fleet.proofs.FleetLaws.{state-of}
 use Rattle.bars.specs.Bars.{claimed, roomy, place_bar}
-
--- ---- a loop that asks whether some number below one passes f
-
-pub any_none : (f : ℕ → Bool) → any_below 0 f ≡ false
-unfolding any_below
-any_none f = refl
-
-pub any-goes : (i : ℕ) (f : ℕ → Bool) → any_below i f ≡ false → f i ≡ false → any_below (i + 1) f ≡ false
-unfolding any_below
-any-goes i f p q = rw (add-one, p) q
-
-pub any-stops : (n i : ℕ) (f : ℕ → Bool) → i < n → f i ≡ true → true ≡ any_below n f
-any-stops n i f l e = sym (T→true (any_below n f) (any-below-i n i f l (true→T (f i) e)))
-
-pub any-done : (n i : ℕ) (f : ℕ → Bool) → i ≤ n → n ≤ i → any_below i f ≡ false → false ≡ any_below n f
-any-done n i f p q r = sym (subst (λ (k : ℕ). any_below k f ≡ false) (le_antisymm p q) r)
 
 -- ---- the rows of a van
 
@@ -103,12 +85,16 @@ room-vans sets figures room i x {b = b} e =
     subst (λ (w : ℕ). ((routes levels : List (List ℕ)) (t : List ℕ) → ((j : ℕ) → j < w → room_of (trail_in w t j) ≡ room)
     → b ≡ all_below w (roomy w (fleet_with routes sets levels figures) t i x))) e
 
--- why the place is shut
-pub shut_row : {nodes n : ℕ} (routes sets levels figures : List (List ℕ)) (i p x : ℕ) {k : ℕ} → nodes ≡ n → i < most_vans
-    → k ≡ place_shut nodes (row_board routes sets figures i) p x → k ≡ place_shut n (board_in (fleet_with routes sets levels figures) i) p x
-shut_row {n = n} routes sets levels figures i p x e h q =
-    q ∙ ap (λ (m : ℕ). place_shut m (row_board routes sets figures i) p x) e
-    ∙ sym (ap (λ (s : State). place_shut n (board_of s) p x) (state-of (row_state routes sets levels figures) i h))
+-- why the place is shut, by the figures that were read
+pub shut_row : {sheet : List ℕ} {at : Layout} {routes sets figures : List (List ℕ)} (levels : List (List ℕ)) {f : Figures} (i p x : ℕ) {k : ℕ}
+    → ReadyAll sheet at routes sets figures → i < vans_of sheet → f ≡ figures_in (get_or figures i [])
+    → k ≡ place_shut at.nodes (board (get_or routes i []) f.stops (get_or sets i []) f.marks f.must) p x
+    → k ≡ place_shut (n_of sheet) (board_in (fleet_with routes sets levels figures) i) p x
+shut_row {sheet} {at} {routes} {sets} {figures} levels i p x r h e q =
+    let row = state-of (row_state routes sets levels figures) i (omega (arith, r.laid.fine.vans-high)) in
+    rw e at q
+    ∙ ap (λ (m : ℕ). place_shut m (row_board routes sets figures i) p x) r.laid.nodes
+    ∙ sym (ap (λ (s : State). place_shut (n_of sheet) (board_of s) p x) row)
 
 -- what reading van j's route asks
 pub readable_row : {sheet : List ℕ} {at : Layout} {routes sets figures : List (List ℕ)} (j : ℕ) → ReadyAll sheet at routes sets figures → j < vans_of sheet

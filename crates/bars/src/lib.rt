@@ -37,17 +37,10 @@ fn is_claimed<'a>(
         return false;
     }
     let partners = verdict::partners(sheet, at, x);
-    let mut j = 0;
-    while j < v {
-        if j != van {
-            let f = figures_in(&figures[j]);
-            if verdict::owes(&routes[j], f.stops, f.marks, partners, x) {
-                return true;
-            }
-        }
-        j += 1;
-    }
-    false
+    (0..v).any(|j| {
+        let f = figures_in(&figures[j]);
+        (j != van) && verdict::owes(&routes[j], f.stops, f.marks, partners, x)
+    })
 }
 
 // Whether every van has room for its record, where each part of the trail has so much.
@@ -63,16 +56,11 @@ fn has_room<'a>(
     ensures { (routes levels : List (List ℕ)) (t : List ℕ) → ((j : ℕ) → j < v → room_of (trail_in v t j) ≡ room)
         → result ≡ all_below v (roomy v (fleet_with routes sets.now levels figures.now) t van x) }
 {
-    let mut j = 0;
-    while j < v {
+    (0..v).all(|j| {
         let f = figures_in(&figures[j]);
         let spare = (j != van) & (sets[j][x] == 0);
-        if !(spare | (f.records < room)) {
-            return false;
-        }
-        j += 1;
-    }
-    true
+        spare | (f.records < room)
+    })
 }
 
 // Why placing x after p in a van is refused, or 0.

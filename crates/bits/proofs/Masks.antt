@@ -5,7 +5,7 @@ use Prim.Native.Nat.{ℕ, zero, suc, ◌+◌, ◌-◌, ◌*◌, ◌/◌, ◌%◌
 use native.Mathlib.Nat.{pow-succ', mod-eq_of_lt, zero-add}
 use native.Mathlib.Numerals.{one-add}
 use native.Mathlib.Omega.{arith}
-use lib.Pow.{pow-lt}
+use lib.Pow.{pow-lt, pow_pos}
 use lib.Bits.{bit_and, bit_or, and_step, and_shr, and_high, and_lt, and_self, and_le_r, or_zero_l, or_add_and, or_step, or_shr}
 use lib.Count.{count_trailing_zeros}
 use lib.Dec.{eqb}
@@ -197,3 +197,7 @@ rest-low (suc k) w z f =
 pub rest-mask : (w : ℕ) → 0 < w → w < 2 ^ 64 → bit_and w (w - 1) ≡ without w (lowest w)
 unfolding lowest
 rest-mask w z f = rest-low 64 w z f ∙ sym (without-yes w (count_trailing_zeros 64 w) (low-has 64 w z f))
+
+-- taking the least place out makes the word smaller
+pub rest-less : (w : ℕ) → 0 < w → w < 2 ^ 64 → without w (lowest w) < w
+rest-less w z f = omega (arith, without-yes w (lowest w) (lowest-has w z f), pow_pos (lowest w))

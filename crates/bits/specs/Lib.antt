@@ -1,2 +1,3 @@
 -- Places: a set of places in a word.
 pub mod Places
+pub mod Next

@@ -2,8 +2,10 @@
 #![tactic(auto)]
 
 ghost use Rattle.std.specs.Prelude.{◌≡◌, ◌<◌, ◌≤◌};
+ghost use Rattle.std.specs.Iterator.{at_most};
 ghost use Rattle.std.specs.Int.Count.{ones};
 ghost use Rattle.bits.specs.Places.{has, with, without, minus, join, within, lowest};
+ghost use Rattle.bits.specs.Next.{takes_least};
 
 // The places of a word.
 const PLACES: usize = 64;
@@ -94,4 +96,35 @@ pub fn rest(w: u64) -> u64
     ensures { result ≡ without w (lowest w) }
 {
     w & (w - 1)
+}
+
+// The members of a set that are still to come, the least first.
+#[derive(Clone, Copy)]
+pub struct Each {
+    pub left: u64,
+}
+
+impl Each {
+    pub fn of(w: u64) -> Each
+        ensures { result.left ≡ w }
+    {
+        Each { left: w }
+    }
+}
+
+impl Iterator for Each {
+    type Item = usize;
+
+    ghost next_gives = { takes_least };
+
+    ghost remaining = { λ m. at_most m.left };
+
+    fn next(&mut self) -> Option<usize> {
+        if self.left == 0 {
+            return None;
+        }
+        let least = lowest(self.left);
+        self.left = rest(self.left);
+        Some(least)
+    }
 }

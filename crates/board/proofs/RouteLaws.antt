@@ -1,11 +1,18 @@
 -- The place of a node, nodes put in and taken out, and the entries as a set.
 use mathlib.Core.Path.{◌≡◌, refl, ap, sym, ◌∙◌}
-use mathlib.Core.Bool.{true, false}
+use mathlib.Core.Bool.{true, false, not}
 use mathlib.Core.List.{List, [], ◌∷◌, ◌++◌}
-use Prim.Native.Nat.{suc-le-suc, ℕ, zero, suc, ◌+◌, ◌≤◌, ◌<◌, min}
+use Prim.Native.Nat.{suc-le-suc, ℕ, zero, suc, ◌+◌, ◌-◌, ◌≤◌, ◌<◌, min}
 use native.Mathlib.Omega.{arith}
 use native.Mathlib.Numerals.{add-one}
-use lib.ListN.{length, get_or, take, drop, length-take, length-drop, length-append, get_or-append}
+use Rattle.std.specs.List.{copy_within}
+use Rattle.std.specs.Prelude.{Some, None, cond, unwrap_or}
+use Rattle.std.specs.List.{position_or_len}
+use Rattle.std.proofs.lemmas.List.{append-nil}
+use Rattle.std.proofs.lemmas.List.Recursion.{is_position_or_len}
+use Rattle.std.proofs.lemmas.List.Sums.{prefix_len-le-length}
+use Rattle.std.proofs.Math.ListN.{drop_of_length-le}
+use lib.ListN.{length, get_or, set, take, drop, length-take, length-drop, length-append, get_or-append}
 use lib.Seq.{get_or-take, get_or_at, take-take, take_at}
 use lib.Dec.{eqb, ltb}
 use borrow.Author.Tests.{eq-eqb, ne_eqb, eqb-true, eqb-false, ltb-true, ltb-false}
@@ -19,18 +26,17 @@ use Rattle.board.specs.Route.{index_of, insert_in, remove_in, word_of}
 
 -- ---- the place of a node
 
-pub index_at : (p i : ℕ) (l : List ℕ) → ((k : ℕ) → k < i → get_or l k 0 ≡ p → ⊥) → i < length l → get_or l i 0 ≡ p → index_of p l ≡ i
+-- a search for p, and where it says that p stands
+pub index-found : (p n : ℕ) (l : List ℕ) → n ≡ length l → let k = position_or_len (λ y. eqb y p) l in
+    unwrap_or (cond (ltb k (length l)) (Some k) None) n ≡ index_of p l
 unfolding index_of
-index_at p i [] b h e = absurd (omega arith)
-index_at p zero (y ∷ ys) b h e = simp (eq-eqb y p e)
-index_at p (suc i) (y ∷ ys) b h e =
-    simp (ne_eqb y p (b 0 (omega arith))) (ap suc (index_at p i ys (λ k l. b (suc k) (omega arith)) (omega arith) e))
-
-pub index-none : (p : ℕ) (l : List ℕ) → ((k : ℕ) → k < length l → get_or l k 0 ≡ p → ⊥) → index_of p l ≡ length l
-unfolding index_of
-index-none p [] b = refl
-index-none p (y ∷ ys) b =
-    simp (ne_eqb y p (b 0 (omega arith))) (ap suc (index-none p ys (λ k l. b (suc k) (omega arith))))
+index-found p n l long =
+    let k = position_or_len (λ y. eqb y p) l in
+    let same : index_of p l ≡ k =
+    is_position_or_len (index_of p) (λ y. eqb y p) refl (λ y ys. let one : 1 + index_of p ys ≡ suc (index_of p ys) = omega arith in rw one refl) l in
+    decided (ltb k (length l))
+    (λ e. rw e (sym same))
+    (λ e. rw e (omega (arith, same, ltb-false k (length l) e, prefix_len-le-length (λ y. not (eqb y p)) l)))
 
 pub index-hit : (p : ℕ) (l : List ℕ) → index_of p l < length l → get_or l (index_of p l) 0 ≡ p
 unfolding index_of
@@ -45,18 +51,6 @@ index-first p k [] h e = absurd (omega arith)
 index-first p zero (y ∷ ys) h e = rw (eq-eqb y p e) (omega arith)
 index-first p (suc k) (y ∷ ys) h e =
     decided (eqb y p) (λ q. rw q (omega arith)) (λ q. rw q (suc-le-suc (index-first p k ys (omega arith) e)))
-
--- the same on the first n entries of an array, as a loop finds it
-pub first-at : (p i n : ℕ) (l : List ℕ) → i < n → i < length l → ((k : ℕ) → k < i → get_or l k 0 ≡ p → ⊥) → get_or l i 0 ≡ p → index_of p (take n l) ≡ i
-first-at p i n l h j b e =
-    index_at p i (take n l) (λ k q z. b k q (sym (get_or-take n l k 0 (omega arith)) ∙ z)) (omega (arith, length-take n l))
-    (get_or-take n l i 0 h ∙ e)
-
-pub first-none : (p i n : ℕ) (l : List ℕ) → i ≡ min n (length l) → ((k : ℕ) → k < i → get_or l k 0 ≡ p → ⊥) → index_of p (take n l) ≡ i
-first-none p i n l e b =
-    index-none p (take n l)
-    (λ k q z. let q' : k < i = omega (arith, length-take n l) in b k q' (sym (get_or-take n l k 0 (omega (arith, length-take n l))) ∙ z))
-    ∙ length-take n l ∙ sym e
 
 -- ---- membership by places
 
@@ -142,6 +136,21 @@ remove-last at k [] h e = absurd (omega arith)
 remove-last zero k (y ∷ l) h e = get_or_at l 0 [] 0 k (omega arith)
 remove-last (suc at) zero (y ∷ l) h e = absurd (omega arith)
 remove-last (suc at) (suc k) (y ∷ l) h e = remove-last at k l (omega arith) (omega arith)
+
+-- the entries from `at` on copied one place up, and x put in their way
+pub insert-copy : (k at x : ℕ) (l : List ℕ) → length l ≡ suc k → at ≤ k → set (copy_within l at k (suc at)) at x ≡ insert_in k at x l
+unfolding insert_in
+insert-copy k at x [] e h = absurd (omega arith)
+insert-copy k zero x (y ∷ l) e h =
+    let long : length l ≤ k = omega arith in
+    let whole : k - 0 ≡ k = omega arith in
+    let past : 1 + k ≡ suc k = omega arith in
+    ap (λ (t : List ℕ). x ∷ t) (rw (whole, past, drop_of_length-le l long) (append-nil (take k (y ∷ l))))
+insert-copy zero (suc at) x (y ∷ l) e h = absurd (omega arith)
+insert-copy (suc k) (suc at) x (y ∷ l) e h =
+    let same : suc k - suc at ≡ k - at = omega arith in
+    let past : suc (suc at) + (k - at) ≡ suc (suc at + (k - at)) = omega arith in
+    rw (same, past) (ap (λ (t : List ℕ). y ∷ t) (insert-copy k at x l (omega arith) (omega arith)))
 
 -- taking out what was put in gives the array back, where its last entry was 0
 pub remove-insert : (k at x : ℕ) (l : List ℕ) → length l ≡ suc k → at ≤ k → get_or l k 0 ≡ 0 → remove_in at (insert_in k at x l) ≡ l

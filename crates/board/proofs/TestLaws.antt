@@ -106,25 +106,30 @@ module _ (n stops : ℕ) (l : List ℕ) (i : ℕ) (used : i < stops) where
   unfolding stop_ok
   stop-test s b h = rw (lt-ltb i stops used, lt-ltb (get_or l i 0) n h, word-mem i l (get_or l i 0) (omega arith) b) refl
 
+  -- the same of the stops seen so far, and what asking them for this one answers
+  pub stop-seen : n ≤ 64 → i ≤ length l → get_or l i 0 < n → {seen : ℕ} {held : Bool} → seen ≡ word_of i l → held ≡ has seen (get_or l i 0)
+      → stop_ok n stops l i ≡ not held
+  stop-seen s b h e q = stop-test s b h ∙ ap not (sym (q ∙ ap (λ (w : ℕ). has w (get_or l i 0)) e))
+
   pub stop-below : stop_ok n stops l i ≡ true → get_or l i 0 < n
   unfolding stop_ok
   stop-below e = ltb-true (get_or l i 0) n (and-true (ltb (get_or l i 0) n) _ (rw (lt-ltb i stops used) at e)).0
 
 module _ (n stops : ℕ) (l : List ℕ) (small : n ≤ 64) (some : 0 < stops) where
   -- a set with the first stop in it is not 0
-  pub seen_none : seen_of n stops l ≡ 0 → all_below stops (stop_ok n stops l) ≡ false
+  pub seen_none : {r : ℕ} → r ≡ seen_of n stops l → r ≡ 0 → all_below stops (stop_ok n stops l) ≡ false
   unfolding seen_of
-  seen_none z =
+  seen_none q z =
       decided (all_below stops (stop_ok n stops l))
-      (λ e. let z' : word_of stops l ≡ 0 = rw e at z in
+      (λ e. let z' : word_of stops l ≡ 0 = rw e at (sym q ∙ z) in
       let b = stop-below n stops l 0 some (below_at stops 0 (stop_ok n stops l) e some) in
       let h = word-has stops l 0 (get_or l 0 0) some refl (omega arith) in
       absurd (false-true (sym (has-none (get_or l 0 0)) ∙ rw z' at h)))
       (λ e. e)
 
-  pub seen-some : (seen_of n stops l ≡ 0 → ⊥) → (all_below stops (stop_ok n stops l) ≡ true) × (seen_of n stops l ≡ word_of stops l)
+  pub seen-some : {r : ℕ} → r ≡ seen_of n stops l → (r ≡ 0 → ⊥) → (all_below stops (stop_ok n stops l) ≡ true) × (r ≡ word_of stops l)
   unfolding seen_of
-  seen-some h = decided (all_below stops (stop_ok n stops l)) (λ e. (e, rw e refl)) (λ e. absurd (h (rw e refl)))
+  seen-some q h = decided (all_below stops (stop_ok n stops l)) (λ e. (e, q ∙ rw e refl)) (λ e. absurd (h (q ∙ rw e refl)))
 
 -- ---- nodes that are not inner
 
@@ -287,6 +292,11 @@ levels-test depth records l s =
     rw (le-leb depth 64 s)
     (used-none depth l (level_ok depth records l) s (λ i h. rw (le-ltb i depth h) refl)
     ∙ ap (λ (b : Bool). b && all_below 64 (zero_from depth l)) (level-used depth records l))
+
+-- what is left to ask when the levels have been gone through
+pub levels-asked : (depth records i u : ℕ) (l : List ℕ) → depth ≤ 64 → i ≡ depth → u ≡ entry_before l i → all_below i (rises l) ≡ true
+    → levels_ok depth records l ≡ (leb u records && all_below 64 (zero_from depth l))
+levels-asked depth records i u l s e p q = rw (levels-test depth records l s, ← e, q, ← p) refl
 
 pub falls : (l : List ℕ) (i : ℕ) → get_or l i 0 < entry_before l i → rises l i ≡ false
 unfolding rises

@@ -11,26 +11,19 @@ use crate::{Figures, State};
 use rules::Node;
 
 // Whether x is between 1 and n - 2.
+#[tactic(auto, unfolding(rules::specs::Day::is_inner))]
 pub fn inner(n: usize, x: usize) -> bool
     ensures { result ≡ is_inner n x }
 {
-    if x < 1 {
-        return false;
-    }
-    if n <= x {
-        return false;
-    }
-    x + 1 < n
+    1 <= x && x < n && x + 1 < n
 }
 
 // Whether p is between 0 and n - 2.
+#[tactic(auto, unfolding(crate::specs::Board::leg_node))]
 pub fn leg_node(n: usize, p: usize) -> bool
     ensures { result ≡ leg_node n p }
 {
-    if n <= p {
-        return false;
-    }
-    p + 1 < n
+    p < n && p + 1 < n
 }
 
 // Whether every entry from `from` on is 0.
@@ -39,10 +32,8 @@ fn none_from(a: &[usize; Node::MOST], from: usize) -> bool
     ensures { result ≡ all_below 64 (zero_from from a.now) }
 {
     let mut rest = 0;
-    let mut i = from;
-    while i < Node::MOST {
-        rest = rest | a[i];
-        i += 1;
+    for i in from..Node::MOST {
+        rest |= a[i];
     }
     rest == 0
 }
@@ -53,8 +44,7 @@ fn seen_of(route: &[usize; Node::MOST], stops: usize, n: usize) -> u64
     ensures { result ≡ seen_of n stops route.now }
 {
     let mut seen: u64 = 0;
-    let mut i = 0;
-    while i < stops {
+    for i in 0..stops {
         let e = route[i];
         if n <= e {
             return 0;
@@ -63,28 +53,24 @@ fn seen_of(route: &[usize; Node::MOST], stops: usize, n: usize) -> u64
             return 0;
         }
         seen = bits::put(seen, e);
-        i += 1;
     }
     seen
 }
 
-// The sets, of nodes on and off the route alike: those between the ends are gathered with no choice among them, for speed, and held against the legs once.
-// `on` are the nodes of the route.
+// The sets, of nodes on and off the route alike: those between the ends are gathered with no choice among them, for speed, and held against the
+// legs once. `on` are the nodes of the route.
 fn sets_ok(sets: &[u64; Node::MOST], n: usize, on: u64) -> bool
     requires { (2 ≤ n) × (n ≤ 64) }
     ensures { result ≡ all_below 64 (set_test n sets.now (without on (n - 1))) }
 {
     let end = n - 1;
     let mut places: u64 = 0;
-    let mut y = 1;
-    while y < end {
-        places = places | sets[y];
-        y += 1;
+    for y in 1..end {
+        places |= sets[y];
     }
     let mut over = sets[0];
-    while y < Node::MOST {
-        over = over | sets[y];
-        y += 1;
+    for y in end..Node::MOST {
+        over |= sets[y];
     }
     let legs = bits::take(on, end);
     bits::within(places, legs) & (over == 0)
@@ -96,11 +82,9 @@ fn stops_shut<'a>(route: &'a [usize; Node::MOST], stops: usize, sets: &'a [u64; 
     ensures { result ≡ all_below stops (stop_shut route.now sets.now) }
 {
     let mut places: u64 = 0;
-    let mut i = 0;
-    while i < stops {
+    for i in 0..stops {
         let x = route[i];
-        places = places | sets[x];
-        i += 1;
+        places |= sets[x];
     }
     places == 0
 }
@@ -120,19 +104,14 @@ fn levels_ok(levels: &[usize; State::LEVELS], depth: usize, records: usize) -> b
         return false;
     }
     let mut u = 0;
-    let mut i = 0;
-    while i < depth {
+    for i in 0..depth {
         let v = levels[i];
         if v < u {
             return false;
         }
         u = v;
-        i += 1;
     }
-    if records < u {
-        return false;
-    }
-    none_from(levels, depth)
+    u <= records && none_from(levels, depth)
 }
 
 fn board_ok<'a>(
@@ -170,6 +149,7 @@ fn board_ok<'a>(
 }
 
 // Whether the state of these arrays and numbers is in form, the record count's room apart.
+#[tactic(auto, unfolding(crate::specs::Form::in_form))]
 pub fn in_form<'a>(
     route: &'a [usize; Node::MOST],
     sets: &'a [u64; Node::MOST],
@@ -180,8 +160,5 @@ pub fn in_form<'a>(
     requires { (n ≤ 64) × (length route.now ≡ 64) }
     ensures { result ≡ in_form n (state_with route.now sets.now levels.now f) }
 {
-    if !board_ok(route, f.stops, sets, f.marks, f.must, n) {
-        return false;
-    }
-    levels_ok(levels, f.depth, f.records)
+    board_ok(route, f.stops, sets, f.marks, f.must, n) && levels_ok(levels, f.depth, f.records)
 }

@@ -42,6 +42,7 @@ impl State {
     pub const LEVELS: usize = 64;
 
     // Every number 0: it stands beside a refusal.
+    #[tactic(auto, unfolding(crate::specs::Fresh::no_state))]
     pub fn none() -> State
         ensures { result ≡ no_state }
     {
@@ -58,6 +59,7 @@ impl State {
     }
 
     // Route 0, n - 1; every other node whose class set has the van's bit is open in leg 0.
+    #[tactic(auto, unfolding(crate::specs::Fresh::fresh_state))]
     pub fn fresh(n: usize, classes: &[u32; Node::MOST], bit: u32) -> State
         requires { (2 ≤ n) × (n ≤ 64) × (length classes.now ≡ 64) }
         ensures { result ≡ fresh_state n (λ y. admits (get_or classes.now y 0) bit) }
@@ -66,9 +68,9 @@ impl State {
         route[1] = n - 1;
         let sets = fresh_sets(n, classes, bit);
         State {
-            route: route,
+            route,
             stops: 2,
-            sets: sets,
+            sets,
             marks: 0,
             must: 0,
             levels: [0; State::LEVELS],
@@ -83,6 +85,7 @@ impl Figures {
     pub const COUNT: usize = 5;
 
     // Every number 0: those of the state that stands beside a refusal.
+    #[tactic(auto, unfolding(crate::specs::Fresh::no_figures))]
     pub fn none() -> Figures
         ensures { result ≡ no_figures }
     {
@@ -109,10 +112,8 @@ fn fresh_sets(n: usize, classes: &[u32; Node::MOST], bit: u32) -> [u64; Node::MO
 {
     let mut sets = [0u64; Node::MOST];
     let end = n - 1;
-    let mut y = 1;
-    while y < end {
+    for y in 1..end {
         sets[y] = fresh_set(classes[y], bit);
-        y += 1;
     }
     sets
 }

@@ -6,6 +6,7 @@ ghost use Rattle.board.specs.Held.{Ends};
 
 use rules::Node;
 
+#[tactic(auto, unfolding(crate::specs::Change::heir))]
 fn heir_of(w: u64, p: usize, x: usize) -> u64
     ensures { result ≡ heir p x w }
 {
@@ -17,11 +18,8 @@ pub fn inherit(sets: &mut [u64; Node::MOST], n: usize, p: usize, x: usize)
     requires { (length sets.old ≡ 64) × (n ≤ 64) × Ends n sets.old }
     ensures { sets.new ≡ map (heir p x) sets.old }
 {
-    let mut i = 0;
-    while i < n {
-        let w = sets[i];
-        sets[i] = heir_of(w, p, x);
-        i += 1;
+    for i in 0..n {
+        sets[i] = heir_of(sets[i], p, x);
     }
 }
 
@@ -31,11 +29,8 @@ pub fn count(sets: &[u64; Node::MOST], n: usize) -> usize
     ensures { (result ≡ places_of sets.now n) × (result ≤ 4096) }
 {
     let mut k = 0;
-    let mut y = 0;
-    while y < n {
-        let one = bits::count(sets[y]);
-        k += one;
-        y += 1;
+    for w in &sets[..n] {
+        k += bits::count(*w);
     }
     k
 }

@@ -12,14 +12,7 @@ pub fn position(route: &[usize; Node::MOST], stops: usize, p: usize) -> usize
     requires { (stops ≤ 64) × (length route.now ≡ 64) }
     ensures { result ≡ index_of p (take stops route.now) }
 {
-    let mut i = 0;
-    while i < stops {
-        if route[i] == p {
-            return i;
-        }
-        i += 1;
-    }
-    i
+    route[..stops].iter().position(|x| *x == p).unwrap_or(stops)
 }
 
 // The first k stops as a set.
@@ -28,11 +21,8 @@ pub fn word(route: &[usize; Node::MOST], k: usize) -> u64
     ensures { result ≡ word_of k route.now }
 {
     let mut w: u64 = 0;
-    let mut i = 0;
-    while i < k {
-        let p = route[i];
-        w = bits::put(w, p);
-        i += 1;
+    for p in &route[..k] {
+        w = bits::put(w, *p);
     }
     w
 }
@@ -42,11 +32,6 @@ pub fn insert(route: &mut [usize; Node::MOST], at: usize, x: usize)
     requires { (at < 64) × (length route.old ≡ 64) }
     ensures { route.new ≡ insert_in 63 at x route.old }
 {
-    let mut j = LAST;
-    while at < j {
-        let v = route[j - 1];
-        route[j] = v;
-        j -= 1;
-    }
+    route.copy_within(at..LAST, at + 1);
     route[at] = x;
 }

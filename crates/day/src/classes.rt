@@ -31,11 +31,8 @@ pub fn read_classes(s: &[u8], l: Layout, classes: &mut [u32; Node::MOST])
     requires { Laid s.now l × (length classes.old ≡ 64) }
     ensures { Filled 64 (class_of s.now) 0 l.nodes classes.new }
 {
-    let n = l.nodes;
-    let mut x = 0;
-    while x < n {
+    for x in 0..l.nodes {
         classes[x] = class(s, l, x);
-        x += 1;
     }
 }
 
@@ -46,14 +43,8 @@ pub fn ends_admit(s: &[u8], l: Layout) -> bool
 {
     let start = class(s, l, 0);
     let end = class(s, l, l.nodes - 1);
-    let v = l.vans;
-    let mut i = 0;
-    while i < v {
+    (0..l.vans).all(|i| {
         let one = bit(s, l, i);
-        if !(Node::admits(start, one) & Node::admits(end, one)) {
-            return false;
-        }
-        i += 1;
-    }
-    true
+        Node::admits(start, one) & Node::admits(end, one)
+    })
 }

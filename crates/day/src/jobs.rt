@@ -10,31 +10,23 @@ use sheet::Layout;
 use words::{Entry, four_words};
 
 // The i-th job of a section whose entries begin at word `from`.
+#[tactic(auto, unfolding(crate::specs::Tell::job_at))]
 fn job_at(s: &[u8], from: usize, i: usize) -> Job
     requires { from + size.job * i + size.job ≤ words s.now }
     ensures { result ≡ job_at s.now from i }
 {
     let w = four_words(s, from, Entry::JOB, i);
-    let kind = w.first;
     let a = w.second as usize;
     let b = w.third as usize;
     let load = w.fourth as usize;
-    if kind == 1 {
-        return Job::Clean {
-            node: a,
-            load: load,
-        };
-    }
-    if kind == 2 {
-        return Job::Soiled {
-            node: a,
-            load: load,
-        };
-    }
-    Job::Transfer {
-        from: a,
-        to: b,
-        load: load,
+    match w.first {
+        1 => Job::Clean { node: a, load },
+        2 => Job::Soiled { node: a, load },
+        _ => Job::Transfer {
+            from: a,
+            to: b,
+            load,
+        },
     }
 }
 
@@ -43,8 +35,7 @@ pub fn job(s: &[u8], l: Layout, i: usize) -> Job
     requires { Laid s.now l × (i < l.jobs) }
     ensures { result ≡ job_in s.now i }
 {
-    let from = l.job;
-    job_at(s, from, i)
+    job_at(s, l.job, i)
 }
 
 // The nodes at which a clean job, a soiled job or a transfer end was met, each a word, and whether one of them was met again.
@@ -62,23 +53,20 @@ fn see(seen: Seen, job: Job) -> Seen
     ensures { result ≡ seeing seen job }
 {
     match job {
-        Job::Clean { node, load: _ } => Seen {
+        Job::Clean { node, .. } => Seen {
             clean: bits::put(seen.clean, node),
-            soiled: seen.soiled,
-            ends: seen.ends,
             twice: seen.twice | bits::holds(seen.clean, node),
+            ..seen
         },
-        Job::Soiled { node, load: _ } => Seen {
-            clean: seen.clean,
+        Job::Soiled { node, .. } => Seen {
             soiled: bits::put(seen.soiled, node),
-            ends: seen.ends,
             twice: seen.twice | bits::holds(seen.soiled, node),
+            ..seen
         },
-        Job::Transfer { from, to, load: _ } => Seen {
-            clean: seen.clean,
-            soiled: seen.soiled,
+        Job::Transfer { from, to, .. } => Seen {
             ends: bits::put(bits::put(seen.ends, from), to),
             twice: seen.twice | (bits::holds(seen.ends, from) | bits::holds(seen.ends, to)),
+            ..seen
         },
     }
 }
@@ -105,18 +93,14 @@ pub fn look_over(s: &[u8], l: Layout) -> Looked
         twice: false,
     };
     let mut heaviest = 0;
-    let m = l.jobs;
-    let mut i = 0;
-    while i < m {
+    for i in 0..l.jobs {
         let one = job(s, l, i);
         seen = see(seen, one);
-        let load = one.load();
-        heaviest = if heaviest < load { load } else { heaviest };
-        i += 1;
+        heaviest = heaviest.max(one.load());
     }
     Looked {
         apart: !seen.twice,
-        heaviest: heaviest,
+        heaviest,
         clean: seen.clean,
         soiled: seen.soiled,
     }

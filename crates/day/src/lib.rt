@@ -58,6 +58,7 @@ pub struct Span {
 }
 
 // The words of a section.
+#[tactic(auto, unfolding(crate::specs::Section::span_of))]
 fn span_of(l: Layout, number: usize) -> Span
     requires { (l.vans ≤ 8) × (l.nodes ≤ 64) × (l.jobs ≤ 155) × (l.steps ≤ 2000) }
     ensures { SpanIn l number result }

@@ -35,13 +35,9 @@ pub fn largest(s: &[u8], l: Layout) -> usize
     ensures { result ≡ largest_of s.now }
 {
     let mut most = 0;
-    let v = l.vans;
-    let mut i = 0;
-    while i < v {
+    for i in 0..l.vans {
         let one = van(s, l, i);
-        let capacity = one.capacity;
-        most = if most < capacity { capacity } else { most };
-        i += 1;
+        most = most.max(one.capacity);
     }
     most
 }

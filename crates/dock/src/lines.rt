@@ -106,8 +106,7 @@ fn put_lines(
     );
     let mut sums = sums_now(&told, routes, sets, figures, at.vans);
     let mut used = 0;
-    let mut i = 0;
-    while i < at.steps {
+    for i in 0..at.steps {
         let o = step_at(sheet, at, jobs, i, routes, sets, levels, figures, trail);
         if stale(figures, &told, at.vans) {
             tell_vans(
@@ -116,7 +115,6 @@ fn put_lines(
             sums = sums_now(&told, routes, sets, figures, at.vans);
         }
         used = put_line(out, used, i, o.answer, o.rounds, sums);
-        i += 1;
     }
     used
 }
@@ -135,11 +133,9 @@ fn put_routes<'a>(
         Put out.old used (routes_of v (fleet_with routes.now sets levels figures.now)) result out.new) }
 {
     let mut next = used;
-    let mut j = 0;
-    while j < v {
+    for j in 0..v {
         let f = figures_in(&figures[j]);
         next = put_route(out, next, &routes[j], f.stops);
-        j += 1;
     }
     next
 }
@@ -160,9 +156,7 @@ fn fresh_rows(
 {
     let mut classes = [0u32; Node::MOST];
     read_classes(sheet, at, &mut classes);
-    let v = at.vans;
-    let mut j = 0;
-    while j < v {
+    for j in 0..at.vans {
         let one = fresh_van(sheet, at, &classes, j);
         unpack(
             one,
@@ -171,7 +165,6 @@ fn fresh_rows(
             &mut levels[j],
             &mut figures[j],
         );
-        j += 1;
     }
 }
 

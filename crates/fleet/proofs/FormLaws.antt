@@ -1,5 +1,5 @@
 -- The form of a fleet, fact by fact, and what makes it (02, No. 1).
-use mathlib.Core.Path.{◌≡◌, refl, ap, sym, subst, ◌∙◌}
+use mathlib.Core.Path.{◌≡◌, refl, ap, sym, ◌∙◌}
 use mathlib.Core.Bool.{Bool, true, false, cond, not, ◌&&◌, ◌||◌, and_assoc}
 use mathlib.Core.List.{List}
 use mathlib.Core.Logic.{◌≢◌}
@@ -19,7 +19,7 @@ use Rattle.board.specs.Form.{in_form, form_with}
 use Rattle.board.specs.declared.State.{State}
 use Rattle.records.specs.Trail.{room_of}
 use Rattle.fleet.specs.Fleet.{fleet_of, state_in, board_in, trail_in}
-use Rattle.fleet.specs.Form.{has_ward, clear_of, shares_none, van_fits, van_ok, idle, others_idle, in_form_all, form_with_all}
+use Rattle.fleet.specs.Form.{has_ward, clear_of, shares_none, van_fits, van_ok, idle, in_form_all, form_with_all}
 use Rattle.fleet.specs.declared.Fleet.{Fleet}
 use Rattle.fleet.proofs.FleetLaws.{state-of}
 use Rattle.fleet.proofs.TestLaws.{together}
@@ -170,6 +170,3 @@ resting-none f v = below-make v _ (λ k l. rw (lt-ltb k v l) refl)
 
 pub resting-more : (f : Fleet) (v j : ℕ) {b r : Bool} → v ≤ j → r ≡ idle (state_in f j) → Resting f v j b → Resting f v (j + 1) (b && r)
 resting-more f v j l e p = flag-goes j (λ k. ltb k v || idle (state_in f k)) p (e ∙ sym (rw (le-ltb j v l) refl))
-
-pub resting-done : (f : Fleet) (v j : ℕ) {b : Bool} → j ≡ most_vans → Resting f v j b → b ≡ others_idle v f
-resting-done f v j {b} e p = sym (subst (λ (i : ℕ). Resting f v i b) e p)

@@ -1,13 +1,12 @@
 -- A fleet in rows: the rows filled one after another, and the fleet that they have.
-use Prim.Native.Nat.{ℕ, ◌+◌, ◌≤◌, ◌<◌}
+use Prim.Native.Nat.{ℕ, ◌<◌}
 use mathlib.Core.Path.{◌≡◌, refl, ap, ◌∙◌}
 use mathlib.Core.List.{List, []}
-use native.Mathlib.Omega.{arith}
-use lib.ListN.{length, get_or, set}
+use lib.ListN.{length, get_or}
 use borrow.Author.Tests.{lt-ltb}
 use Rattle.laws.specs.Basic.{tab}
 use Rattle.laws.proofs.Table.{length-tab, get_or-tab}
-use Rattle.laws.proofs.Turned.{Turned, tab-same, turned_none, turned_more, turned-all}
+use Rattle.laws.proofs.Turned.{Turned, tab-same, turned-all}
 use Rattle.rules.specs.Numbers.{most_vans}
 use Rattle.board.specs.declared.State.{State}
 use Rattle.fleet.specs.Fleet.{state_in, HeldAll}
@@ -21,14 +20,7 @@ turned-end {n = n} p e = turned-all p ∙ tab-same n _ _ (λ k h. rw (e, lt-ltb 
 
 -- of the first j states a part is taken into rows
 abbrev pub Taking : (State → List ℕ) → List State → List (List ℕ) → ℕ → List (List ℕ) → Type 0
-Taking part vans old j rows = (j ≤ most_vans) × Turned most_vans (λ k. part (state_in (fleet_made vans) k)) (λ k. get_or old k []) [] j rows
-
-pub taking-none : (part : State → List ℕ) (vans : List State) (rows : List (List ℕ)) → length rows ≡ most_vans → Taking part vans rows 0 rows
-taking-none part vans rows e = (omega arith, turned_none most_vans _ _ [] rows e (λ k h. refl))
-
-pub taking-more : (part : State → List ℕ) (vans : List State) (old : List (List ℕ)) (j : ℕ) {rows : List (List ℕ)} {row : List ℕ} → Taking part vans old j rows → j < most_vans
-    → row ≡ part (state_in (fleet_made vans) j) → Taking part vans old (j + 1) (set rows j row)
-taking-more part vans old j p h e = (omega arith, turned_more _ p.1 h e)
+Taking part vans old j rows = Turned most_vans (λ k. part (state_in (fleet_made vans) k)) (λ k. get_or old k []) [] j rows
 
 -- the rows of a fleet have it
 pub fleet-rows : (f : Fleet) → length f.vans ≡ most_vans → fleet_with (routes_in f) (sets_in f) (levels_in f) (figures_all f) ≡ f

@@ -36,13 +36,6 @@ pub record Missing (sets : List ℕ) (off left kept : ℕ) : Type 0 where
   pub still : (y : ℕ) → has kept y ≡ has off y && (has left y || eqb (get_or sets y 0) 0)
 
 module _ {sets : List ℕ} {off : ℕ} where
-  pub missing-none : off < 2 ^ 64 → Missing sets off off off
-  missing-none l = record { fits = l; still = λ y. whole (has off y) (eqb (get_or sets y 0) 0) }
-    where
-      whole : (a b : Bool) → a ≡ a && (a || b)
-      whole true b = refl
-      whole false b = refl
-
   -- the least of those that are left is looked at
   module _ {left kept : ℕ} (some : 0 < left) (m : Missing sets off left kept) where
     abbrev x : ℕ
@@ -117,7 +110,7 @@ served-all f j v u h z = sym (below-make 64 _ (λ y l. decided (has (state_in f 
     (λ m. rw m refl)))
 
 -- one is left when every van was asked
-pub served-not : (f : Fleet) (v : ℕ) {left : ℕ} → Unserved f v left → 0 < left → left < 2 ^ 64 → false ≡ all_served v f
+served-not : (f : Fleet) (v : ℕ) {left : ℕ} → Unserved f v left → 0 < left → left < 2 ^ 64 → false ≡ all_served v f
 unfolding all_served
 served-not f v {left} u some fits =
     let y = lowest left in
@@ -129,6 +122,13 @@ served-not f v {left} u some fits =
     missed true true e = absurd (false-true e)
     missed true false e = refl
     missed false b e = absurd (false-true e)
+
+-- whether one is left then
+pub served-end : (f : Fleet) (v : ℕ) {left : ℕ} → Unserved f v left → left < 2 ^ 64 → eqb left 0 ≡ all_served v f
+served-end f v {left} u fits =
+    decided (eqb left 0)
+    (λ e. e ∙ served-all f v v u (omega arith) (eqb-true left 0 e))
+    (λ e. e ∙ served-not f v u (omega (arith, eqb-false left 0 e)) fits)
 
 -- what is asked of the rows for it
 pub serving : {sheet : List ℕ} {at : Layout} {routes sets figures : List (List ℕ)} → ReadyAll sheet at routes sets figures

@@ -41,16 +41,16 @@ idle-starts s =
     go true false r false u = refl
 
 pub idle-goes : (s : State) (i all : ℕ) (b : Bool) → eqb all 0 ≡ b && all_below i (entry_none s)
-    → eqb (bit_or (bit_or all (bit_or (get_or s.route i 0) (get_or s.levels i 0))) (get_or s.sets i 0)) 0 ≡ b && all_below (i + 1) (entry_none s)
+    → eqb (bit_or all (bit_or (bit_or (get_or s.route i 0) (get_or s.levels i 0)) (get_or s.sets i 0))) 0 ≡ b && all_below (i + 1) (entry_none s)
 unfolding all_below
 idle-goes s i all b e =
     let r = get_or s.route i 0 in
     let l = get_or s.levels i 0 in
     let w = get_or s.sets i 0 in
-    rw (or-none (bit_or all (bit_or r l)) w, or-none all (bit_or r l), or-none r l, e, add-one)
+    rw (or-none all (bit_or (bit_or r l) w), or-none (bit_or r l) w, or-none r l, e, add-one)
     (go b (all_below i (entry_none s)) (eqb r 0) (eqb l 0) (eqb w 0))
   where
-    go : (b a r l w : Bool) → ((b && a) && (r && l)) && w ≡ b && (a && (r && (w && l)))
+    go : (b a r l w : Bool) → (b && a) && ((r && l) && w) ≡ b && (a && (r && (w && l)))
     go false a r l w = refl
     go true false r l w = refl
     go true true false l w = refl

@@ -25,10 +25,8 @@ fn is_idle<'a>(
     ensures { result ≡ idle (state_with route.now sets.now levels.now f) }
 {
     let mut all = (f.stops | f.depth | f.records) as u64 | f.marks | f.must;
-    let mut i = 0;
-    while i < Node::MOST {
-        all = all | (route[i] | levels[i]) as u64 | sets[i];
-        i += 1;
+    for i in 0..Node::MOST {
+        all |= (route[i] | levels[i]) as u64 | sets[i];
     }
     all == 0
 }
@@ -45,11 +43,9 @@ fn others_idle<'a>(
     ensures { result ≡ others_idle v (fleet_with routes.now sets.now levels.now figures.now) }
 {
     let mut idle = true;
-    let mut j = v;
-    while j < Fleet::VANS {
+    for j in v..Fleet::VANS {
         let f = figures_in(&figures[j]);
-        idle = idle & is_idle(&routes[j], &sets[j], &levels[j], f);
-        j += 1;
+        idle &= is_idle(&routes[j], &sets[j], &levels[j], f);
     }
     idle
 }
@@ -120,8 +116,7 @@ fn vans_ok<'a>(
     let one = figures_in(&figures[0]);
     let depth = one.depth;
     let mut wards = Wards::none();
-    let mut j = 0;
-    while j < v {
+    for j in 0..v {
         let f = figures_in(&figures[j]);
         wards = join_van(
             wards,
@@ -134,7 +129,6 @@ fn vans_ok<'a>(
             j == 0,
             v == 1,
         );
-        j += 1;
     }
     wards.apart
 }
@@ -160,13 +154,5 @@ pub fn within_room(figures: &[[u64; Figures::COUNT]; Fleet::VANS], v: usize, roo
     ensures { (routes sets levels : List (List ℕ))
         → result ≡ all_below v (λ j. leb (state_in (fleet_with routes sets levels figures.now) j).records room) }
 {
-    let mut j = 0;
-    while j < v {
-        let f = figures_in(&figures[j]);
-        if room < f.records {
-            return false;
-        }
-        j += 1;
-    }
-    true
+    (0..v).all(|j| figures_in(&figures[j]).records <= room)
 }

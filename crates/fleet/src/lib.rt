@@ -56,12 +56,10 @@ impl Fleet {
         read_classes(sheet, at, &mut classes);
         let mut vans = [State::none(); Fleet::VANS];
         let v = at.vans;
-        let mut j = 0;
-        while j < v {
+        for j in 0..v {
             vans[j] = fresh_van(sheet, at, &classes, j);
-            j += 1;
         }
-        Fleet { vans: vans }
+        Fleet { vans }
     }
 }
 

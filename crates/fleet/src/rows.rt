@@ -8,23 +8,17 @@ use crate::Fleet;
 use board::{Figures, State};
 use rules::Node;
 
-fn narrow(w: u64) -> usize
-    ensures { result ≡ w }
-{
-    w as usize
-}
-
 // The numbers that a row has.
 pub fn figures_in(row: &[u64; Figures::COUNT]) -> Figures
     requires { length row.now ≡ 5 }
     ensures { result ≡ figures_in row.now }
 {
     Figures {
-        stops: narrow(row[0]),
+        stops: row[0] as usize,
         marks: row[1],
         must: row[2],
-        depth: narrow(row[3]),
-        records: narrow(row[4]),
+        depth: row[3] as usize,
+        records: row[4] as usize,
     }
 }
 
@@ -107,12 +101,10 @@ pub fn take_routes(fleet: Fleet, rows: &mut [[usize; Node::MOST]; Fleet::VANS])
     ensures { rows.new ≡ routes_in fleet }
 {
     let vans = fleet.vans;
-    let mut j = 0;
-    while j < Fleet::VANS {
+    for j in 0..Fleet::VANS {
         let s = vans[j];
         let one = s.route;
         rows[j] = one;
-        j += 1;
     }
 }
 
@@ -122,12 +114,10 @@ pub fn take_sets(fleet: Fleet, rows: &mut [[u64; Node::MOST]; Fleet::VANS])
     ensures { rows.new ≡ sets_in fleet }
 {
     let vans = fleet.vans;
-    let mut j = 0;
-    while j < Fleet::VANS {
+    for j in 0..Fleet::VANS {
         let s = vans[j];
         let one = s.sets;
         rows[j] = one;
-        j += 1;
     }
 }
 
@@ -137,12 +127,10 @@ pub fn take_levels(fleet: Fleet, rows: &mut [[usize; State::LEVELS]; Fleet::VANS
     ensures { rows.new ≡ levels_in fleet }
 {
     let vans = fleet.vans;
-    let mut j = 0;
-    while j < Fleet::VANS {
+    for j in 0..Fleet::VANS {
         let s = vans[j];
         let one = s.levels;
         rows[j] = one;
-        j += 1;
     }
 }
 
@@ -152,11 +140,9 @@ pub fn take_figures(fleet: Fleet, rows: &mut [[u64; Figures::COUNT]; Fleet::VANS
     ensures { rows.new ≡ figures_all fleet }
 {
     let vans = fleet.vans;
-    let mut j = 0;
-    while j < Fleet::VANS {
+    for j in 0..Fleet::VANS {
         let s = vans[j];
         put_figures(&mut rows[j], figures_of(s));
-        j += 1;
     }
 }
 
@@ -171,10 +157,8 @@ pub fn fleet_of<'a>(
     ensures { result ≡ fleet_with routes.now sets.now levels.now figures.now }
 {
     let mut vans = [State::none(); Fleet::VANS];
-    let mut j = 0;
-    while j < Fleet::VANS {
+    for j in 0..Fleet::VANS {
         vans[j] = pack(&routes[j], &sets[j], &levels[j], &figures[j]);
-        j += 1;
     }
-    Fleet { vans: vans }
+    Fleet { vans }
 }

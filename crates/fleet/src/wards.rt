@@ -12,6 +12,7 @@ ghost use Rattle.fleet.specs.Wards.{Nodes, HasWards, AddsVan};
 
 use crate::Fleet;
 use crate::rows::figures_in;
+use bits::Each;
 use board::Figures;
 use board::places::count;
 use board::route::word;
@@ -31,12 +32,10 @@ fn open_wards(sets: &[u64; Node::MOST], n: usize) -> u64
     ensures { (y : ℕ) → has result y ≡ ltb y n && not (eqb (get_or sets.now y 0) 0) }
 {
     let mut w: u64 = 0;
-    let mut y = 0;
-    while y < n {
+    for y in 0..n {
         if sets[y] != 0 {
             w = bits::put(w, y);
         }
-        y += 1;
     }
     w
 }
@@ -81,13 +80,10 @@ fn missed<'a>(
 {
     let off = bits::minus(members, word(route, stops));
     let mut kept = off;
-    let mut left = off;
-    while left != 0 {
-        let x = bits::lowest(left);
+    for x in Each::of(off) {
         if sets[x] != 0 {
             kept = bits::take(kept, x);
         }
-        left = bits::rest(left);
     }
     kept
 }
@@ -118,11 +114,9 @@ fn gather<'a>(
     ensures { (levels : List (List ℕ)) → HasWards n v (fleet_with routes.now sets.now levels figures.now) result }
 {
     let mut all = Wards::none();
-    let mut j = 0;
-    while j < v {
+    for j in 0..v {
         let f = figures_in(&figures[j]);
         all = with_van(all, &routes[j], &sets[j], f.stops, n);
-        j += 1;
     }
     all
 }
@@ -140,10 +134,10 @@ pub fn share_none<'a>(
     ensures { (levels : List (List ℕ)) → result ≡ shares_none n v (fleet_with routes.now sets.now levels figures.now) }
 {
     if v == 1 {
-        return true;
+        true
+    } else {
+        gather(routes, sets, figures, n, v).apart
     }
-    let w = gather(routes, sets, figures, n, v);
-    w.apart
 }
 
 // Whether every ward that must go somewhere is placed or open in some van. Van by van, those are left that no van so far has.
@@ -159,16 +153,14 @@ pub fn served<'a>(
 {
     let one = figures_in(&figures[0]);
     let mut left = one.must;
-    let mut j = 0;
-    while left != 0 {
-        if j == v {
-            return false;
+    for j in 0..v {
+        if left == 0 {
+            return true;
         }
         let f = figures_in(&figures[j]);
         left = missed(left, &routes[j], &sets[j], f.stops);
-        j += 1;
     }
-    true
+    left == 0
 }
 
 // The open places of v vans in all.
@@ -177,10 +169,8 @@ pub fn places(sets: &[[u64; Node::MOST]; Fleet::VANS], n: usize, v: usize) -> us
     ensures { result ≡ sum_below v (λ j. places_of (get_or sets.now j []) n) }
 {
     let mut all = 0;
-    let mut j = 0;
-    while j < v {
+    for j in 0..v {
         all += count(&sets[j], n);
-        j += 1;
     }
     all
 }

@@ -1,19 +1,18 @@
 -- A loop over the places of a word; and what window and metres leave of it, leg by leg.
 use mathlib.Core.Path.{◌≡◌, refl, sym, ap, ◌∙◌, subst}
-use mathlib.Core.Bool.{Bool, true, false, not, ◌&&◌}
+use mathlib.Core.Bool.{Bool, false}
 use mathlib.Core.List.{List}
 use mathlib.Core.Logic.{◌↔◌}
-use Prim.Native.Nat.{ℕ, max, ◌+◌, ◌^◌, ◌<◌}
+use Prim.Native.Nat.{ℕ, ◌+◌, ◌^◌, ◌<◌}
 use native.Mathlib.Numerals.{add-one}
 use native.Mathlib.Omega.{arith}
-use lib.Dec.{T, eqb, leb}
+use lib.Dec.{T, eqb}
 use lib.ListN.{get_or}
-use lib.IntN.{ℤ, pos, negsuc}
-use lib.Signed.{le_z}
-use borrow.Author.Tests.{not-true, not-false, eqb-true, eqb-false, leb-true, leb-false, le-leb, lt-leb}
+use lib.IntN.{ℤ}
+use borrow.Author.Tests.{eqb-true, eqb-false}
 use Rattle.laws.proofs.Logic.{decided, T→true, true→T}
 use Rattle.bits.specs.Places.{has, without, lowest}
-use Rattle.bits.proofs.Members.{has-none, without-same, without_other, without-part, members-once}
+use Rattle.bits.proofs.Members.{has-none, without-same, without_other, without-fits, without-part, members-once}
 use Rattle.bits.proofs.Masks.{lowest-has}
 use Rattle.rules.specs.Day.{Day}
 use Rattle.rules.specs.Along.{start_at}
@@ -32,15 +31,16 @@ sifted-once a b = members-once a.at b.at
 
 -- those that are left are not looked at yet
 pub record Sifting (f : ℕ → Bool) (w left r : ℕ) : Type 0 where
+  pub fits : left < 2 ^ 64
   pub part : (q : ℕ) → T (has left q) → T (has w q)
   pub at : (q : ℕ) → T (has r q) ↔ (T (has w q) × (has left q ≡ false → T (f q)))
 
-pub sift-all : (f : ℕ → Bool) (w : ℕ) → Sifting f w w w
-sift-all f w = record { part = λ q t. t; at = λ q. (λ t. (t, λ e. absurd (subst (λ (b : Bool). T b) e t)), λ t. t.0) }
+pub sift-all : (f : ℕ → Bool) (w : ℕ) → w < 2 ^ 64 → Sifting f w w w
+sift-all f w h = record { fits = h; part = λ q t. t; at = λ q. (λ t. (t, λ e. absurd (subst (λ (b : Bool). T b) e t)), λ t. t.0) }
 
 pub sift-next : {f : ℕ → Bool} {w left r : ℕ} (p : ℕ) {rest v : ℕ} → rest ≡ without left p → v ≡ struck r p (f p) → Sifting f w left r
     → Sifting f w rest v
-sift-next {f} {w} {left} {r} p o e a = rw (o, e) (record { part = λ q t. a.part q (was q t); at = λ q. (to q, from q) })
+sift-next {f} {w} {left} {r} p o e a = rw (o, e) (record { fits = without-fits left p a.fits; part = λ q t. a.part q (was q t); at = λ q. (to q, from q) })
   where
     was : (q : ℕ) → T (has (without left p) q) → T (has left q)
     was q t = true→T _ (without-part left p q (T→true _ t))
@@ -80,28 +80,7 @@ sifted-kept {l} {at} {legs} {f} s n a = record {
   );
 }
 
--- ---- two tests, the second made only where the first is passed
-
-pub first-fails : {r a : Bool} (b : Bool) → r ≡ a → not r ≡ true → false ≡ (a && b)
-first-fails {r} b e t = ap (λ (c : Bool). c && b) (sym (not-true r t) ∙ e)
-
-pub second-tells : {r q a b : Bool} → r ≡ a → not r ≡ false → q ≡ b → q ≡ (a && b)
-second-tells {r} {q} e t f = (λ u. (sym (not-false r t) ∙ e) u && f u)
-
--- the later of two is not after a moment: neither is
-pub both_later : (a b : ℕ) (z : ℤ) → le_z (pos a) z && le_z (pos b) z ≡ le_z (pos (max a b)) z
-both_later a b (pos k) = decided (leb a k)
-    (λ e. decided (leb b k)
-    (λ f. rw (e, f) (sym (le-leb (max a b) k (omega (arith, leb-true a k e, leb-true b k f)))))
-    (λ f. rw (e, f) (sym (lt-leb (max a b) k (omega (arith, leb-false b k f))))))
-    (λ e. rw e (sym (lt-leb (max a b) k (omega (arith, leb-false a k e)))))
-both_later a b (negsuc k) = refl
-
--- and so much after both
-pub later-on : (a b c d : ℕ) → max (a + (c + d)) (b + (c + d)) ≡ max a b + c + d
-later-on a b c d = omega arith
-
--- a walk from leg to leg: when the i-th is left, and the start at its other end
+-- ---- a walk from leg to leg: when the i-th is left, and the start at its other end
 pub left-told : (d : Day) (l : List ℕ) (i : ℕ) {p t b : ℕ} → p ≡ get_or l i 0 → t ≡ start_at d l i → b ≡ d.service p → t + b ≡ left_at d l i
 left-told d l i e f g = λ u. f u + (g ∙ ap d.service e) u
 
@@ -110,9 +89,8 @@ reach-turn d l i e f g = g ∙ (λ u. reached d (f u) (e u) (get_or l (i + 1) 0)
 
 -- the least that is left
 pub least-place : {k : ℕ} {l leave at : List ℕ} {t : Trial} {left r : ℕ} {f : ℕ → Bool} → PlacesAt k l leave at t → Sifting f t.places left r
-    → (left ≡ 0 → ⊥) → left < 2 ^ 64
-    → {p : ℕ} → p ≡ lowest left → PlaceAt k l leave p (get_or at p 0)
-least-place {left = left} a s n h {p} e = a.place p (s.part p (rw e (true→T _ (lowest-has left (omega arith) h))))
+    → 0 < left → {p : ℕ} → p ≡ lowest left → PlaceAt k l leave p (get_or at p 0)
+least-place {left = left} a s n {p} e = a.place p (s.part p (rw e (true→T _ (lowest-has left n s.fits))))
 
 -- the tables of a route are those of each word whose places are its legs, and what they leave of it stands
 module _ (d : Day) (l : List ℕ) {limit legs : ℕ} {leave most : List ℕ} (tables : Tables d limit l legs leave most) where

@@ -11,6 +11,7 @@ ghost use Rattle.walks.specs.Walks.{struck};
 ghost use Rattle.gaps.specs.Gaps.{in_window, fits_in, fits_place, Tables, gap_at, GapIn, Sifted, PlacesAt};
 
 use along::times::{in_time, last_moment, reach};
+use bits::Each;
 use day::look::{earliest, metres, seconds, service};
 use rules::Node;
 use sheet::Layout;
@@ -58,14 +59,13 @@ fn window(s: &[u8], at: Layout, x: usize, gap: Gap) -> bool
 }
 
 // Window, and metres: the route with x in the gap is not too long.
+#[tactic(auto, unfolding(crate::specs::Gaps::fits_in))]
 fn fits_in(s: &[u8], at: Layout, x: usize, gap: Gap) -> bool
     requires { Laid s.now at × (x < at.nodes) × GapIn at.nodes gap }
     ensures { result ≡ fits_in (day_of s.now) x gap }
 {
-    if !window(s, at, x, gap) {
-        return false;
-    }
-    gap.total + metres(s, at, gap.from, x) + metres(s, at, x, gap.to) <= gap.most
+    window(s, at, x, gap)
+        && gap.total + metres(s, at, gap.from, x) + metres(s, at, x, gap.to) <= gap.most
 }
 
 // The word without the place of x at the gap, where window or metres strike it.
@@ -73,11 +73,7 @@ fn tried(s: &[u8], at: Layout, word: u64, x: usize, gap: Gap) -> u64
     requires { Laid s.now at × (x < at.nodes) × GapIn at.nodes gap }
     ensures { result ≡ struck word gap.from (fits_in (day_of s.now) x gap) }
 {
-    if fits_in(s, at, x, gap) {
-        word
-    } else {
-        bits::take(word, gap.from)
-    }
+    walks::strike(word, gap.from, fits_in(s, at, x, gap))
 }
 
 // The gap behind p, in the leg i.
@@ -93,17 +89,13 @@ fn gap_at(
     requires { i < 63 }
     ensures { result ≡ gap_at route.now leave.now l.now most.now total p i }
 {
-    let to = route[i + 1];
-    let left = leave[i];
-    let last = l[i + 1];
-    let m = most[i];
     Gap {
         from: p,
-        to: to,
-        leave: left,
-        last: last,
-        most: m,
-        total: total,
+        to: route[i + 1],
+        leave: leave[i],
+        last: l[i + 1],
+        most: most[i],
+        total,
     }
 }
 
@@ -126,8 +118,7 @@ pub fn legs_of(
     let mut total = 0;
     let mut p = route[0];
     let mut t = earliest(s, at, p);
-    let mut i = 0;
-    while i < legs {
+    for i in 0..legs {
         let k = route[i + 1];
         let d = metres(s, at, p, k);
         let left = t + service(s, at, p);
@@ -136,7 +127,6 @@ pub fn legs_of(
         total += d;
         t = reach(s, at, left, p, k);
         p = k;
-        i += 1;
     }
     total
 }
@@ -157,13 +147,9 @@ pub fn stand(
         most.now trial) trial.places result }
 {
     let mut w = trial.places;
-    let mut left = trial.places;
-    while left != 0 {
-        let p = bits::lowest(left);
-        let i = spots[p];
-        let gap = gap_at(p, i, trial.total, route, leave, l, most);
+    for p in Each::of(trial.places) {
+        let gap = gap_at(p, spots[p], trial.total, route, leave, l, most);
         w = tried(s, at, w, trial.node, gap);
-        left = bits::rest(left);
     }
     w
 }

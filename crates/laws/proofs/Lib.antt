@@ -15,3 +15,4 @@ pub mod Sum
 pub mod Peak
 pub mod Or
 pub mod Parts
+pub mod Ranges

@@ -20,12 +20,9 @@ fn put_text(out: &mut [u8], at: usize, text: &[u8]) -> usize
     requires { at + length text.now ≤ length out.old }
     ensures { Put out.old at text.now result out.new }
 {
-    let mut i = 0;
-    while i < text.len() {
-        out[at + i] = text[i];
-        i += 1;
-    }
-    at + i
+    let end = at + text.len();
+    out[at..end].copy_from_slice(text);
+    end
 }
 
 fn put_byte(out: &mut [u8], at: usize, b: u8) -> usize
@@ -51,9 +48,10 @@ fn put_short(out: &mut [u8], at: usize, v: u64) -> usize
     ensures { Put out.old at (decimal v) result out.new }
 {
     if v < 10 {
-        return put_byte(out, at, 48 + v as u8);
+        put_byte(out, at, 48 + v as u8)
+    } else {
+        put_pair(out, at, v)
     }
-    put_pair(out, at, v)
 }
 
 // Any number in decimal: the digits of its hundredth first.
@@ -148,10 +146,8 @@ fn put_stops(out: &mut [u8], at: usize, route: &[usize; Node::MOST], stops: usiz
     ensures { Put out.old at (stops_text (take stops route.now)) result out.new }
 {
     let mut next = at;
-    let mut i = 0;
-    while i < stops {
+    for i in 0..stops {
         next = put_stop(out, next, route[i] as u64);
-        i += 1;
     }
     next
 }

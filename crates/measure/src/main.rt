@@ -1,7 +1,7 @@
 // The program `measure`: one of the planner's calls, many times over. What to send it stands at the head of bench/plain.c.
 #![tactic(auto)]
 
-ghost use Rattle.std.specs.Prelude.{◌≡◌, ◌<◌, ◌≤◌, length};
+ghost use Rattle.std.specs.Prelude.{◌<◌, ◌≤◌, length};
 
 use board::State;
 use board::places::count;
@@ -11,33 +11,20 @@ use intake::read_full;
 use listing::put_number;
 use rules::{Node, Step};
 use std::io;
-use std::num::{wrapping_add_u32, wrapping_add_u64};
-
-fn wide(b: u8) -> u32 {
-    b as u32
-}
-
-fn long(w: u32) -> u64 {
-    w as u64
-}
 
 // The number of a text's bytes and their sum; the text is the first bytes of the buffer.
 fn weigh(out: &[u8], used: usize) -> u64
     requires { used ≤ length out.now }
 {
-    let mut sum: u32 = 0;
-    let mut i = 0;
-    while i < used {
-        sum = wrapping_add_u32(sum, wide(out[i]));
-        i += 1;
+    let mut sum = 0u32;
+    for b in &out[..used] {
+        sum = sum.wrapping_add(u32::from(*b));
     }
-    wrapping_add_u64(used as u64, long(sum))
+    (used as u64).wrapping_add(u64::from(sum))
 }
 
 // Operation 7: the listing, weighed.
-fn listing_of(sheet: &[u8], trail: &mut [u64], out: &mut [u8]) -> u64
-    requires { length out.old ≡ 410800 }
-{
+fn listing_of(sheet: &[u8], trail: &mut [u64], out: &mut [u8; TEXT]) -> u64 {
     let used = dock::lines::list(sheet, trail, out);
     weigh(out, used)
 }
@@ -50,59 +37,51 @@ struct Task {
     second: usize,
 }
 
-// One step: the sum of what it gives, of the fleet the stops and records of every state. Each stands at a place that the compiler knows, so that no
-// state is copied for the sum.
+// One step: the sum of what it gives, of the fleet the stops and records of every state.
 fn one_step(sheet: &[u8], fleet: Fleet, trail: &mut [u64], task: Task) -> u64 {
     let s = planner::step(sheet, fleet, trail, task.word, task.first, task.second);
-    let vans = s.fleet.vans;
-    let mut sum = wrapping_add_u64(s.answer as u64, s.rounds as u64);
-    let mut j = 0;
-    while j < Fleet::VANS {
-        let one = vans[j];
-        sum = wrapping_add_u64(sum, wrapping_add_u64(one.stops as u64, one.records as u64));
-        j += 1;
+    let mut sum = (s.answer as u64).wrapping_add(s.rounds as u64);
+    for one in &s.fleet.vans {
+        sum = sum.wrapping_add((one.stops as u64).wrapping_add(one.records as u64));
     }
     sum
-}
-
-fn one_if(b: bool) -> u64 {
-    if b { 1 } else { 0 }
 }
 
 // Operation 1: the answer, and the stops of all states.
 fn one_opening(sheet: &[u8]) -> u64 {
     let o = planner::open(sheet);
-    let vans = o.fleet.vans;
     let mut sum = o.answer as u64;
-    let mut j = 0;
-    while j < Fleet::VANS {
-        let one = vans[j];
-        sum = wrapping_add_u64(sum, one.stops as u64);
-        j += 1;
+    for one in &o.fleet.vans {
+        sum = sum.wrapping_add(one.stops as u64);
     }
     sum
 }
 
+// Operation 6: the answer, and 1 for alive.
+fn one_verdict(sheet: &[u8], fleet: Fleet) -> u64 {
+    let j = planner::verdict(sheet, fleet);
+    (j.answer as u64).wrapping_add(u64::from(j.alive))
+}
+
+// Operation 8: the answer, and the open places.
+fn one_count(sheet: &[u8], fleet: Fleet) -> u64 {
+    let p = planner::open_places(sheet, fleet);
+    (p.answer as u64).wrapping_add(p.places as u64)
+}
+
 // The stop before the end of a van's route: its last ward, or the start.
-fn last_stop(one: State) -> usize {
-    let stops = one.stops;
-    if stops < 2 {
-        return 0;
+fn last_stop(one: &State) -> usize {
+    match one.stops {
+        2..=Node::MOST => one.route[one.stops - 2],
+        _ => 0,
     }
-    if Node::MOST < stops {
-        return 0;
-    }
-    one.route[stops - 2]
 }
 
 // The van whose turn ward x is, of v vans, and at most the last there can be.
 fn turn_of(x: usize, v: usize) -> usize
     ensures { result < 8 }
 {
-    if x < 1 {
-        return 0;
-    }
-    if v < 1 {
+    if x < 1 || v < 1 {
         return 0;
     }
     let j = (x - 1) % v;
@@ -112,9 +91,11 @@ fn turn_of(x: usize, v: usize) -> usize
 // Placing ward x, which the vans get by turns, after the last ward of its van. There is no ward 0, so that is refused.
 fn ward_task(fleet: Fleet, v: usize, x: usize) -> Task {
     let j = turn_of(x, v);
-    let vans = fleet.vans;
-    let one = vans[j];
-    let last = if x == 0 { usize::MAX } else { last_stop(one) };
+    let last = if x == 0 {
+        usize::MAX
+    } else {
+        last_stop(&fleet.vans[j])
+    };
     Task {
         word: Step::VAN * j + Step::PLACE,
         first: last,
@@ -125,12 +106,9 @@ fn ward_task(fleet: Fleet, v: usize, x: usize) -> Task {
 // The fleet with the wards from 1 on below `end`, each in its turn.
 fn build(sheet: &[u8], fresh: Fleet, v: usize, trail: &mut [u64], end: usize) -> Fleet {
     let mut fleet = fresh;
-    let mut x = 1;
-    while x < end {
+    for x in 1..end {
         let task = ward_task(fleet, v, x);
-        let s = planner::step(sheet, fleet, trail, task.word, task.first, task.second);
-        fleet = s.fleet;
-        x += 1;
+        fleet = planner::step(sheet, fleet, trail, task.word, task.first, task.second).fleet;
     }
     fleet
 }
@@ -164,71 +142,15 @@ fn diagonal(sheet: &[u8]) -> usize
     4 * at.seconds
 }
 
-// The sum over all times, of operation 1.
-fn repeat_opening(count: usize, sheet: &mut [u8]) -> u64 {
-    let spot = diagonal(sheet);
-    let mut sum: u64 = 0;
-    let mut i = 0;
-    while i < count {
-        mark(sheet, spot, i % 1000);
-        sum = wrapping_add_u64(sum, one_opening(sheet));
-        i += 1;
-    }
-    sum
-}
-
-// The same of operation 6.
-fn repeat_verdict(count: usize, sheet: &mut [u8], fleet: Fleet) -> u64 {
-    let spot = diagonal(sheet);
-    let mut sum: u64 = 0;
-    let mut i = 0;
-    while i < count {
-        mark(sheet, spot, i % 1000);
-        let j = planner::verdict(sheet, fleet);
-        sum = wrapping_add_u64(sum, wrapping_add_u64(j.answer as u64, one_if(j.alive)));
-        i += 1;
-    }
-    sum
-}
-
-// The same of operation 8.
-fn repeat_places(count: usize, sheet: &mut [u8], fleet: Fleet) -> u64 {
-    let spot = diagonal(sheet);
-    let mut sum: u64 = 0;
-    let mut i = 0;
-    while i < count {
-        mark(sheet, spot, i % 1000);
-        let p = planner::open_places(sheet, fleet);
-        sum = wrapping_add_u64(sum, wrapping_add_u64(p.answer as u64, p.places as u64));
-        i += 1;
-    }
-    sum
-}
-
-// The same of the others, which are steps.
-fn repeat_step(count: usize, sheet: &mut [u8], fleet: Fleet, trail: &mut [u64], task: Task) -> u64 {
-    let spot = diagonal(sheet);
-    let mut sum: u64 = 0;
-    let mut i = 0;
-    while i < count {
-        mark(sheet, spot, i % 1000);
-        sum = wrapping_add_u64(sum, one_step(sheet, fleet, trail, task));
-        i += 1;
-    }
-    sum
-}
-
-// The same of operation 7.
-fn repeat_listing(count: usize, sheet: &mut [u8], trail: &mut [u64], out: &mut [u8]) -> u64
-    requires { length out.old ≡ 410800 }
+// The sum of one operation over all times, each on a sheet with another number in its mark.
+fn repeat<F: FnMut(&[u8]) -> u64>(count: usize, sheet: &mut [u8], mut one: F) -> u64
+    requires { F.IsAlwaysCallable one }
 {
     let spot = diagonal(sheet);
-    let mut sum: u64 = 0;
-    let mut i = 0;
-    while i < count {
+    let mut sum = 0u64;
+    for i in 0..count {
         mark(sheet, spot, i % 1000);
-        sum = wrapping_add_u64(sum, listing_of(sheet, trail, out));
-        i += 1;
+        sum = sum.wrapping_add(one(sheet));
     }
     sum
 }
@@ -323,7 +245,10 @@ fn measure(rt: &impl Print, operation: usize, count: usize, sheet: &mut [u8]) ->
         return rt.write_all(b"cannot\n");
     }
     if operation == 7 {
-        return tell(rt, repeat_listing(count, sheet, &mut trail, &mut out));
+        return tell(
+            rt,
+            repeat(count, sheet, |s| listing_of(s, &mut trail, &mut out)),
+        );
     }
     let found = day::checked(sheet);
     let at = found.layout;
@@ -367,16 +292,13 @@ fn repeat_on(
     let lent: &mut [u64] = &mut trail[..words];
     let fleet = start(operation, sheet, fresh, v, lent, n);
     let task = task_of(operation, fleet, v, n);
-    if operation == 1 {
-        return tell(rt, repeat_opening(count, sheet));
-    }
-    if operation == 6 {
-        return tell(rt, repeat_verdict(count, sheet, fleet));
-    }
-    if operation == 8 {
-        return tell(rt, repeat_places(count, sheet, fleet));
-    }
-    tell(rt, repeat_step(count, sheet, fleet, lent, task))
+    let sum = match operation {
+        1 => repeat(count, sheet, |s| one_opening(s)),
+        6 => repeat(count, sheet, |s| one_verdict(s, fleet)),
+        8 => repeat(count, sheet, |s| one_count(s, fleet)),
+        _ => repeat(count, sheet, |s| one_step(s, fleet, lent, task)),
+    };
+    tell(rt, sum)
 }
 
 fn main(rt: HostRuntime) -> io::Result<()> {

@@ -1,12 +1,11 @@
 -- A fleet taken into rows, and what the rows of a fleet in form are known by.
-use Prim.Native.Nat.{ℕ, ◌≤◌, ◌<◌}
+use Prim.Native.Nat.{ℕ, ◌<◌}
 use mathlib.Core.Path.{◌≡◌, sym, ap, subst, ◌∙◌}
-use mathlib.Core.Bool.{Bool, true, ◌&&◌}
+use mathlib.Core.Bool.{true, ◌&&◌}
 use mathlib.Core.List.{List, []}
-use lib.ListN.{length, get_or, replicate, length-replicate, get_or-replicate}
+use lib.ListN.{get_or}
 use native.Mathlib.Omega.{arith}
 use Rattle.laws.specs.Basic.{all_below, sum_below}
-use Rattle.laws.proofs.Below.{below-same}
 use Rattle.laws.proofs.Sum.{sum_same}
 use Rattle.rules.specs.Numbers.{most_vans}
 use Rattle.rules.specs.Fleet.{alive_all}
@@ -23,7 +22,7 @@ use Rattle.board.proofs.EndLaws.{sets_end, places-end}
 use Rattle.van.specs.Act.{plan_in}
 use Rattle.fleet.specs.Fleet.{state_in, board_in, HeldAll}
 use Rattle.fleet.specs.Form.{in_form_all}
-use Rattle.fleet.specs.Rows.{row_state, fleet_with, routes_in, sets_in, levels_in, figures_all, ReadyAll, RowsOf, Rows, Figured}
+use Rattle.fleet.specs.Rows.{row_state, fleet_with, routes_in, sets_in, levels_in, figures_all, ReadyAll, Rows, Figured}
 use Rattle.fleet.specs.Sums.{places_all, all_served, plans_in}
 use Rattle.fleet.specs.declared.Fleet.{Fleet}
 use Rattle.fleet.proofs.FleetLaws.{state-of}
@@ -31,13 +30,6 @@ use Rattle.fleet.proofs.RowLaws.{fleet-rows, rows-wide}
 use Rattle.fleet.proofs.FormLaws.{in-form-all}
 use Rattle.fleet.proofs.PlanLaws.{van-sound, alive-all}
 use Rattle.planner.specs.Asked.{lives}
-
--- rows of zeros
-pub zero-rows : (w : ℕ) → RowsOf w (replicate most_vans (replicate w 0))
-zero-rows w = record {
-  eight = length-replicate {A = List ℕ} most_vans (replicate w 0);
-  wide = λ k h. ap length (get_or-replicate most_vans k (replicate w 0) [] h) ∙ length-replicate {A = ℕ} w 0;
-}
 
 -- the rows have the fleet that a call was handed
 pub record Taken (f : Fleet) (routes sets levels figures : List (List ℕ)) : Type 0 where
@@ -87,12 +79,8 @@ module _ {sheet : List ℕ} {at : Layout} (z : call_refusal sheet ≡ 0) (l : La
   pub lives_all : all_below (vans_of sheet) (lives sheet f) && all_served (vans_of sheet) f ≡ alive_all (van_of sheet) (day_of sheet) (plans_in (vans_of sheet) f)
   lives_all = sym (alive-all (day_of sheet) (vans_of sheet) f l.fine.vans-low state-sound (λ j h. (state-held j h).words) (van_of sheet))
 
--- ---- the vans alive, row by row
-
-abbrev pub row_lives : List ℕ → List (List ℕ) → List (List ℕ) → List (List ℕ) → ℕ → Bool
-row_lives sheet routes sets figures j = alive (van_of sheet j) (day_of sheet) (plan_in (row_state routes sets [] figures j))
-
-pub rows-live : (sheet : List ℕ) (routes sets levels figures : List (List ℕ)) (v : ℕ) → v ≤ most_vans
-    → all_below v (row_lives sheet routes sets figures) ≡ all_below v (lives sheet (fleet_with routes sets levels figures))
-rows-live sheet routes sets levels figures v h =
-    below-same v _ _ (λ j l. ap (λ (s : State). alive (van_of sheet j) (day_of sheet) (plan_in s)) (sym (state-of (row_state routes sets levels figures) j (omega (arith, h, l)))))
+-- van j of the rows is alive if van j of the fleet is
+pub row-lives : (sheet : List ℕ) (routes sets levels figures : List (List ℕ)) (j : ℕ) → j < most_vans
+    → alive (van_of sheet j) (day_of sheet) (plan_in (row_state routes sets levels figures j)) ≡ lives sheet (fleet_with routes sets levels figures) j
+row-lives sheet routes sets levels figures j h =
+    ap (λ (s : State). alive (van_of sheet j) (day_of sheet) (plan_in s)) (sym (state-of (row_state routes sets levels figures) j h))

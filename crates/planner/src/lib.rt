@@ -1,7 +1,7 @@
 // The planner's five entry points. Each is total: any bytes, any fleet, any trail, any numbers.
 #![tactic(auto)]
 
-ghost use Rattle.std.specs.Prelude.{◌≡◌, List, ℕ};
+ghost use Rattle.std.specs.Prelude.{◌≡◌, ◌<◌, List, ℕ};
 ghost use Rattle.laws.specs.Basic.{all_below};
 ghost use Rattle.sheet.specs.Section.{vans_of};
 ghost use Rattle.sheet.specs.Place.{found};
@@ -186,10 +186,7 @@ fn turn(
 fn refused(answer: usize) -> Outcomes
     ensures { result ≡ record { answer = answer; rounds = 0 } }
 {
-    Outcomes {
-        answer: answer,
-        rounds: 0,
-    }
+    Outcomes { answer, rounds: 0 }
 }
 
 // One step: the outcome, and the trail. The fleet is taken into rows and changed there; of a fleet of one van the van alone is put back.
@@ -266,13 +263,29 @@ pub fn open_places(sheet: &[u8], fleet: Fleet) -> Counted
 fn uncounted(answer: usize) -> Counted
     ensures { result ≡ record { answer = answer; places = 0 } }
 {
-    Counted {
-        answer: answer,
-        places: 0,
-    }
+    Counted { answer, places: 0 }
 }
 
-// Whether every van is alive; `jobs` has the jobs of the sheet by node.
+// Whether van j is alive; `jobs` has the jobs of the sheet by node.
+fn alive_at<'a>(
+    sheet: &[u8],
+    at: Layout,
+    jobs: &[u32; Jobs::ROOM],
+    routes: &'a [[usize; Node::MOST]; Fleet::VANS],
+    sets: &'a [[u64; Node::MOST]; Fleet::VANS],
+    figures: &'a [[u64; Figures::COUNT]; Fleet::VANS],
+    j: usize,
+) -> bool
+    requires { ReadyAll sheet.now at routes.now sets.now figures.now × ByNode (job_in sheet.now) at.jobs jobs.now × (j < at.vans) }
+    ensures { (levels : List (List ℕ)) → result
+        ≡ lives sheet.now (fleet_with routes.now sets.now levels figures.now) j }
+{
+    let van = day::look::van(sheet, at, j);
+    let f = figures_in(&figures[j]);
+    van::alive(sheet, at, jobs, van, &routes[j], &sets[j], f)
+}
+
+// Whether every van is.
 fn all_alive<'a>(
     sheet: &[u8],
     at: Layout,
@@ -285,17 +298,7 @@ fn all_alive<'a>(
     ensures { (levels : List (List ℕ)) → result ≡ all_below (vans_of sheet.now)
         (lives sheet.now (fleet_with routes.now sets.now levels figures.now)) }
 {
-    let v = at.vans;
-    let mut j = 0;
-    while j < v {
-        let f = figures_in(&figures[j]);
-        let van = day::look::van(sheet, at, j);
-        if !van::alive(sheet, at, jobs, van, &routes[j], &sets[j], f) {
-            return false;
-        }
-        j += 1;
-    }
-    true
+    (0..at.vans).all(|j| alive_at(sheet, at, jobs, routes, sets, figures, j))
 }
 
 // The verdict of a fleet.
@@ -327,8 +330,5 @@ pub fn verdict(sheet: &[u8], fleet: Fleet) -> Judged
 fn judge(answer: usize, alive: bool) -> Judged
     ensures { result ≡ record { answer = answer; alive = alive } }
 {
-    Judged {
-        answer: answer,
-        alive: alive,
-    }
+    Judged { answer, alive }
 }

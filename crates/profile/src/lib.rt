@@ -1,7 +1,7 @@
 // Clean before soiled (02, No. 11): which legs of a route are shut to a clean node, and which to a soiled one.
 #![tactic(auto)]
 
-ghost use Rattle.std.specs.Prelude.{◌≡◌, cond, not, ◌&&◌, ℕ, ◌<◌, ◌≤◌, get_or, length};
+ghost use Rattle.std.specs.Prelude.{◌≡◌, not, ◌&&◌, ℕ, ◌<◌, ◌≤◌, get_or, length};
 ghost use Rattle.bits.specs.Places.{has};
 ghost use Rattle.profile.specs.Shut.{Shuts, shut_to};
 
@@ -17,13 +17,6 @@ pub struct Shut {
     pub early: u64,
 }
 
-// One of two words, by a test.
-fn either(yes: bool, a: u64, b: u64) -> u64
-    ensures { result ≡ cond yes a b }
-{
-    if yes { a } else { b }
-}
-
 // One look along the route: from its first soiled stop on the legs are too late for a clean node, and up to its last clean stop they are too early for
 // a soiled one.
 pub fn shut_legs(route: &[usize; Node::MOST], legs: usize, clean: u64, soiled: u64) -> Shut
@@ -34,21 +27,22 @@ pub fn shut_legs(route: &[usize; Node::MOST], legs: usize, clean: u64, soiled: u
     let mut late: u64 = 0;
     let mut early: u64 = 0;
     let mut met = false;
-    let mut i = 0;
-    while i < legs {
+    for i in 0..legs {
         let p = route[i];
-        met = met | bits::holds(soiled, p);
-        late = either(met, bits::put(late, p), late);
+        met |= bits::holds(soiled, p);
+        if met {
+            late = bits::put(late, p);
+        }
         passed = bits::put(passed, p);
-        i += 1;
-        let clean_stop = bits::holds(clean, route[i]);
-        early = either(clean_stop, passed, early);
+        if bits::holds(clean, route[i + 1]) {
+            early = passed;
+        }
     }
     Shut {
-        clean: clean,
-        late: late,
-        soiled: soiled,
-        early: early,
+        clean,
+        late,
+        soiled,
+        early,
     }
 }
 
@@ -57,7 +51,15 @@ pub fn cut(word: u64, x: usize, shut: Shut) -> u64
     requires { x < 64 }
     ensures { (q : ℕ) → has result q ≡ (has word q && not (shut_to shut x q)) }
 {
-    let late = either(bits::holds(shut.clean, x), shut.late, 0);
-    let early = either(bits::holds(shut.soiled, x), shut.early, 0);
+    let late = if bits::holds(shut.clean, x) {
+        shut.late
+    } else {
+        0
+    };
+    let early = if bits::holds(shut.soiled, x) {
+        shut.early
+    } else {
+        0
+    };
     bits::minus(word, bits::join(late, early))
 }

@@ -1,6 +1,5 @@
 -- What was pushed is read back; the loops that count and write a settling's records.
 use mathlib.Core.Path.{◌≡◌, refl, ap, sym, ◌∙◌}
-use mathlib.Core.Bool.{cond}
 use mathlib.Core.List.{List}
 use Prim.Native.Nat.{ℕ, zero, suc, ◌+◌, ◌-◌, ◌*◌, ◌/◌, ◌≤◌, ◌<◌}
 use native.Mathlib.Numerals.{add-one}
@@ -53,10 +52,6 @@ pushed-other t i a w k d e = get_or-set_other (set t (2 * i) a) (2 * i + 1) k w 
 pub shrunk-none : (old new : List ℕ) → 0 ≡ shrunk old new 0
 unfolding shrunk
 shrunk-none old new = refl
-
-pub shrunk-next : (old new : List ℕ) (k : ℕ) {i r : ℕ} → i ≡ shrunk old new k → r ≡ i + cond (eqb (get_or old k 0) (get_or new k 0)) 0 1 → r ≡ shrunk old new (k + 1)
-unfolding shrunk
-shrunk-next old new k e f = rw (add-one k) (f ∙ ap (λ (i : ℕ). i + cond (eqb (get_or old k 0) (get_or new k 0)) 0 1) e)
 
 shrunk-more : (old new : List ℕ) (j k : ℕ) → shrunk old new k ≤ shrunk old new (j + k)
 unfolding shrunk

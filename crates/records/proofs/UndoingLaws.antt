@@ -153,39 +153,6 @@ module _ (stops : ℕ) (route next last : List ℕ) (h : Beside stops route next
       behind = back;
     }
 
--- a route of one stop has no neighbours; one stop more has its last two as well
-pub beside-one : (route next last : List ℕ) → length next ≡ 64 → length last ≡ 64 → Beside 1 route next last
-beside-one route next last f g = record { long = (f, g); ahead = λ i l. absurd (omega arith); behind = λ i l. absurd (omega arith) }
-
-pub beside-more : (n : ℕ) (b : Board) (next last : List ℕ) (i : ℕ) → Sound n b → 1 ≤ i → i < b.stops → Beside i b.route next last
-    → Beside (i + 1) b.route (set next (get_or b.route (i - 1) 0) (get_or b.route i 0)) (set last (get_or b.route i 0) (get_or b.route (i - 1) 0))
-beside-more n b next last i s f l h =
-    record {
-      long = (length-set next p k ∙ h.long.0, length-set last k p ∙ h.long.1);
-      ahead = λ m g. decided (eqb (m + 1) i)
-          (λ e. let q = eqb-true (m + 1) i e in
-          ap (λ (t : ℕ). get_or (set next p k) t 0) (same m (i - 1) (omega (arith, q))) ∙ get_or-set_same next p k 0 (omega (arith, h.long.0, low (i - 1) (omega arith))) ∙ same i (m + 1) (sym q))
-          (λ e. let q : m + 1 ≡ i → ⊥ = eqb-false (m + 1) i e in
-          get_or-set_other next p (get_or b.route m 0) k 0 (λ z. s.form.route.once (i - 1) m (omega arith) (omega arith) z) ∙ h.ahead m (omega arith));
-      behind = λ m g. decided (eqb (m + 1) i)
-          (λ e. let q = eqb-true (m + 1) i e in
-          ap (λ (t : ℕ). get_or (set last k p) t 0) (same (m + 1) i q) ∙ get_or-set_same last k p 0 (omega (arith, h.long.1, low i l)) ∙ same (i - 1) m (omega (arith, q)))
-          (λ e. let q : m + 1 ≡ i → ⊥ = eqb-false (m + 1) i e in
-          get_or-set_other last k (get_or b.route (m + 1) 0) p 0 (λ z. s.form.route.once i (m + 1) l (omega arith) z) ∙ h.behind m (omega arith));
-    }
-  where
-    p : ℕ
-    p = get_or b.route (i - 1) 0
-
-    k : ℕ
-    k = get_or b.route i 0
-
-    same : (i j : ℕ) → i ≡ j → get_or b.route i 0 ≡ get_or b.route j 0
-    same i j e = ap (λ (t : ℕ). get_or b.route t 0) e
-
-    low : (j : ℕ) → j < b.stops → get_or b.route j 0 < 64
-    low j g = omega (arith, s.small, s.form.route.below j g)
-
 -- what undoing answers, by its parts
 abbrev pub told : Bool → ℕ → ℕ → ℕ → ℕ → code.Undone
 told fits stops marks must legs = record { fits = fits; stops = stops; marks = marks; must = must; legs = legs }
@@ -193,18 +160,18 @@ told fits stops marks must legs = record { fits = fits; stops = stops; marks = m
 -- ---- the beginning: nothing is gone
 
 pub undoing-none : (n : ℕ) (b : Board) (u : code.Undone) (next last : List ℕ) → Sound n b → Beside b.stops b.route next last
-    → b.stops ≡ u.stops → b.marks ≡ u.marks → b.must ≡ u.must → legs_of b ≡ u.legs → Undoing n b u next last b.sets
-unfolding set_of
+    → b.stops ≡ u.stops → b.marks ≡ u.marks → b.must ≡ u.must → u.legs ≡ word_of (b.stops - 1) b.route → Undoing n b u next last b.sets
+unfolding set_of legs_of
 undoing-none n b u next last s h e m g l = record {
   sound = s;
   stops = e;
   marks = m;
   must = g;
-  legs = l;
+  legs = sym l;
   beside = h;
   long = s.wide.sets;
   past = sets_end n b s;
-  held = λ y k f. rw (← l) (sym (cut-within (legs_of b) (get_or b.sets y 0) (legs-fit b) f (set-within n b s.small s.wide s.form y k)));
+  held = λ y k f. rw l (sym (cut-within (legs_of b) (get_or b.sets y 0) (legs-fit b) f (set-within n b s.small s.wide s.form y k)));
 }
 
 -- ---- a record of each kind
@@ -216,9 +183,6 @@ unplaced-stops b x w = refl
 module _ (n : ℕ) (b : Board) (u : code.Undone) (next last sets : List ℕ) (h : Undoing n b u next last sets) where
   legs-low : u.legs < 2 ^ 64
   legs-low = subst (λ (w : ℕ). w < 2 ^ 64) h.legs (legs-fit b)
-
-  pub undoing-misfit : Undoing n b (told false u.stops u.marks u.must u.legs) next last sets
-  undoing-misfit = record { sound = h.sound; stops = h.stops; marks = h.marks; must = h.must; legs = h.legs; beside = h.beside; long = h.long; past = h.past; held = h.held }
 
   -- an array of sets with one put for an inner node
   put-past : (x w : ℕ) → is_inner n x ≡ true → (y : ℕ) → n ≤ y → get_or (set sets x w) y 0 ≡ 0
@@ -271,10 +235,10 @@ module _ (n : ℕ) (b : Board) (u : code.Undone) (next last sets : List ℕ) (h 
     stop-low : (k : ℕ) → k < b.stops → get_or b.route k 0 < 64
     stop-low k l = omega (arith, h.sound.small, h.sound.form.route.below k l)
 
-    pub last-low : get_or last x 0 < 64
+    last-low : get_or last x 0 < 64
     last-low = rw last-stop (stop-low (was - 1) (omega (arith, inside.1)))
 
-    pub next_low : get_or next x 0 < 64
+    next_low : get_or next x 0 < 64
     next_low = rw next-stop (stop-low (was + 1) inside.1)
 
     left-beside : (j at p k : ℕ) → j + 2 < b.stops → at ≡ j + 1 → p ≡ get_or b.route j 0 → k ≡ get_or b.route (j + 2) 0
@@ -347,26 +311,34 @@ module _ (n : ℕ) (b : Board) (u : code.Undone) (next last sets : List ℕ) (h 
 
   -- ---- the tests as the code makes them
 
-  pub test-shrunk : (x w : ℕ) → is_inner n x ≡ true → get_or sets x 0 < 2 ^ 64
-      → fits_shrunk n b x w ≡ not (has u.legs x) && (strictly (cut u.legs (get_or sets x 0)) w && within w u.legs)
-  test-shrunk x w i f = shrunk-test n b x w h.sound i ∙ rw (h.held x (inner-low x i) f, h.legs) refl
+  pub test-shrunk : (x w : ℕ) {v : ℕ} {leg larger : Bool} → is_inner n x ≡ true → (v ≡ cut u.legs (get_or sets x 0)) × (get_or sets x 0 < 2 ^ 64)
+      → leg ≡ has u.legs x → larger ≡ strictly v w && within w u.legs → fits_shrunk n b x w ≡ not leg && larger
+  test-shrunk x w i f p q = shrunk-test n b x w h.sound i ∙ rw (q, p, f.0, h.held x (inner-low x i) f.1, h.legs) refl
 
-  pub test_on : (x : ℕ) → is_inner n x ≡ true → on_route b x ≡ has u.legs x
+  test_on : (x : ℕ) → is_inner n x ≡ true → on_route b x ≡ has u.legs x
   test_on x i = sym (on-leg n b h.sound.small h.sound.wide h.sound.form x i) ∙ ap (λ (v : ℕ). has v x) h.legs
 
-  pub test-off : (x w : ℕ) → is_inner n x && has u.legs x ≡ false → fits_placed n b x w ≡ false
-  unfolding fits_placed
-  test-off x w e =
-      decided (is_inner n x)
-      (λ i. let o : has u.legs x ≡ false = rw i at e in rw (i, test_on x i, o))
-      (λ i. rw i)
+  module _ (x w : ℕ) {node leg : Bool} (p : node ≡ is_inner n x) (q : leg ≡ has u.legs x) where
+    pub test-off : node && leg ≡ false → fits_placed n b x w ≡ false
+    unfolding fits_placed
+    test-off e =
+        decided (is_inner n x)
+        (λ i. let o : has u.legs x ≡ false = rw (p ∙ i, q) at e in rw (i, test_on x i, o))
+        (λ i. rw i)
 
-  pub test-placed : (x w : ℕ) → is_inner n x && has u.legs x ≡ true → fits_placed n b x w ≡ within w (without u.legs x) && has w (get_or last x 0)
-  unfolding stop_before
-  test-placed x w e =
-      let a = and-true (is_inner n x) (has u.legs x) e in
-      let o = test_on x a.0 ∙ a.1 in
-      placed-test n b x w a.0 o ∙ rw (last-stop x a.0 o, h.legs) refl
+    on-both : node && leg ≡ true → (is_inner n x ≡ true) × (on_route b x ≡ true)
+    on-both e =
+        let a = and-true node leg e in
+        let i = sym p ∙ a.0 in
+        (i, test_on x i ∙ sym q ∙ a.1)
+
+    -- what taking x from between its neighbours reads and writes is there
+    pub placed-low : node && leg ≡ true → (x < 64) × (get_or last x 0 < 64) × (get_or next x 0 < 64)
+    placed-low e = let o = on-both e in (inner-low x o.0, last-low x o.0 o.1, next_low x o.0 o.1)
+
+    pub test-placed : node && leg ≡ true → {rest : Bool} → rest ≡ within w (without u.legs x) && has w (get_or last x 0) → fits_placed n b x w ≡ rest
+    unfolding stop_before
+    test-placed e r = let o = on-both e in placed-test n b x w o.0 o.1 ∙ rw (r, last-stop x o.0 o.1, h.legs) refl
 
   -- a node that is no place of a word is neither a leg nor on the route
   far : (x : ℕ) → 64 ≤ x → on_route b x ≡ has (legs_of b) x
@@ -376,19 +348,19 @@ module _ (n : ℕ) (b : Board) (u : code.Undone) (next last sets : List ℕ) (h 
       absurd (omega (arith, h.sound.small, h.sound.form.route.below (index_of x (route_of b)) i, place_at n b h.sound.small h.sound.wide h.sound.form.route x o)))
       (λ o. o ∙ sym (has-high (legs_of b) x (legs-fit b) l))
 
-  pub test-marked : (x w : ℕ) → fits_marked b x w ≡ not (has u.legs x) && (has u.marks x && eqb w 0)
+  pub test-marked : (x w : ℕ) {leg marked : Bool} → leg ≡ has u.legs x → marked ≡ has u.marks x → fits_marked b x w ≡ not leg && (marked && eqb w 0)
   unfolding fits_marked
-  test-marked x w =
-      rw (← h.legs, ← h.marks)
+  test-marked x w p q =
+      rw (p, q, ← h.legs, ← h.marks)
       (decided (has b.marks x)
       (λ m. ap (λ (t : Bool). not t && (has b.marks x && eqb w 0)) (decided (ltb x 64)
       (λ l. sym (on-leg n b h.sound.small h.sound.wide h.sound.form x (mark-inner n b h.sound.form x (ltb-true x 64 l) m)))
       (λ l. far x (ltb-false x 64 l))))
       (λ m. rw (m, and-false (not (on_route b x)), and-false (not (has (legs_of b) x))) refl))
 
-  pub test-obliged : (x w : ℕ) → fits_obliged b x w ≡ has u.must x && eqb w 0
+  pub test-obliged : (x w : ℕ) {due : Bool} → due ≡ has u.must x → fits_obliged b x w ≡ due && eqb w 0
   unfolding fits_obliged
-  test-obliged x w = rw h.must refl
+  test-obliged x w p = rw (p, h.must) refl
 
 -- ---- the arrays put right
 
@@ -408,14 +380,6 @@ ended n d u next last sets {after = after} f v e q =
 swept-long : (l m : List ℕ) (j : ℕ) → length m ≡ length l → length (swept l m j) ≡ length m
 unfolding swept
 swept-long l m j e = simp (length-append, length-take, length-drop) (omega (arith, e))
-
--- a sweep goes on from where it is
-pub swept-on : (l m : List ℕ) (j : ℕ) {a : List ℕ} → length m ≡ length l → a ≡ swept l m j → a ≡ swept a m j
-swept-on l m j {a} e p =
-    let long : length m ≡ length a = sym (ap length p ∙ swept-long l m j e) in
-    ext_get_or 0 a (swept a m j) (sym (swept-long a m j long ∙ long)) (λ k b.
-    decided (ltb k j) (λ q. let g = ltb-true k j q in ap (λ (t : List ℕ). get_or t k 0) p ∙ swept-behind l m j k e g ∙ sym (swept-behind a m j k long g))
-    (λ q. sym (swept-ahead a m j k long (ltb-false k j q))))
 
 -- and is done where both lists agree from there on
 pub swept-past : (l m : List ℕ) (j : ℕ) → length m ≡ length l → ((k : ℕ) → j ≤ k → k < length l → get_or l k 0 ≡ get_or m k 0) → swept l m j ≡ m

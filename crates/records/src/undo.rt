@@ -37,6 +37,7 @@ fn misfit(u: Undone) -> Undone
     }
 }
 
+#[tactic(auto, unfolding(crate::specs::Undo::strictly))]
 fn grows(v: u64, w: u64, legs: u64) -> bool
     ensures { result ≡ strictly v w && within w legs }
 {
@@ -44,6 +45,7 @@ fn grows(v: u64, w: u64, legs: u64) -> bool
 }
 
 // Of a set the legs that are there.
+#[tactic(auto, unfolding(crate::specs::Undoing::cut))]
 fn cut_set(w: u64, legs: u64) -> u64
     ensures { (result ≡ cut legs w) × (w < 2 ^ 64) }
 {
@@ -71,7 +73,7 @@ fn undo_shrunk(sets: &mut [u64; Node::MOST], u: Undone, n: usize, x: usize, w: u
         stops: u.stops,
         marks: u.marks,
         must: u.must,
-        legs: legs,
+        legs,
     }
 }
 
@@ -131,7 +133,7 @@ fn undo_marked(u: Undone, x: usize, w: u64) -> Undone
         stops: u.stops,
         marks: bits::without(marks, x),
         must: u.must,
-        legs: legs,
+        legs,
     }
 }
 
@@ -148,7 +150,7 @@ fn undo_obliged(u: Undone, x: usize, w: u64) -> Undone
     Undone {
         fits: true,
         stops: u.stops,
-        marks: marks,
+        marks,
         must: bits::without(must, x),
         legs: u.legs,
     }
@@ -180,6 +182,7 @@ fn undo_one(
 }
 
 // The records from `base` on, newest first, as far as they fit.
+#[tactic(auto, unfolding(crate::specs::Trail::room_of))]
 fn undo_from(
     next: &mut [u8; Node::MOST],
     last: &mut [u8; Node::MOST],
@@ -196,10 +199,8 @@ fn undo_from(
         → Follows n (undo_many (records - base) n b records trail.now) result next.new last.new sets.new }
 {
     let mut u = begun;
-    let mut left = records;
-    while base < left {
-        left -= 1;
-        u = undo_one(next, last, sets, u, n, trail[2 * left], trail[2 * left + 1]);
+    for i in (base..records).rev() {
+        u = undo_one(next, last, sets, u, n, trail[2 * i], trail[2 * i + 1]);
         if !u.fits {
             return u;
         }
@@ -218,13 +219,11 @@ fn neighbours(
     requires by_index { (n marks must : ℕ) × (sets : List ℕ) × Sound n (board route.now stops sets marks must) }
     ensures { Beside stops route.now next.new last.new }
 {
-    let mut i = 1;
-    while i < stops {
+    for i in 1..stops {
         let p = route[i - 1];
         let k = route[i];
         next[p] = k as u8;
         last[k] = p as u8;
-        i += 1;
     }
 }
 
@@ -233,19 +232,9 @@ fn cut_sets(sets: &mut [u64; Node::MOST], n: usize, legs: u64)
     requires { (length sets.old ≡ 64) × (n ≤ 64) × Ends n sets.old }
     ensures { (sets.new ≡ map (cut legs) sets.old) × ((y : ℕ) → y < 64 → get_or sets.old y 0 < 2 ^ 64) }
 {
-    let mut y = 0;
-    while y < n {
-        let w = sets[y];
-        sets[y] = cut_set(w, legs);
-        y += 1;
+    for y in 0..n {
+        sets[y] = cut_set(sets[y], legs);
     }
-}
-
-// The node that a byte stands for.
-fn node_of(v: u8) -> usize
-    ensures { result ≡ v }
-{
-    v as usize
 }
 
 // The route by its neighbours, in an array where one of so many stops was.
@@ -256,16 +245,12 @@ fn walk(route: &mut [usize; Node::MOST], next: &[u8; Node::MOST], stops: usize, 
         → route.new ≡ b.route }
 {
     let mut p = 0;
-    let mut i = 0;
-    while i < stops {
+    for i in 0..stops {
         route[i] = p;
-        let v = next[p];
-        p = node_of(v);
-        i += 1;
+        p = next[p] as usize;
     }
-    while i < was {
+    for i in stops..was {
         route[i] = 0;
-        i += 1;
     }
 }
 
@@ -289,7 +274,7 @@ pub fn undo_many(
     neighbours(&mut next, &mut last, route, stops);
     let begun = Undone {
         fits: true,
-        stops: stops,
+        stops,
         marks: f.marks,
         must: f.must,
         legs: word(route, stops - 1),

@@ -1,5 +1,5 @@
 // Records: two words each, in a lent slice.
-ghost use Rattle.std.specs.Prelude.{◌≡◌, cond, ◌+◌, ◌^◌, ◌≤◌, ◌<◌, eqb};
+ghost use Rattle.std.specs.Prelude.{◌≡◌, ◌+◌, ◌^◌, ◌≤◌, ◌<◌};
 ghost use Rattle.records.specs.Trail.{room_of, pushed, change, first_word, Alike, shrunk, note_one, note_below};
 
 use rules::Node;
@@ -34,6 +34,7 @@ pub fn first_word(kind: u64, x: usize) -> u64
 }
 
 // Record i written.
+#[tactic(auto, unfolding(crate::specs::Trail::room_of, crate::specs::Trail::pushed))]
 pub fn push(trail: &mut [u64], i: usize, first: u64, second: u64)
     requires { i < room_of trail.old }
     ensures { trail.new ≡ pushed trail.old i first second }
@@ -43,23 +44,16 @@ pub fn push(trail: &mut [u64], i: usize, first: u64, second: u64)
     trail[at + 1] = second;
 }
 
-fn one_more(w: u64, v: u64, k: usize) -> usize
-    requires { k < 64 }
-    ensures { (result ≡ k + cond (eqb w v) 0 1) × (result ≤ k + 1) }
-{
-    if w == v { k } else { k + 1 }
-}
-
 // How many sets differ, which they do at the nodes only: the records that a settling needs.
 pub fn needed<'a>(old: &'a [u64; Node::MOST], new: &'a [u64; Node::MOST], n: usize) -> usize
     requires { (n ≤ 64) × Alike n old.now new.now }
     ensures { (result ≡ shrunk old.now new.now 64) × (result ≤ 64) }
 {
     let mut k = 0;
-    let mut y = 0;
-    while y < n {
-        k = one_more(old[y], new[y], k);
-        y += 1;
+    for y in 0..n {
+        if old[y] != new[y] {
+            k += 1;
+        }
     }
     k
 }
@@ -88,10 +82,8 @@ pub fn note<'a>(
     ensures { note_below old.now new.now 64 (records, trail.old) ≡ (result, trail.new) }
 {
     let mut i = records;
-    let mut y = 0;
-    while y < n {
+    for y in 0..n {
         i = note_one(trail, i, old[y], new[y], y);
-        y += 1;
     }
     i
 }

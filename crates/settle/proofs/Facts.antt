@@ -121,10 +121,6 @@ ready-fewer r e less = record { laid = r.laid; clear = r.clear; long = r.long; s
 pub kepts-less : {l : List ℕ} {legs : ℕ} {f : ℕ → ℕ → Bool} {ws vs : List ℕ} → Kepts l legs f ws vs → places_in vs ⊆ places_in ws
 kepts-less k x p t = (((k.at x).at p).0 t).0
 
-pub ready-kepts : {s : List ℕ} {at : Layout} {l : List ℕ} {n : ℕ} {ws : List ℕ} {marks legs : ℕ} {f : ℕ → ℕ → Bool} {vs : List ℕ} → Ready s at l n ws marks
-    → Kepts l legs f ws vs → Ready s at l n vs marks
-ready-kepts r k = ready-fewer r k.long (kepts-less k)
-
 -- and so are the words after a round
 pub ready-round : {s : List ℕ} {at : Layout} {l : List ℕ} {n : ℕ} {ws : List ℕ} {marks : ℕ} (v : Van) → Ready s at l n ws marks → {vs : List ℕ}
     → vs ≡ sets_of (round v (day_of s) (take n l) (places_in ws)) → Ready s at l n vs marks

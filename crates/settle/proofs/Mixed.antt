@@ -1,7 +1,7 @@
 -- Clean before soiled: the legs that a look along the route shuts to a node are those in which it would mix something.
 use mathlib.Core.Path.{◌≡◌, refl, sym, ap, ◌∙◌, subst}
 use Prim.Native.Nat.{ℕ, suc, ◌-◌, ◌<◌, ◌≤◌}
-use mathlib.Core.Bool.{Bool, true, false, not, ◌&&◌, ◌||◌}
+use mathlib.Core.Bool.{Bool, true, not, ◌&&◌}
 use mathlib.Core.List.{List}
 use mathlib.Core.Logic.{⊎_elim}
 use native.Mathlib.Omega.{arith}
@@ -13,7 +13,7 @@ use Rattle.laws.proofs.Lists.{any-i, any-e, mem-in, in_mem}
 use Rattle.laws.specs.Basic.{mem, any, tab}
 use Rattle.bits.specs.Places.{has}
 use Rattle.rules.specs.Day.{Day}
-use Rattle.rules.specs.Profile.{clean_at, soiled_at, is_clean, is_soiled, unmixed}
+use Rattle.rules.specs.Profile.{clean_at, soiled_at, is_clean, is_soiled}
 use Rattle.rules.specs.Along.{behind}
 use Rattle.sheet.specs.declared.Layout.{Layout}
 use Rattle.day.specs.Seen.{LookedOver}
@@ -27,10 +27,6 @@ use Rattle.along.proofs.Facts.{size, near-nodes}
 use Rattle.profile.specs.Shut.{Shuts, shut_to}
 use Rattle.profile.specs.declared.Shut.{Shut}
 use Rattle.settle.specs.Round.{mixed_leaves}
-
--- without the profile nothing is asked
-pub unasked : (d : Day) (m : List ℕ) → d.profile ≡ false → (y i : ℕ) → mixed_leaves d m y i ≡ true
-unasked d m e y i = ap (λ (b : Bool). not b || unmixed d y (behind m (suc i)) (drop (suc i) m)) e
 
 module _ {s : List ℕ} {at : Layout} {l : List ℕ} {n : ℕ} {ws : List ℕ} {marks : ℕ} (r : Ready s at l n ws marks) {j : Looked}
     (k : LookedOver (job_in s) at.jobs j) {sh : Shut} (z : Shuts l (n - 1) j.clean j.soiled sh) where

@@ -55,9 +55,6 @@ pub record Upto (l : List ℕ) (legs : ℕ) (f : ℕ → ℕ → Bool) (ws : Lis
   pub at : (y : ℕ) → y < x → Kept l 0 legs (f y) (get_or ws y 0) (get_or vs y 0)
   pub rest : (y : ℕ) → x ≤ y → get_or vs y 0 ≡ get_or ws y 0
 
-pub upto-none : {l : List ℕ} {legs : ℕ} {f : ℕ → ℕ → Bool} {ws vs : List ℕ} → length ws ≡ 64 → vs ≡ ws → Upto l legs f ws 0 vs
-upto-none n e = record { long = ap length e ∙ n; at = λ y h. absurd (omega arith); rest = λ y h. ap (λ (k : List ℕ). get_or k y 0) e }
-
 pub upto-more : {l : List ℕ} {legs : ℕ} {f : ℕ → ℕ → Bool} {ws : List ℕ} {x : ℕ} {vs : List ℕ} {v : ℕ} → x < 64 → Upto l legs f ws x vs
     → Kept l 0 legs (f x) (get_or ws x 0) v
     → Upto l legs f ws (x + 1) (set vs x v)

@@ -22,10 +22,8 @@ fn same(a: &[u64; Node::MOST], b: &[u64; Node::MOST], n: usize) -> bool
     ensures { result ≡ same_sets a.now b.now }
 {
     let mut is = true;
-    let mut i = 0;
-    while i < n {
-        is = is & (a[i] == b[i]);
-        i += 1;
+    for i in 0..n {
+        is &= a[i] == b[i];
     }
     is
 }
@@ -37,16 +35,15 @@ pub fn none_open(sets: &[u64; Node::MOST], n: usize) -> bool
     ensures { result ≡ all_below n (λ i. eqb (get_or sets.now i 0) 0) }
 {
     let mut all: u64 = 0;
-    let mut i = 0;
-    while i < n {
-        all = all | sets[i];
-        i += 1;
+    for i in 0..n {
+        all |= sets[i];
     }
     all == 0
 }
 
 // The rounds, with L, H, the spots and the nodes before each stop at hand: the first, and the further one where it struck something, which asks the
-// transfers only: window, metres, clean and soiled jobs and the profile read the route, so what they leave they leave again. Counts those that struck.
+// transfers only: window, metres, clean and soiled jobs and the profile read the route, so what they leave they leave again. Counts those that
+// struck.
 fn rounds(
     s: &[u8],
     at: Layout,
@@ -65,8 +62,7 @@ fn rounds(
     ensures { Settles pass.van (day_of s.now) (take pass.stops route.now) old.now result new.new }
 {
     round(s, at, t, pass, new, route, spots, before, l, h);
-    let n = at.nodes;
-    if same(old, new, n) {
+    if same(old, new, at.nodes) {
         return 0;
     }
     if strike_pairs(s, at, t, pass, new, route, spots, before, h) {
@@ -99,10 +95,6 @@ pub fn settle(
     spots(route, stops, &mut spot);
     befores(route, stops - 1, &mut before);
     let peaks = loads(s, at, t, route, stops, &spot, &mut h);
-    let pass = Pass {
-        van: van,
-        stops: stops,
-        peaks: peaks,
-    };
+    let pass = Pass { van, stops, peaks };
     rounds(s, at, t, pass, old, new, route, &spot, &before, &l, &h)
 }

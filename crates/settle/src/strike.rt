@@ -42,7 +42,7 @@ fn ride_of(pass: Pass, load: usize) -> Ride
         legs: pass.stops - 1,
         highest: pass.peaks.highest,
         capacity: pass.van.capacity,
-        load: load,
+        load,
     }
 }
 
@@ -51,13 +51,9 @@ fn node_of(job: Job) -> usize
     ensures { result ≡ node_of job }
 {
     match job {
-        Job::Clean { node, load: _ } => node,
-        Job::Soiled { node, load: _ } => node,
-        Job::Transfer {
-            from,
-            to: _,
-            load: _,
-        } => from,
+        Job::Clean { node, .. } => node,
+        Job::Soiled { node, .. } => node,
+        Job::Transfer { from, .. } => from,
     }
 }
 
@@ -73,13 +69,9 @@ fn left_of(
     ensures { Kept route.now 0 (pass.stops - 1) (load_rides h.now pass job) word result }
 {
     match job {
-        Job::Clean { node: _, load } => from_start(word, route, h, ride_of(pass, load)),
-        Job::Soiled { node: _, load } => to_end(word, route, h, ride_of(pass, load)),
-        Job::Transfer {
-            from: _,
-            to: _,
-            load: _,
-        } => word,
+        Job::Clean { load, .. } => from_start(word, route, h, ride_of(pass, load)),
+        Job::Soiled { load, .. } => to_end(word, route, h, ride_of(pass, load)),
+        Job::Transfer { .. } => word,
     }
 }
 
@@ -100,14 +92,10 @@ fn strike_loads(
     if has_room(pass.peaks.highest, pass.peaks.heaviest, pass.van.capacity) {
         return;
     }
-    let m = at.jobs;
-    let mut j = 0;
-    while j < m {
+    for j in 0..at.jobs {
         let job = day::jobs::job(s, at, j);
         let x = node_of(job);
-        let w = new[x];
-        new[x] = left_of(job, w, pass, route, h);
-        j += 1;
+        new[x] = left_of(job, new[x], pass, route, h);
     }
 }
 
@@ -167,14 +155,11 @@ pub fn strike_pairs(
         (jobs_leave (pair_leaves new.old route.now h.now pass) (job_in s.now) at.jobs)
         new.old new.new × (result ≡ not (same_sets new.old new.new)) }
 {
-    let n = at.nodes;
     let mut struck = false;
-    let mut x = 0;
-    while x < n {
+    for x in 0..at.nodes {
         if t[Jobs::FIRST + x] != 0 {
             struck = strike_pair(t, x, struck, pass, new, route, spots, before, h);
         }
-        x += 1;
     }
     struck
 }
@@ -199,17 +184,13 @@ fn stand_all(
     let mut most = [0usize; Node::MOST];
     let legs = pass.stops - 1;
     let total = legs_of(s, at, pass.van.limit, route, legs, &mut leave, &mut most);
-    let n = at.nodes;
-    let mut x = 0;
-    while x < n {
-        let w = new[x];
+    for x in 0..at.nodes {
         let trial = Trial {
             node: x,
-            places: w,
-            total: total,
+            places: new[x],
+            total,
         };
         new[x] = stand(s, at, trial, route, spots, &leave, l, &most);
-        x += 1;
     }
 }
 
@@ -230,12 +211,8 @@ fn strike_mixed(
     }
     let jobs = day::jobs::look_over(s, at);
     let shut = shut_legs(route, stops - 1, jobs.clean, jobs.soiled);
-    let n = at.nodes;
-    let mut x = 0;
-    while x < n {
-        let w = new[x];
-        new[x] = cut(w, x, shut);
-        x += 1;
+    for x in 0..at.nodes {
+        new[x] = cut(new[x], x, shut);
     }
 }
 

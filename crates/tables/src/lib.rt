@@ -40,10 +40,8 @@ fn read_row(s: &[u8], at: usize, n: usize, to: usize, square: &mut [u32])
     requires { (at + n ≤ words s.now) × (to + n ≤ length square.old) }
     ensures { Copied square.old to n (λ k. word_at s.now (at + k)) square.new }
 {
-    let mut k = 0;
-    while k < n {
+    for k in 0..n {
         square[to + k] = word(s, at + k);
-        k += 1;
     }
 }
 
@@ -54,13 +52,11 @@ fn read_rows(s: &[u8], from: usize, n: usize, wide: usize, square: &mut [u32])
 {
     let mut at = from;
     let mut to = 0;
-    let mut i = 0;
-    while i < n {
+    for i in 0..n {
         read_row(s, at, n, to, square);
         square[to + i] = 0;
         at += n;
         to += wide;
-        i += 1;
     }
 }
 
@@ -74,13 +70,11 @@ fn line_left(square: &[u32], a: usize, b: usize, width: usize, there: u32, back:
     let to = there as i32;
     let fro = back as i32;
     let mut left = 0i32;
-    let mut k = 0;
-    while k < width {
+    for k in 0..width {
         let near = square[a + k] as i32;
         let far = square[b + k] as i32;
         let below = far - near;
         left = left | (to + below) | (fro - below);
-        k += 1;
     }
     left
 }
@@ -93,19 +87,18 @@ fn strip_left(square: &[u32], wide: usize, i: usize, k: usize, width: usize) -> 
     let a = i * wide;
     let mut left = 0i32;
     let mut b = 0;
-    let mut j = 0;
-    while j < i {
+    for j in 0..i {
         let there = square[a + j];
         let back = square[b + i];
         let line = line_left(square, a + k, b + k, width, there, back);
-        left = left | line;
+        left |= line;
         b += wide;
-        j += 1;
     }
     left
 }
 
-// Row i against every row before it, strip by strip. The compiler makes code of its own for the full strips, whose width it knows.
+// Row i against every row before it, strip by strip. The compiler makes code of its own for the full strips, whose width it knows: they go on while
+// one fits into what is left, and the rest begins where they end.
 fn row_ok(square: &[u32], wide: usize, i: usize) -> bool
     requires { (i < wide) × (i * wide + wide ≤ length square.now) × InRange square.now }
     ensures { result ≡ row_ok square.now wide i }
@@ -114,7 +107,7 @@ fn row_ok(square: &[u32], wide: usize, i: usize) -> bool
     let mut k = 0;
     while Square::STRIP <= wide - k {
         let strip = strip_left(square, wide, i, k, Square::STRIP);
-        left = left | strip;
+        left |= strip;
         k += Square::STRIP;
     }
     let rest = strip_left(square, wide, i, k, wide - k);
@@ -128,14 +121,16 @@ fn table_ok(s: &[u8], from: usize, n: usize, room: &mut [u32]) -> bool
 {
     let wide = (n + 7) / Square::STEP * Square::STEP;
     read_rows(s, from, n, wide, room);
-    let mut i = 0;
-    while i < n {
-        if !row_ok(room, wide, i) {
-            return false;
-        }
-        i += 1;
-    }
-    true
+    (0..n).all(|i| row_ok(room, wide, i))
+}
+
+// The same with a room of its own, of ROOM entries.
+fn in_room<const ROOM: usize>(s: &[u8], from: usize, n: usize) -> bool
+    requires { Table s.now from n × (n * wide_of n ≤ ROOM) × (ROOM ≤ 4096) }
+    ensures { result ≡ triangle n (cell s.now from n) }
+{
+    let mut room = [0u32; ROOM];
+    table_ok(s, from, n, &mut room)
 }
 
 // The triangle rule of a table of n rows whose entries begin at word `from`.
@@ -144,13 +139,10 @@ pub fn triangle_ok(s: &[u8], from: usize, n: usize) -> bool
     ensures { result ≡ triangle n (cell s.now from n) }
 {
     if n <= Square::FEW {
-        let mut room = [0u32; Square::SMALL];
-        return table_ok(s, from, n, &mut room);
+        in_room::<{ Square::SMALL }>(s, from, n)
+    } else if n <= Square::SOME {
+        in_room::<{ Square::MIDDLE }>(s, from, n)
+    } else {
+        in_room::<{ Square::LARGE }>(s, from, n)
     }
-    if n <= Square::SOME {
-        let mut room = [0u32; Square::MIDDLE];
-        return table_ok(s, from, n, &mut room);
-    }
-    let mut room = [0u32; Square::LARGE];
-    table_ok(s, from, n, &mut room)
 }

@@ -117,14 +117,7 @@ pub fn stale(
     requires { Figured figures.now × (v ≤ most_vans) }
     ensures { result ≡ any_below v (anew false figures.now told.now) }
 {
-    let mut is = false;
-    let mut j = 0;
-    while j < v {
-        let f = figures_in(&figures[j]);
-        is = is | (f.records != told[j][1]);
-        j += 1;
-    }
-    is
+    (0..v).any(|j| figures_in(&figures[j]).records != told[j][1])
 }
 
 // Every van, or those alone whose records are other than they were.
@@ -148,8 +141,7 @@ pub fn tell_vans<'a>(
         ≡ told_in sheet.now (fleet_with routes.now sets.now levels figures.now) j)
         → ToldAll sheet.now (fleet_with routes.now sets.now levels figures.now) told.new }
 {
-    let mut j = 0;
-    while j < at.vans {
+    for j in 0..at.vans {
         let f = figures_in(&figures[j]);
         if every | (f.records != told[j][1]) {
             let van = day::look::van(sheet, at, j);
@@ -166,7 +158,6 @@ pub fn tell_vans<'a>(
                 &mut ways[j],
             );
         }
-        j += 1;
     }
 }
 
@@ -190,17 +181,15 @@ fn sum_up(told: &[[usize; Told::COUNT]; Fleet::VANS], v: usize) -> Sums
     let mut places = 0;
     let mut records = 0;
     let mut alive = true;
-    let mut j = 0;
-    while j < v {
+    for j in 0..v {
         places += told[j][0];
         records += told[j][1];
-        alive = alive & (told[j][2] != 0);
-        j += 1;
+        alive &= told[j][2] != 0;
     }
     Sums {
-        places: places,
-        records: records,
-        alive: alive,
+        places,
+        records,
+        alive,
     }
 }
 

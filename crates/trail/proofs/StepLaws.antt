@@ -5,10 +5,10 @@ use mathlib.Core.List.{List}
 use Prim.Native.Nat.{ℕ, ◌+◌, ◌-◌, ◌≤◌, ◌<◌}
 use native.Mathlib.Omega.{arith}
 use lib.Dec.{eqb, ltb}
-use lib.ListN.{get_or}
+use lib.ListN.{get_or, length}
 use borrow.Author.Tests.{eqb-true, eqb-false, ne_eqb, ltb-true, not-true, lt-ltb, le-ltb, le-leb}
 use Rattle.laws.proofs.Logic.{decided, and-true}
-use Rattle.laws.proofs.Choice.{or-else-first, or-else-zero, passed}
+use Rattle.laws.proofs.Choice.{or-else-zero, passed}
 use Rattle.laws.specs.Basic.{or_else, unless}
 use Rattle.bits.specs.Places.{has}
 use Rattle.bits.proofs.Members.{false-true}
@@ -17,6 +17,8 @@ use Rattle.rules.specs.Day.{is_inner}
 use Rattle.rules.proofs.Inner.{is-inner}
 use Rattle.board.specs.Board.{Board, board_of, on_board, on_route, set_of, open_at, leg_node}
 use Rattle.board.specs.Held.{InForm, Splits}
+use Rattle.board.proofs.FormLaws.{leg-in, on_word}
+use Rattle.board.specs.Route.{word_of}
 use Rattle.board.specs.declared.State.{State}
 use Rattle.records.specs.Trail.{room_of, shrunk}
 use Rattle.records.proofs.TrailLaws.{shrunk-still, note-still, Noted}
@@ -37,6 +39,18 @@ pub step-zero : (k : ℕ) (s : State) (t : List ℕ) (ran : Ran) → (unless_ref
 step-zero k s t ran e =
     decided (eqb k 0) (λ q. eqb-true k 0 q)
     (λ q. sym (ap (λ (r : Ran). r.0.answer) (step-no k s t ran (eqb-false k 0 q))) ∙ e)
+
+-- ---- what the code asks of a node; x and p are places of a word then
+
+pub inner_below : {n x : ℕ} → is_inner n x ≡ true → n ≤ 64 → x < 64
+inner_below {n} {x} e small = omega (arith, (is-inner n x e).1)
+
+pub leg_below : {n p : ℕ} → leg_node n p ≡ true → n ≤ 64 → p < 64
+leg_below {n} {p} e small = omega (arith, leg-in n p e)
+
+-- the word of the route has the nodes on it
+pub on_asked : (b : Board) (x : ℕ) → x < 64 → b.stops ≤ length b.route → on_route b x ≡ has (word_of b.stops b.route) x
+on_asked b x l h = sym (on_word b x l h)
 
 -- ---- what an accepted step knows
 
@@ -63,11 +77,6 @@ placeable n b records room p x e =
     let h = or-else-zero (place_shut n b p x) _ e in
     let s = not-shut n b p x h.0 in
     record { split = s.0; place = s.1; left = ltb-true records room (passed (ltb records room) refusal.ROOM refl h.1) }
-
--- a shut place refuses, whatever the room
-pub place-shut : (n : ℕ) (b : Board) (records room p x : ℕ) → (place_shut n b p x ≡ 0 → ⊥) → place_refusal n b records room p x ≡ place_shut n b p x
-unfolding place_refusal
-place-shut n b records room p x h = sym (or-else-first (place_shut n b p x) _ h)
 
 -- an open place and room for one record: nothing refuses
 pub place-open : (n : ℕ) (b : Board) (records room p x : ℕ) → place_shut n b p x ≡ 0 → records < room → place_refusal n b records room p x ≡ 0
@@ -156,10 +165,6 @@ unfolding undo_level
 level-empty n s t e = let k : s.records - base_of s ≡ 0 = omega (arith, e) in rw k (many-none n (board_of s) s.records t)
 
 module _ (n : ℕ) (s : State) (t : List ℕ) (f : Bool) (b : Board) (h : 0 < s.depth) (e : undo_level n s t ≡ (f, b)) where
-  pub back-misfit : f ≡ false → back_step n s t ≡ answered refusal.MISFIT s t
-  unfolding back_step or_else
-  back-misfit z = rw (lt-ltb 0 s.depth h, e, z) (step-no refusal.MISFIT s t _ (eqb-false refusal.MISFIT 0 refl))
-
   pub back_fits : f ≡ true → back_step n s t ≡ answered 0 (dropped s b) t
   unfolding back_step or_else
   back_fits z = rw (lt-ltb 0 s.depth h, e, z) (step-yes 0 s t _ refl)

@@ -1,4 +1,14 @@
 // When a step is refused, in the order of documents 01 and 02. The state is in form, and the caller has asked so.
+#![tactic(auto,
+// a node that was asked is a place of a word; the word of the route has the nodes on it
+using(crate::proofs::StepLaws::inner_below, crate::proofs::StepLaws::leg_below, crate::proofs::StepLaws::on_asked),
+// what refuses a placing
+unfolding(crate::specs::Refusals::place_shut, crate::specs::Refusals::place_refusal,
+// the other steps
+crate::specs::Refusals::exclude_refusal, crate::specs::Refusals::require_refusal, crate::specs::Refusals::oblige_refusal,
+// the first number that is not 0, and what they read of the board
+laws::specs::Basic::or_else, board::specs::Board::set_of, board::specs::Board::open_at))]
+
 ghost use Rattle.std.specs.Prelude.{◌≡◌, List, ℕ};
 ghost use Rattle.board.specs.Board.{board};
 ghost use Rattle.records.specs.Undo.{Readable};

@@ -1,4 +1,18 @@
 // The steps on a state in form, asked so by the caller: the answer, and state and trail changed in place. Refused: state and trail as before.
+#![tactic(auto,
+// what an accepted step knows
+using(crate::proofs::StepLaws::inner_below, crate::proofs::StepLaws::placeable, crate::proofs::StepLaws::excludable),
+// refused or done, with its record
+unfolding(crate::specs::Steps::unless_refused, crate::specs::Steps::recorded, laws::specs::Basic::or_else, records::specs::Trail::room_of,
+// the steps on a node
+crate::specs::Steps::place_step, crate::specs::Steps::exclude_step, crate::specs::Steps::require_step, crate::specs::Steps::oblige_step,
+// a level opened
+crate::specs::Steps::level_step,
+// stepping back to it
+crate::specs::Steps::back_step, crate::specs::Steps::base_of, crate::specs::Steps::undo_level, crate::specs::Steps::dropped,
+// what they change of the board
+board::specs::Board::set_of, board::specs::Change::put_set, board::specs::Change::marked, board::specs::Change::obliged))]
+
 ghost use Rattle.std.specs.Prelude.{◌≡◌, true, false, List, ℕ, ◌≤◌, ◌<◌, length, get_or};
 ghost use Rattle.board.specs.Board.{board, state_with};
 ghost use Rattle.board.specs.Form.{form_with};
@@ -20,7 +34,7 @@ pub fn same(answer: usize, f: Figures) -> Outcome
     ensures { result ≡ as_before answer f }
 {
     Outcome {
-        answer: answer,
+        answer,
         rounds: 0,
         after: f,
     }
@@ -81,6 +95,9 @@ fn shrink(sets: &mut [u64; Node::MOST], f: Figures, x: usize, w: u64, trail: &mu
 }
 
 // Close the place p of x.
+#[tactic(auto, using(crate::proofs::StepLaws::inner_below, crate::proofs::StepLaws::placeable),
+// the record of the smaller set is as `shrink` has it
+unfolding(crate::specs::Steps::unless_refused, crate::specs::Steps::close_step, board::specs::Board::set_of, records::specs::Trail::room_of))]
 pub fn close(
     route: &[usize; Node::MOST],
     sets: &mut [u64; Node::MOST],
@@ -104,6 +121,7 @@ pub fn close(
 }
 
 // Exclude x, which nothing refuses: close all its places. None open: nothing changes.
+#[tactic(auto, unfolding(crate::specs::Steps::unless_refused, crate::specs::Steps::exclude_step, board::specs::Board::set_of))]
 pub fn shut_out(sets: &mut [u64; Node::MOST], f: Figures, x: usize, trail: &mut [u64]) -> Outcome
     requires { (x < 64) × ((get_or sets.old x 0 ≡ 0 → ⊥) → f.records < room_of trail.old) }
     ensures { (n : ℕ) (route levels : List ℕ)
@@ -202,13 +220,13 @@ pub fn settle(
     *sets = *new;
     Outcome {
         answer: 0,
-        rounds: rounds,
+        rounds,
         after: Figures {
             stops: f.stops,
             marks: f.marks,
             must: f.must,
             depth: f.depth,
-            records: records,
+            records,
         },
     }
 }
@@ -289,17 +307,16 @@ fn drop_level(levels: &mut [usize; State::LEVELS], f: Figures, u: Undone) -> Out
     let d = f.depth - 1;
     let base = levels[d];
     levels[d] = 0;
-    let after = Figures {
-        stops: u.stops,
-        marks: u.marks,
-        must: u.must,
-        depth: d,
-        records: base,
-    };
     Outcome {
         answer: 0,
         rounds: 0,
-        after: after,
+        after: Figures {
+            stops: u.stops,
+            marks: u.marks,
+            must: u.must,
+            depth: d,
+            records: base,
+        },
     }
 }
 

@@ -36,11 +36,8 @@ fn try_place(sheet: &[u8], fleet: Fleet, trail: &mut [u64], van: usize, p: usize
 // The fleet with every level open.
 fn deepest(sheet: &[u8], fleet: Fleet, trail: &mut [u64]) -> Fleet {
     let mut deep = fleet;
-    let mut i = 0;
-    while i < State::LEVELS {
-        let s = planner::step(sheet, deep, trail, Step::LEVEL, 0, 0);
-        deep = s.fleet;
-        i += 1;
+    for _ in 0..State::LEVELS {
+        deep = planner::step(sheet, deep, trail, Step::LEVEL, 0, 0).fleet;
     }
     deep
 }
@@ -57,8 +54,7 @@ fn put(rt: &impl Print, v: usize, after: &[u8]) -> io::Result<()> {
 
 // A line: how many stops, levels and records the first van has.
 fn tell(rt: &impl Print, name: &[u8], fleet: Fleet) -> io::Result<()> {
-    let vans = fleet.vans;
-    let one = vans[0];
+    let one = &fleet.vans[0];
     rt.write_all(name)?;
     put(rt, one.stops, b" stops ")?;
     put(rt, one.depth, b" levels ")?;

@@ -20,7 +20,7 @@ use Rattle.fleet.specs.Fleet.{state_in, share_of, trail_in}
 use Rattle.fleet.specs.Rows.{row_of, row_state, fleet_with}
 use Rattle.fleet.specs.declared.Fleet.{Fleet}
 use Rattle.turns.specs.Turn.{turn_of, EightRows, Turning}
-use Rattle.fleet.proofs.FleetLaws.{state-of, fleet-eight, part-long}
+use Rattle.fleet.proofs.FleetLaws.{state-of, fleet-eight, part-fits, part-long}
 use Rattle.turns.proofs.TogetherLaws.{Reads}
 use Rattle.turns.proofs.PutLaws.{row-own, row_other, rows_stay, part-long-as, part-own, part-other, part-over, spot-at, part-lent, part-back}
 
@@ -30,7 +30,6 @@ turn_in n v step f t i = turn_of n step i (state_in f i) (trail_in v t i)
 
 -- the first j vans have taken their turns
 pub record Taken (n v : ℕ) (step : Step) (f : Fleet) (t : List ℕ) (j : ℕ) (routes sets levels after : List (List ℕ)) (t' : List ℕ) (fits : Bool) : Type 0 where
-  pub most : j ≤ v
   pub done : (i : ℕ) → i < j → row_state routes sets levels after i ≡ (turn_in n v step f t i).0.state
   pub ahead : (i : ℕ) → j ≤ i → i < most_vans → row_state routes sets levels after i ≡ state_in f i
   pub trails : (i : ℕ) → i < j → trail_in v t' i ≡ (turn_in n v step f t i).1
@@ -44,7 +43,6 @@ pub taken_none : (n v : ℕ) (step : Step) (routes sets levels figures : List (L
     → EightRows routes sets levels figures
     → Taken n v step (fleet_with routes sets levels figures) t 0 routes sets levels figures t true
 taken_none n v step routes sets levels figures t r = record {
-  most = omega arith;
   done = λ i h. absurd (omega arith);
   ahead = λ i h m. sym (state-of (row_state routes sets levels figures) i m);
   trails = λ i h. absurd (omega arith);
@@ -69,7 +67,6 @@ module _ (n v : ℕ) (step : Step) (f : Fleet) (t : List ℕ) (j : ℕ) {routes 
   pub taken_more : Taken n v step f t (j + 1) (set routes j route) (set sets j places) (set levels j heights) (set after j (row_of o.after))
       (put_part (share_of v t) t' j u) (fits && eqb o.answer 0)
   taken_more = record {
-    most = omega arith;
     done = below_more (λ i. row_state (set routes j route) (set sets j places) (set levels j heights) (set after j (row_of o.after)) i ≡ (turn_in n v step f t i).0.state) j
         (λ i h. other i (ne_of_lt h) ∙ b.done i h) (row-own routes sets levels after b.rows j (omega arith) route places heights o.after ∙ sym (ap (λ (r : Ran). r.0.state) own));
     ahead = λ i h k. other i (λ z. omega arith) ∙ b.ahead i (omega arith) k;
@@ -83,6 +80,10 @@ module _ (n v : ℕ) (step : Step) (f : Fleet) (t : List ℕ) (j : ℕ) {routes 
   }
 
 -- ---- the same as the code has it: van j's words are those from j * share to j * share + share
+
+pub taken-fits : {n v : ℕ} {step : Step} {f : Fleet} {t : List ℕ} {j : ℕ} {routes sets levels after : List (List ℕ)} {t' : List ℕ} {fits : Bool} (share : ℕ)
+    → Taken n v step f t j routes sets levels after t' fits → share ≡ share_of v t → j < v → j * share + share ≤ length t'
+taken-fits {v = v} {t = t} {j = j} share b e l = rw (e, b.long) (part-fits v t j l)
 
 -- the next van's turn asks what it asked at first
 pub taken-asks : {n v : ℕ} {step : Step} {f : Fleet} {t : List ℕ} {j : ℕ} {routes sets levels after : List (List ℕ)} {t' : List ℕ} {fits : Bool} (share : ℕ)
@@ -108,11 +109,11 @@ taken-goes {n} {v} {step} {f} {t} {j} {routes} {sets} {levels} {after} {t'} {fit
 
 -- all have taken their turns
 pub taken-all : (n v : ℕ) (step : Step) (f : Fleet) (t : List ℕ) (j : ℕ) {routes sets levels after : List (List ℕ)} {t' : List ℕ} {fits : Bool}
-    → Taken n v step f t j routes sets levels after t' fits → v ≤ j → v ≤ most_vans → Reads v f t (turn_in n v step f t) (fleet_with routes sets levels after) t'
+    → Taken n v step f t j routes sets levels after t' fits → j ≡ v → v ≤ most_vans → Reads v f t (turn_in n v step f t) (fleet_with routes sets levels after) t'
 taken-all n v step f t j {routes} {sets} {levels} {after} b h m = record {
   states = λ i k. state-of (row_state routes sets levels after) i (omega arith) ∙ b.done i (omega arith);
   trails = λ i k. b.trails i (omega arith);
-  spare = λ i k q. state-of (row_state routes sets levels after) i q ∙ b.ahead i (omega (arith, b.most)) q;
+  spare = λ i k q. state-of (row_state routes sets levels after) i q ∙ b.ahead i (omega arith) q;
   eight = fleet-eight (row_state routes sets levels after);
   long = b.long;
   over = b.over;

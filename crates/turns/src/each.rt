@@ -63,8 +63,7 @@ pub fn each(
         × EightRows routes.new sets.new levels.new figures.new }
 {
     let mut fits = true;
-    let mut j = 0;
-    while j < v {
+    for j in 0..v {
         let from = j * share;
         let end = from + share;
         let f = figures_in(&figures[j]);
@@ -78,10 +77,8 @@ pub fn each(
             &mut trail[from..end],
             step,
         );
-        let g = o.after;
-        put_figures(&mut figures[j], g);
-        fits = fits & (o.answer == 0);
-        j += 1;
+        put_figures(&mut figures[j], o.after);
+        fits &= o.answer == 0;
     }
     fits
 }

@@ -73,6 +73,9 @@ sound {sheet} s l h e = record {
   form = subst (λ (n : ℕ). FormedBoard n (board_of s)) (sym l.nodes) (in-form (n_of sheet) s l.fine.n-high h.wide e).board;
 }
 
+pub known_sound : {sheet : List ℕ} {at : Layout} {s : State} {t : List ℕ} → Known sheet at s t → Sound at.nodes (board_of s)
+known_sound {sheet} {at} {s} {t} k = sound s k.laid k.held (form-with (n_of sheet) s (room_of t) k.form).0
+
 -- stepping back asks for the levels and the records too
 pub with-trail : {sheet : List ℕ} {at : Layout} (s : State) (room : ℕ) → Laid sheet at → form_with (n_of sheet) s room ≡ true → form_with at.nodes s room ≡ true
 with-trail s room l e = ap (λ (n : ℕ). form_with n s room) l.nodes ∙ e

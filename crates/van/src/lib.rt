@@ -24,6 +24,7 @@ use trail::refusals::place_refusal;
 use trail::steps::{back, close, exclude, level, place, require, same};
 
 // Placing x after p, if nothing refuses.
+#[tactic(auto, unfolding(trail::specs::Steps::unless_refused, trail::specs::Steps::place_step, records::specs::Trail::room_of))]
 fn placing(
     route: &mut [usize; Node::MOST],
     sets: &mut [u64; Node::MOST],
@@ -45,6 +46,7 @@ fn placing(
 }
 
 // The steps other than settling: they ask neither for the van nor for its jobs.
+#[tactic(auto, unfolding(crate::specs::Act::act_of, board::specs::Board::route_of))]
 pub fn change(
     sheet: &[u8],
     at: Layout,
@@ -104,6 +106,7 @@ fn settling(
 }
 
 // Step 5 of a van: the sets and the trail are changed in place.
+#[tactic(auto, unfolding(crate::specs::Act::act_of))]
 pub fn settle(
     sheet: &[u8],
     at: Layout,
@@ -126,6 +129,7 @@ pub fn settle(
 }
 
 // The verdict of a van; `jobs` has the jobs of the sheet by node.
+#[tactic(auto, unfolding(board::specs::Board::route_of, board::specs::Board::set_of, board::specs::Board::open_at))]
 pub fn alive<'a>(
     sheet: &[u8],
     at: Layout,

@@ -215,7 +215,7 @@ module _ {s : List ℕ} {at : Layout} {l : List ℕ} {n : ℕ} {t : List ℕ} (r
         moved : load d (behind m (i + 1)) (drop (i + 1) m) + down ≡ aboard + up
         moved = (λ u. load d (behind m (i + 1)) (drop (i + 1) m) + ed u) ∙ walk-next i h b c (eb ∙ p.saw (mate here-x)) ec right ∙ (λ u. sym p.is u + sym eu u)
 
-        pub up-low : up ≤ 8796093022208
+        up-low : up ≤ 8796093022208
         up-low = omega (arith, eu, low r (64 + here-x), low r (128 + here-x), cond-low c (get_or t (128 + here-x) 0))
 
         pub down-low : down ≤ aboard + up

@@ -2,7 +2,7 @@
 use mathlib.Core.Path.{◌≡◌, refl, sym, ap, ◌∙◌}
 use Prim.Native.Nat.{ℕ, suc, ◌+◌, ◌<◌, ◌≤◌}
 use mathlib.Core.Bool.{Bool, true, false, cond, not, ◌&&◌, ◌||◌}
-use mathlib.Core.List.{List, ◌∷◌}
+use mathlib.Core.List.{List}
 use native.Mathlib.Numerals.{add-one}
 use native.Mathlib.Omega.{arith}
 use lib.Dec.{leb, eqb}
@@ -76,6 +76,10 @@ module _ {s : List ℕ} {at : Layout} {l : List ℕ} {n : ℕ} {t : List ℕ} (r
   size : length m ≡ n
   size = let a = r.route.long in let b = r.route.most in simp length-take (omega arith)
 
+  -- a stop is a node with a word
+  pub stop-near : (i : ℕ) → i < length m → get_or m i 0 < 64
+  stop-near i h = let k : i < n = omega (arith, size) in rw (get_or-take n l i 0 k) (near r i k)
+
   -- what all jobs load at x is not 0 exactly if one of them is there
   some-load : (load : Job → ℕ) (is : Job → Bool) → ((j : Job) → job_fine (n_of s) j ≡ true → eqb (load j) 0 ≡ not (is j)) → {v : ℕ}
       → v ≡ sum_below at.jobs (λ k. load (job_in s k)) → not (eqb v 0) ≡ any is d.jobs
@@ -94,17 +98,17 @@ module _ {s : List ℕ} {at : Layout} {l : List ℕ} {n : ℕ} {t : List ℕ} (r
 
   -- ---- the walk
 
-  module _ {i : ℕ} {met : Bool} (h : i < n) (w : Walked d m i met) where
+  module _ {i : ℕ} {met : Bool} (h : i < length m) (w : Walked d m i met) where
     abbrev x : ℕ
-    x = get_or l i 0
+    x = get_or m i 0
 
     -- a stop's part of it
     stop : clean_first d m ≡ (not (met && (is_clean d x || any (is_clean d) (drop (suc i) m))) && (not (is_soiled d x && any (is_clean d) (drop (suc i) m)) && clean_first d (drop (suc i) m)))
-    stop = w.left ∙ ap (λ (q : List ℕ). not (met && any (is_clean d) q) && clean_first d q) (drop-cons m i 0 (omega (arith, size)) ∙ ap (λ (y : ℕ). y ∷ drop (suc i) m) (get_or-take n l i 0 h))
+    stop = w.left ∙ ap (λ (q : List ℕ). not (met && any (is_clean d) q) && clean_first d q) (drop-cons m i 0 h)
 
     -- a clean stop behind a soiled one
     pub walk-stops : (met && not (eqb (get_or t x 0) 0)) ≡ true → false ≡ clean_first d m
-    walk-stops e = sym (stop ∙ stops met (is_clean d x) (any (is_clean d) (drop (suc i) m)) (not (is_soiled d x && any (is_clean d) (drop (suc i) m)) && clean_first d (drop (suc i) m)) (ap (λ (b : Bool). met && b) (sym (clean-told x (near r i h))) ∙ e))
+    walk-stops e = sym (stop ∙ stops met (is_clean d x) (any (is_clean d) (drop (suc i) m)) (not (is_soiled d x && any (is_clean d) (drop (suc i) m)) && clean_first d (drop (suc i) m)) (ap (λ (b : Bool). met && b) (sym (clean-told x (stop-near i h))) ∙ e))
       where
         stops : (a b c f : Bool) → (a && b) ≡ true → (not (a && (b || c)) && f) ≡ false
         stops true true c f e = refl
@@ -112,9 +116,9 @@ module _ {s : List ℕ} {at : Layout} {l : List ℕ} {n : ℕ} {t : List ℕ} (r
         stops false b c f e = absurd (false-true e)
 
     pub walk-next : (met && not (eqb (get_or t x 0) 0)) ≡ false → Walked d m (i + 1) (met || not (eqb (get_or t (64 + x) 0) 0))
-    walk-next e = rw (add-one i, soiled-told x (near r i h)) (record {
+    walk-next e = rw (add-one i, soiled-told x (stop-near i h)) (record {
       left = stop ∙ goes met (is_clean d x) (any (is_clean d) (drop (suc i) m)) (is_soiled d x) (clean_first d (drop (suc i) m))
-          (ap (λ (b : Bool). met && b) (sym (clean-told x (near r i h))) ∙ e);
+          (ap (λ (b : Bool). met && b) (sym (clean-told x (stop-near i h))) ∙ e);
     })
       where
         goes : (a b c s f : Bool) → (a && b) ≡ false → (not (a && (b || c)) && (not (s && c) && f)) ≡ (not ((a || s) && c) && f)
@@ -124,8 +128,8 @@ module _ {s : List ℕ} {at : Layout} {l : List ℕ} {n : ℕ} {t : List ℕ} (r
         goes true false false false f e = refl
         goes false b c s f e = refl
 
-  pub walk-all : {i : ℕ} {met : Bool} → n ≤ i → Walked d m i met → true ≡ clean_first d m
-  walk-all {i} {met} h w = sym (w.left ∙ ap (λ (q : List ℕ). not (met && any (is_clean d) q) && clean_first d q) (drop_of_length-le m {i = i} (omega (arith, size))) ∙ nothing met)
+  pub walk-all : {i : ℕ} {met : Bool} → length m ≤ i → Walked d m i met → true ≡ clean_first d m
+  walk-all {i} {met} h w = sym (w.left ∙ ap (λ (q : List ℕ). not (met && any (is_clean d) q) && clean_first d q) (drop_of_length-le m {i = i} h) ∙ nothing met)
     where
       nothing : (b : Bool) → (not (b && false) && true) ≡ true
       nothing true = refl

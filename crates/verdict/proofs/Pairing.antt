@@ -39,7 +39,7 @@ meets-mask a b f g = ap not (decided (all_below 64 apart)
 
 -- ---- the jobs one after the other
 
-pub or-none : (b : Bool) → b ≡ (b || false)
+or-none : (b : Bool) → b ≡ (b || false)
 or-none true = refl
 or-none false = refl
 
@@ -60,10 +60,6 @@ module _ (w x a b : ℕ) (y : ℕ) where
   -- one from a to x
   pub put_second : a < 64 → (a ≡ x → ⊥) → b ≡ x → has (with w a) y ≡ (has w y || ((eqb a x && eqb b y) || (eqb b x && eqb a y)))
   put_second h n e = rw (ne_eqb a x n, eq-eqb b x e) (has-with w a y h ∙ turn (eqb a y) (has w y) false (λ t. absurd (false-true t)) ∙ ap (λ (c : Bool). has w y || c) (sym (or-none (eqb a y))))
-
-  -- and one that has no end at x
-  pub put-none : (a ≡ x → ⊥) → (b ≡ x → ⊥) → has w y ≡ (has w y || ((eqb a x && eqb b y) || (eqb b x && eqb a y)))
-  put-none n k = rw (ne_eqb a x n, ne_eqb b x k) (or-none (has w y))
 
 pub any-first : (f : ℕ → Bool) → false ≡ any_below 0 f
 unfolding any_below

@@ -20,6 +20,7 @@ ghost use Rattle.along.specs.Nodes.{ByNode, Routed};
 use along::loads::{at_start, comes, goes};
 use along::nodes::Jobs;
 use along::times::{arrive, in_time, last_moment};
+use bits::Each;
 use rules::{Job, Node, Van};
 use sheet::Layout;
 
@@ -36,16 +37,16 @@ fn with_partner(job: Job, x: usize, word: u64) -> u64
     ensures { (y : ℕ) → has result y ≡ (has word y || joins x y job) }
 {
     match job {
-        Job::Clean { node: _, load: _ } => word,
-        Job::Soiled { node: _, load: _ } => word,
-        Job::Transfer { from, to, load: _ } => {
+        Job::Clean { .. } => word,
+        Job::Soiled { .. } => word,
+        Job::Transfer { from, to, .. } => {
             if from == x {
-                return bits::put(word, to);
+                bits::put(word, to)
+            } else if to == x {
+                bits::put(word, from)
+            } else {
+                word
             }
-            if to == x {
-                return bits::put(word, from);
-            }
-            word
         },
     }
 }
@@ -55,13 +56,10 @@ pub fn partners(s: &[u8], at: Layout, x: usize) -> u64
     requires { Laid s.now at }
     ensures { (y : ℕ) → has result y ≡ any (joins x y) (day_of s.now).jobs }
 {
-    let m = at.jobs;
     let mut word: u64 = 0;
-    let mut j = 0;
-    while j < m {
+    for j in 0..at.jobs {
         let job = day::jobs::job(s, at, j);
         word = with_partner(job, x, word);
-        j += 1;
     }
     word
 }
@@ -100,10 +98,7 @@ fn on_the_road(
         return false;
     }
     let mut total = 0;
-    let mut i = 0;
-    while i + 1 < stops {
-        i += 1;
-        let x = route[i];
+    for &x in &route[1..stops] {
         t = arrive(s, at, t, p, x);
         if !in_time(t, last_moment(s, at, x)) {
             return false;
@@ -158,8 +153,7 @@ fn carried(
 {
     let mut aboard = at_start(s, at, t, route, stops);
     let mut seen: u64 = 0;
-    let mut i = 0;
-    while i < stops {
+    for i in 0..stops {
         let x = route[i];
         let other = t[Jobs::PARTNER + x] as usize;
         let begun = bits::holds(seen, other);
@@ -169,8 +163,7 @@ fn carried(
         let up = comes(t, x, bits::holds(on, other));
         let down = goes(t, x, begun);
         aboard = aboard + up - down;
-        i += 1;
-        if (i < stops) & (van.capacity < aboard) {
+        if (i + 1 < stops) & (van.capacity < aboard) {
             return false;
         }
         seen = bits::put(seen, x);
@@ -193,14 +186,11 @@ fn clean_first(
         return true;
     }
     let mut met = false;
-    let mut i = 0;
-    while i < stops {
-        let x = route[i];
+    for &x in &route[..stops] {
         if met & (t[x] != 0) {
             return false;
         }
-        met = met | (t[Jobs::SOILED + x] != 0);
-        i += 1;
+        met |= t[Jobs::SOILED + x] != 0;
     }
     true
 }
@@ -210,13 +200,10 @@ fn all_open(sets: &[u64; Node::MOST], members: u64) -> bool
     requires { length sets.now ≡ 64 }
     ensures { result ≡ all_below 64 (member_open sets.now members) }
 {
-    let mut left = members;
-    while left != 0 {
-        let x = bits::lowest(left);
+    for x in Each::of(members) {
         if !is_open(sets, x) {
             return false;
         }
-        left = bits::rest(left);
     }
     true
 }
@@ -248,8 +235,8 @@ pub fn sound(
     let order = clean_first(s, at, t, route, stops);
     Course {
         keeps: road & load & order,
-        on: on,
-        called: called,
+        on,
+        called,
     }
 }
 

@@ -1,7 +1,7 @@
 -- Where every leg has room, a ride is on from the first leg on at which the partner is met, or up to the last: all other legs go at once.
 use mathlib.Core.Path.{◌≡◌, refl, sym, ap, ◌∙◌, subst}
 use Prim.Native.Nat.{ℕ, zero, suc, min, ◌+◌, ◌-◌, ◌<◌, ◌≤◌, ◌^◌}
-use mathlib.Core.Bool.{Bool, true, false, cond, not, ◌&&◌, ◌||◌, or-true, or_comm, not-not}
+use mathlib.Core.Bool.{Bool, true, false, not, ◌&&◌, ◌||◌, or-true, or_comm, not-not}
 use mathlib.Core.List.{List}
 use mathlib.Core.Logic.{◌↔◌}
 use native.Mathlib.Numerals.{add-one}
@@ -9,7 +9,7 @@ use native.Mathlib.Omega.{arith}
 use lib.Dec.{T, leb, ltb, eqb, eqb→eq, lt→ltb, ltb→lt}
 use lib.ListN.{get_or, set, replicate, length-set}
 use lib.Seq.{get_or-set_same, get_or-set_other}
-use borrow.Author.Tests.{eqb-true, eqb-false, eq-eqb, ne_eqb, ltb-true, ltb-false, lt-ltb, le-ltb, leb-true, leb-false, le-leb, lt-leb}
+use borrow.Author.Tests.{eqb-true, eqb-false, eq-eqb, ne_eqb, ltb-true, ltb-false, lt-ltb, le-ltb, leb-true, leb-false}
 use Rattle.laws.specs.Basic.{any_below}
 use Rattle.laws.proofs.Logic.{decided, by-test, T→true, true→T, T-ext, and_i, and_l, and_r}
 use Rattle.laws.proofs.AnyLaws.{any-below-i, any-below-e}
@@ -21,10 +21,6 @@ use Rattle.walks.specs.declared.Ride.{Ride}
 use Rattle.walks.specs.declared.Partner.{Partner}
 use Rattle.walks.specs.Walks.{Kept, walk_up, walk_down, fits_at, met_behind, met_ahead, rides_up, rides_down, Legs, Before, Marked}
 use Rattle.walks.proofs.Riding.{roomy}
-
--- a test that fails at j, and at k unless that is j
-pub fails-at : (f : ℕ → Bool) (j k : ℕ) → f j ≡ false → ((k ≡ j → ⊥) → f k ≡ false) → f k ≡ false
-fails-at f j k e o = decided (eqb k j) (λ t. ap f (eqb-true k j t) ∙ e) (λ t. o (eqb-false k j t))
 
 -- ---- the sets before the stops
 
@@ -129,13 +125,6 @@ module _ (f m : ℕ → Bool) (n r : ℕ) (fit : (k : ℕ) → k < n → f k ≡
       (λ e. let z = eqb-true r (suc i) e in let y : r - 1 ≡ i = omega arith in rw (sym (ap m y) ∙ here (omega arith)) (sym (lt-ltb i r (omega arith))))
       (λ e. let z = eqb-false r (suc i) e in let o = ltb-false (suc i) r t in rw (none i (omega arith) (omega arith), t) (sym (le-ltb i r (omega arith))))))
 
--- as far as the stop s, or all n legs; and from the stop s on, or from the first leg
-pub end_is : (s n : ℕ) {e : ℕ} → e ≡ cond (ltb s n) s n → e ≡ min s n
-end_is s n z = z ∙ decided (ltb s n) (λ t. let o = ltb-true s n t in rw t (omega arith)) (λ t. let o = ltb-false s n t in rw t (omega arith))
-
-pub start-low : (s n : ℕ) {e : ℕ} → e ≡ cond (leb s n) s 0 → e ≤ n
-start-low s n z = rw z (decided (leb s n) (λ t. rw t (leb-true s n t)) (λ t. rw t (omega arith)))
-
 module _ {l h : List ℕ} {ride : Ride} (g : Legs l h ride) (room : ride.highest + ride.load ≤ ride.capacity) {a b : List ℕ} (k : Marked l ride.legs a b)
     (y : Partner) (near : y.node < 64) where
   abbrev n : ℕ
@@ -145,7 +134,7 @@ module _ {l h : List ℕ} {ride : Ride} (g : Legs l h ride) (room : ride.highest
   at-stop : {stop : ℕ} → stop ≡ get_or a y.node 0 → (i : ℕ) → i ≤ n → (get_or l i 0 ≡ y.node) ↔ (stop ≡ i)
   at-stop e i h = rw (e, get_d_any a y.node 0 64 (omega (arith, k.long))) (k.stop i y.node h)
 
-  module _ {stop end r : ℕ} (e : stop ≡ get_or a y.node 0) (z : end ≡ cond (ltb stop n) stop n)
+  module _ {stop end r : ℕ} (e : stop ≡ get_or a y.node 0) (z : end ≡ min stop n)
       (p : (r ≤ end) × ((i : ℕ) → i < r → has y.places (get_or l i 0) ≡ false) × (r < end → has y.places (get_or l r 0) ≡ true)) where
     -- the ride is on from the first leg on at which the partner is met
     pub first-rides : (i : ℕ) → i < n → rides_up l h ride y i ≡ not (ltb i r)
@@ -153,28 +142,22 @@ module _ {l h : List ℕ} {ride : Ride} (g : Legs l h ride) (room : ride.highest
     first-rides i c = up-met (fits_at h ride) (met_behind l y) n r (roomy g room) none here (i + 1) (omega arith) ∙ turned
       where
         none : (j : ℕ) → j < r → met_behind l y j ≡ false
-        none j d = rw (ne_eqb (get_or l j 0) y.node (λ q. absurd (omega (arith, d, p.0, end_is stop n z, (at-stop e j (omega (arith, d, p.0, end_is stop n z))).0 q))), p.1 j d) refl
+        none j d = rw (ne_eqb (get_or l j 0) y.node (λ q. absurd (omega (arith, d, p.0, (at-stop e j (omega (arith, d, p.0))).0 q))), p.1 j d) refl
 
         here : r < n → met_behind l y r ≡ true
         here d = decided (ltb r end) (λ t. rw (p.2 (ltb-true r end t)) (or-true (eqb (get_or l r 0) y.node)))
-            (λ t. let o = ltb-false r end t in rw (eq-eqb (get_or l r 0) y.node ((at-stop e r (omega arith)).1 (omega (arith, d, o, p.0, end_is stop n z)))) refl)
+            (λ t. let o = ltb-false r end t in rw (eq-eqb (get_or l r 0) y.node ((at-stop e r (omega arith)).1 (omega (arith, d, o, p.0)))) refl)
 
         turned : ltb r (i + 1) ≡ not (ltb i r)
         turned = decided (ltb i r) (λ t. rw t (le-ltb r (i + 1) (omega (arith, ltb-true i r t)))) (λ t. rw t (lt-ltb r (i + 1) (omega (arith, ltb-false i r t))))
 
-  module _ {stop start r : ℕ} (e : stop ≡ get_or a y.node 0) (z : start ≡ cond (leb stop n) stop 0)
+  module _ {stop start r : ℕ} (e : stop ≡ get_or a y.node 0) (stands : stop ≤ n → start ≡ stop) (away : n < stop → start ≡ 0)
       (p : (start ≤ r) × (r ≤ n) × ((i : ℕ) → r ≤ i → i < n → has y.places (get_or l i 0) ≡ false) × (start < r → has y.places (get_or l (r - 1) 0) ≡ true)) where
     -- and up to the last
     pub last-rides : (i : ℕ) → i < n → rides_down l h ride y i ≡ ltb i r
     unfolding rides_down
     last-rides i c = down-met (fits_at h ride) (met_ahead l y) n r (roomy g room) p.1 none here (n - i) i (omega arith)
       where
-        stands : stop ≤ n → start ≡ stop
-        stands d = z ∙ rw (le-leb stop n d) refl
-
-        away : n < stop → start ≡ 0
-        away d = z ∙ rw (lt-leb stop n d) refl
-
         none : (j : ℕ) → r ≤ j → j < n → met_ahead l y j ≡ false
         none j o d = rw (
           ne_eqb (get_or l (j + 1) 0) y.node

@@ -17,10 +17,6 @@ use Rattle.walks.proofs.WalkLaws.{kept-none, kept-join, kept-leg}
 pub roomy : {l h : List ℕ} {r : Ride} → Legs l h r → r.highest + r.load ≤ r.capacity → (i : ℕ) → i < r.legs → fits_at h r i ≡ true
 roomy {h = h} {r} g a i b = le-leb (get_or h i 0 + r.load) r.capacity (omega (arith, g.loads i b))
 
--- what a leg has aboard, and the load, as `has_room` asks
-pub asks-room : {l h : List ℕ} {r : Ride} → Legs l h r → (i : ℕ) → i < r.legs → (get_or h i 0 < 1099511627776) × (r.load < 4294967296)
-asks-room g i b = (omega (arith, g.loads i b, g.high), g.low)
-
 -- ---- forward; f says that a leg has room, m that a ride may begin on it, b that one is on before the first
 
 -- the legs before the i-th are done: `on` is the flag behind them, and w is what they leave of the word
@@ -75,13 +71,14 @@ module _ (l : List ℕ) (f m : ℕ → Bool) (b : Bool) (n : ℕ) {word : ℕ} w
   unfolding walk_down
   back-begin = record { flag = let e : n - n ≡ 0 = omega arith in rw e refl; kept = kept-none l n n _ word (omega arith) }
 
-  -- i is the leg before those that are done
-  pub back-next : {i w v : ℕ} {on now : Bool} → Back l f m b n word (suc i) w on → i < n → now ≡ (f i && (m i || on)) → v ≡ struck w (get_or l i 0) now
-      → Back l f m b n word i v now
-  back-next {i} {w} {v} {on} {now} p a e s =
-      let z : now ≡ walk_down f m b i (n - i) = e ∙ ap (λ (t : Bool). f i && (m i || t)) p.flag ∙ sym (down-next f m b n i a) in record {
+  -- j is the leg before those that are done
+  pub back-next : {i j w v : ℕ} {on now : Bool} → Back l f m b n word i w on → i ≡ suc j → j < n → now ≡ (f j && (m j || on)) → v ≡ struck w (get_or l j 0) now
+      → Back l f m b n word j v now
+  back-next {j = j} {now = now} p o a e s =
+      let q = rw o at p in
+      let z : now ≡ walk_down f m b j (n - j) = e ∙ ap (λ (t : Bool). f j && (m j || t)) q.flag ∙ sym (down-next f m b n j a) in record {
         flag = z;
-        kept = rw (s, z) (kept-join p.kept (kept-leg l _ i) (omega arith) (omega arith) (omega arith) (omega arith));
+        kept = rw (s, z) (kept-join q.kept (kept-leg l _ j) (omega arith) (omega arith) (omega arith) (omega arith));
       }
 
 -- ---- where the fullest leg has room, a ride from the start is on every leg, and one to the end

@@ -1,7 +1,7 @@
 // A word of places against a load that is to ride: leg by leg, or all legs at once where each has room.
 #![tactic(auto)]
 
-ghost use Rattle.std.specs.Prelude.{◌≡◌, true, false, cond, not, ◌&&◌, ◌||◌, ℕ, ◌+◌, ◌-◌, ◌<◌, ◌≤◌, leb, get_or, length, replicate};
+ghost use Rattle.std.specs.Prelude.{◌≡◌, true, false, not, ◌&&◌, ◌||◌, ℕ, ◌+◌, ◌-◌, ◌<◌, ◌≤◌, leb, get_or, length, replicate};
 ghost use Rattle.bits.specs.Places.{has};
 ghost use Rattle.walks.specs.Walks.{Kept, Legs, Before, Marked, struck, rides_up, rides_down, from_start, to_end};
 
@@ -68,20 +68,11 @@ pub fn befores(route: &[usize; Node::MOST], legs: usize, before: &mut [u64; Node
     ensures { Before route.now legs before.new }
 {
     let mut w: u64 = 0;
-    let mut i = 0;
-    while i < legs {
+    for i in 0..legs {
         let p = route[i];
         w = bits::put(w, p);
         before[i + 1] = w;
-        i += 1;
     }
-}
-
-// One of two numbers, by a test.
-fn choose(yes: bool, a: usize, b: usize) -> usize
-    ensures { result ≡ cond yes a b }
-{
-    if yes { a } else { b }
 }
 
 // The first of the legs before `end` in which a node with these places is open; `end` where it is in none.
@@ -93,15 +84,9 @@ fn first_open(route: &[usize; Node::MOST], places: u64, end: usize) -> usize
     if places == 0 {
         return end;
     }
-    let mut i = 0;
-    while i < end {
-        let p = route[i];
-        if bits::holds(places, p) {
-            return i;
-        }
-        i += 1;
-    }
-    end
+    (0..end)
+        .find(|i| bits::holds(places, route[*i]))
+        .unwrap_or(end)
 }
 
 // From the end: one more than the last of the legs from `start` on in which it is open; `start` where it is in none.
@@ -113,16 +98,10 @@ fn last_open(route: &[usize; Node::MOST], places: u64, start: usize, legs: usize
     if places == 0 {
         return start;
     }
-    let mut past = legs;
-    while start < past {
-        let leg = past - 1;
-        let p = route[leg];
-        if bits::holds(places, p) {
-            return past;
-        }
-        past = leg;
-    }
-    start
+    (start..legs)
+        .rev()
+        .find(|leg| bits::holds(places, route[*leg]))
+        .map_or(start, |leg| leg + 1)
 }
 
 // Forward: a place stays where the load fits leg by leg back to a leg at which the partner stands or in which it is open. Where the fullest leg
@@ -143,22 +122,17 @@ pub fn forward(
         return 0;
     }
     if fits_all(ride) {
-        let y = partner.node;
-        let legs = ride.legs;
-        let stop = spots[y];
-        let end = choose(stop < legs, stop, legs);
+        let end = spots[partner.node].min(ride.legs);
         let first = first_open(route, partner.places, end);
         return less(word, before[first]);
     }
     let mut w = word;
     let mut on = false;
-    let mut i = 0;
-    while i < ride.legs {
+    for i in 0..ride.legs {
         let p = route[i];
         let met = (p == partner.node) | bits::holds(partner.places, p);
         on = rides(h[i], ride, met, on);
         w = strike(w, p, on);
-        i += 1;
     }
     w
 }
@@ -180,21 +154,17 @@ pub fn backward(
         return 0;
     }
     if fits_all(ride) {
-        let y = partner.node;
         let legs = ride.legs;
-        let stop = spots[y];
-        let start = choose(stop <= legs, stop, 0);
+        let stop = spots[partner.node];
+        let start = if stop <= legs { stop } else { 0 };
         let last = last_open(route, partner.places, start, legs);
         return less(word, less(before[legs], before[last]));
     }
     let mut w = word;
     let mut on = false;
-    let mut i = ride.legs;
-    while 0 < i {
-        let k = route[i];
-        i -= 1;
+    for i in (0..ride.legs).rev() {
         let p = route[i];
-        let met = (k == partner.node) | bits::holds(partner.places, p);
+        let met = (route[i + 1] == partner.node) | bits::holds(partner.places, p);
         on = rides(h[i], ride, met, on);
         w = strike(w, p, on);
     }
@@ -219,11 +189,9 @@ pub fn from_start(
     }
     let mut w = word;
     let mut on = true;
-    let mut i = 0;
-    while i < ride.legs {
+    for i in 0..ride.legs {
         on = rides(h[i], ride, false, on);
         w = strike(w, route[i], on);
-        i += 1;
     }
     w
 }
@@ -241,9 +209,7 @@ pub fn to_end(word: u64, route: &[usize; Node::MOST], h: &[usize; Node::MOST], r
     }
     let mut w = word;
     let mut on = true;
-    let mut i = ride.legs;
-    while 0 < i {
-        i -= 1;
+    for i in (0..ride.legs).rev() {
         on = rides(h[i], ride, false, on);
         w = strike(w, route[i], on);
     }

@@ -38,22 +38,17 @@ pub struct Four {
     pub fourth: u32,
 }
 
-fn wide(x: u8) -> u32
-    ensures { (result ≡ x) × (result < 256) }
-{
-    x as u32
-}
-
 // The i-th word of a sheet: one load, with no test, since the caller knows that it is there.
+#[tactic(auto, unfolding(crate::specs::Word::word_at))]
 pub fn word(s: &[u8], i: usize) -> u32
     requires { i < words s.now }
     ensures { Reads (word_at s.now i) result }
 {
     let p = 4 * i;
-    let a = wide(s[p]);
-    let b = wide(s[p + 1]);
-    let c = wide(s[p + 2]);
-    let d = wide(s[p + 3]);
+    let a = u32::from(s[p]);
+    let b = u32::from(s[p + 1]);
+    let c = u32::from(s[p + 2]);
+    let d = u32::from(s[p + 3]);
     a + 256 * b + 65536 * c + 16777216 * d
 }
 
@@ -85,6 +80,7 @@ pub fn four_words(s: &[u8], from: usize, width: usize, i: usize) -> Four
 }
 
 // Whether a number is one of the eight bits.
+#[tactic(auto, unfolding(rules::specs::Class::one_bit, laws::specs::Basic::any_below))]
 fn one_bit(bit: u32) -> bool
     ensures { result ≡ one_bit bit }
 {
@@ -110,6 +106,7 @@ fn node_ok(earliest: u32, latest: u32, service: u32, set: u32) -> bool
     (earliest <= latest) & (latest <= 1000000) & (service <= 1000000) & ((1 <= set) & (set <= 255))
 }
 
+#[tactic(auto, unfolding(rules::specs::Day::is_inner))]
 fn is_inner(n: u32, x: u32) -> bool
     requires { 2 ≤ n }
     ensures { result ≡ is_inner n x }
@@ -123,9 +120,10 @@ fn second_ok(n: u32, kind: u32, a: u32, b: u32) -> bool
     ensures { result ≡ second_ok n kind a b }
 {
     if kind == 3 {
-        return is_inner(n, b) & (a != b);
+        is_inner(n, b) & (a != b)
+    } else {
+        ((kind == 1) | (kind == 2)) & (b == 0)
     }
-    ((kind == 1) | (kind == 2)) & (b == 0)
 }
 
 fn job_ok(n: u32, kind: u32, a: u32, b: u32, load: u32) -> bool
@@ -147,14 +145,7 @@ pub fn all_limits_ok(s: &[u8], from: usize, v: usize) -> bool
     requires { from + size.van * v ≤ words s.now }
     ensures { result ≡ all_below v (limits_at_ok s.now from) }
 {
-    let mut i = 0;
-    while i < v {
-        if !limits_at_ok(s, from, i) {
-            return false;
-        }
-        i += 1;
-    }
-    true
+    (0..v).all(|i| limits_at_ok(s, from, i))
 }
 
 fn node_at_ok(s: &[u8], from: usize, i: usize) -> bool
@@ -169,14 +160,7 @@ pub fn nodes_ok(s: &[u8], from: usize, n: usize) -> bool
     requires { from + size.node * n ≤ words s.now }
     ensures { result ≡ all_below n (node_at_ok s.now from) }
 {
-    let mut i = 0;
-    while i < n {
-        if !node_at_ok(s, from, i) {
-            return false;
-        }
-        i += 1;
-    }
-    true
+    (0..n).all(|i| node_at_ok(s, from, i))
 }
 
 fn job_at_ok(s: &[u8], n: u32, from: usize, i: usize) -> bool
@@ -191,14 +175,7 @@ pub fn jobs_ok(s: &[u8], n: u32, from: usize, m: usize) -> bool
     requires { (2 ≤ n) × (from + size.job * m ≤ words s.now) }
     ensures { result ≡ all_below m (job_at_ok s.now n from) }
 {
-    let mut i = 0;
-    while i < m {
-        if !job_at_ok(s, n, from, i) {
-            return false;
-        }
-        i += 1;
-    }
-    true
+    (0..m).all(|i| job_at_ok(s, n, from, i))
 }
 
 fn entry_ok(s: &[u8], from: usize, i: usize) -> bool
@@ -217,12 +194,9 @@ fn each_ok(s: &[u8], from: usize, m: usize) -> bool
     if s.len() / 4 < from + m {
         return false;
     }
-    let mut i = 0;
     let mut ok = true;
-    while i < m {
-        let one = entry_ok(s, from, i);
-        ok = ok & one;
-        i += 1;
+    for i in 0..m {
+        ok &= entry_ok(s, from, i);
     }
     ok
 }
@@ -248,15 +222,11 @@ pub fn entries_ok(s: &[u8], from: usize, m: usize) -> bool
     }
     let part = m / 4;
     let mut all: u32 = 0;
-    let mut i = 0;
-    while i < part {
-        all = all | or_of_four(s, from + i, part);
-        i += 1;
+    for i in 0..part {
+        all |= or_of_four(s, from + i, part);
     }
-    i = 4 * part;
-    while i < m {
-        all = all | word(s, from + i);
-        i += 1;
+    for i in 4 * part..m {
+        all |= word(s, from + i);
     }
     if all <= 1000000 {
         return true;

@@ -1,0 +1,7 @@
+use mathlib.Core.Path.{sym}
+use Rattle.bits.proofs.Members.{has-high, without-no}
+use borrow.Author.Rules.{rules}
+use Rattle.bits.proofs.without.Goals as goal
+
+pub returns-else-p-lt-PLACES : goal.returns-else-p-lt-PLACES
+returns-else-p-lt-PLACES c = sym (without-no _ _ (has-high _ _ c.ranges.w.fits c.if-p-lt-PLACES.false))

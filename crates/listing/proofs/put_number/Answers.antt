@@ -1,0 +1,13 @@
+use native.Mathlib.Omega.{arith}
+use Rattle.listing.proofs.PutLaws.{put-length}
+use Rattle.listing.proofs.TextLaws.{put-hundred, hundredth-short}
+use Rattle.listing.proofs.put_number.Goals as goal
+
+pub put_pair-requires : goal.put_pair-requires
+put_pair-requires c =
+    let p = c.put_short-i.ensures in
+    (omega arith, omega (arith, p.next-is, hundredth-short c.args.v c.ranges.v.fits, put-length p))
+
+pub returns-then-v-lt10000 : goal.returns-then-v-lt10000
+returns-then-v-lt10000 c =
+    put-hundred c.args.v c.ranges.v.fits c.if-v-lt100.false c.put_short-i.ensures c.put_pair.ensures

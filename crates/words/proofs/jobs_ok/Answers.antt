@@ -1,0 +1,8 @@
+use Rattle.std.proofs.Common.{rules}
+use borrow.Author.Tests.{tests}
+use Rattle.laws.proofs.Ranges.{all_over_range}
+use Rattle.words.specs.Word.{job_at_ok}
+use Rattle.words.proofs.jobs_ok.Goals as goal
+
+pub returns : goal.returns
+returns c = all_over_range c.args.m (job_at_ok c.args.s.now c.args.n c.args.from) c.all.ensures.ran (cc) (λ x b q k. search (rules, tests))
