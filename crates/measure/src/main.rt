@@ -37,11 +37,14 @@ struct Task {
     second: usize,
 }
 
-// One step: the sum of what it gives, of the fleet the stops and records of every state.
+// One step: the sum of what it gives, of the fleet the stops and records of every state. Each stands at a place that the compiler knows, so that no
+// state is copied for the sum.
 fn one_step(sheet: &[u8], fleet: Fleet, trail: &mut [u64], task: Task) -> u64 {
     let s = planner::step(sheet, fleet, trail, task.word, task.first, task.second);
+    let vans = s.fleet.vans;
     let mut sum = (s.answer as u64).wrapping_add(s.rounds as u64);
-    for one in &s.fleet.vans {
+    for j in 0..Fleet::VANS {
+        let one = vans[j];
         sum = sum.wrapping_add((one.stops as u64).wrapping_add(one.records as u64));
     }
     sum
@@ -151,6 +154,17 @@ fn repeat<F: FnMut(&[u8]) -> u64>(count: usize, sheet: &mut [u8], mut one: F) ->
     for i in 0..count {
         mark(sheet, spot, i % 1000);
         sum = sum.wrapping_add(one(sheet));
+    }
+    sum
+}
+
+// The same of a step: a closure that holds the fleet would copy it once more each time.
+fn repeat_step(count: usize, sheet: &mut [u8], fleet: Fleet, trail: &mut [u64], task: Task) -> u64 {
+    let spot = diagonal(sheet);
+    let mut sum = 0u64;
+    for i in 0..count {
+        mark(sheet, spot, i % 1000);
+        sum = sum.wrapping_add(one_step(sheet, fleet, trail, task));
     }
     sum
 }
@@ -296,7 +310,7 @@ fn repeat_on(
         1 => repeat(count, sheet, |s| one_opening(s)),
         6 => repeat(count, sheet, |s| one_verdict(s, fleet)),
         8 => repeat(count, sheet, |s| one_count(s, fleet)),
-        _ => repeat(count, sheet, |s| one_step(s, fleet, lent, task)),
+        _ => repeat_step(count, sheet, fleet, lent, task),
     };
     tell(rt, sum)
 }
