@@ -1,5 +1,5 @@
 -- The step of each kind, and the two ways it ends.
-use mathlib.Core.Path.{◌≡◌, refl, sym, ap, ◌∙◌}
+use mathlib.Core.Path.{◌≡◌, refl, sym, ap, ap₂, ◌∙◌}
 use mathlib.Core.Bool.{true, false, ◌&&◌}
 use mathlib.Core.List.{List}
 use mathlib.Core.Logic.{◌≢◌}
@@ -16,18 +16,22 @@ use Rattle.rules.specs.declared.Step.{Step}
 use Rattle.board.specs.Board.{board_of}
 use Rattle.board.specs.Held.{Sound}
 use Rattle.board.specs.declared.State.{State}
-use Rattle.trail.specs.Steps.{unless_refused, undo_level, dropped, back_step, oblige_step}
+use Rattle.trail.specs.declared.Outcome.{Outcome}
+use Rattle.trail.specs.Steps.{rounds_in, rounds_of, unless_refused, undo_level, dropped, back_step, oblige_step}
 use Rattle.records.proofs.UndoLaws.{many-sound}
 use Rattle.van.specs.Act.{act_of}
 use Rattle.fleet.specs.Fleet.{state_in, trail_in}
 use Rattle.fleet.specs.Form.{shares_none}
+use Rattle.fleet.specs.Rows.{fleet_with}
 use Rattle.fleet.specs.declared.Fleet.{Fleet}
 use Rattle.turns.specs.Together.{RanAll, acted_all, ran_all, unless_barred, alone}
 use Rattle.turns.specs.Turn.{turns_of, EightRows}
 use Rattle.bars.specs.Bars.{place_bar}
 use Rattle.acts.specs.Act.{level_bar, back_bar, of_one_van, van_act, act_all}
 use Rattle.acts.specs.Known.{Did}
-use Rattle.turns.specs.declared.Outcomes.{Outcomes}
+use Rattle.std.specs.Prelude.{Result}
+use Rattle.rules.specs.Refused.{number_in}
+use Rattle.rules.specs.declared.Refusal.{Refusal}
 
 -- ---- which kind it is
 
@@ -75,7 +79,7 @@ module _ (vans : ℕ → Van) (d : Day) (v : ℕ) (f : Fleet) (t : List ℕ) (st
 -- ---- done in place
 
 -- what the arrays hold is what the step gives
-pub did : {k v : ℕ} {want : RanAll} (o : Outcomes) {routes sets levels figures : List (List ℕ)} {t : List ℕ} → EightRows routes sets levels figures → want ≡ ran_all o routes sets levels figures t
+pub did : {k v : ℕ} {want : RanAll} (o : Result ℕ Refusal) {routes sets levels figures : List (List ℕ)} {t : List ℕ} → EightRows routes sets levels figures → want ≡ ran_all o routes sets levels figures t
     → Did k v want o routes sets levels figures t
 did o rows e = record {
   answer = sym (ap (λ (r : RanAll). r.0.answer) e);
@@ -84,8 +88,15 @@ did o rows e = record {
   eight = rows;
 }
 
+-- a step of one van, of which the code hands on the refusal or the rounds
+pub did-in-van : {k v : ℕ} {want : RanAll} {r : Result ℕ Refusal} (o : Result Outcome Refusal) {routes sets levels figures : List (List ℕ)} {t : List ℕ}
+    → (number_in r ≡ number_in o) × (rounds_of r ≡ rounds_in o) → EightRows routes sets levels figures
+    → want ≡ acted_all (number_in o) (rounds_in o) (fleet_with routes sets levels figures) t → Did k v want r routes sets levels figures t
+did-in-van o {routes} {sets} {levels} {figures} {t} h rows e =
+    did _ rows (e ∙ ap₂ (λ (a k : ℕ). acted_all a k (fleet_with routes sets levels figures) t) (sym h.0) (sym h.1))
+
 -- the same of a step by another name
-pub did-as : {k v : ℕ} {want other : RanAll} {o : Outcomes} {routes sets levels figures : List (List ℕ)} {t : List ℕ} → other ≡ want → Did k v want o routes sets levels figures t
+pub did-as : {k v : ℕ} {want other : RanAll} {o : Result ℕ Refusal} {routes sets levels figures : List (List ℕ)} {t : List ℕ} → other ≡ want → Did k v want o routes sets levels figures t
     → Did k v other o routes sets levels figures t
 did-as e d = record {
   answer = d.answer ∙ sym (ap (λ (r : RanAll). r.0.answer) e);

@@ -24,7 +24,7 @@ use Rattle.board.specs.Held.{Sound}
 use Rattle.board.proofs.FormLaws.{in-form, form-with}
 use Rattle.board.specs.declared.State.{State}
 use Rattle.records.specs.Trail.{room_of}
-use Rattle.trail.specs.Steps.{Ran, undo_level}
+use Rattle.trail.specs.Steps.{Ran, rounds_of, undo_level}
 use Rattle.van.specs.Known.{Known}
 use Rattle.van.proofs.Ready.{settle-rests}
 use Rattle.fleet.specs.Fleet.{state_in, board_in, share_of, trail_in}
@@ -39,7 +39,9 @@ use Rattle.turns.specs.Together.{RanAll, acted_all, unless_barred}
 use Rattle.turns.specs.Turn.{turns_of, EightRows}
 use Rattle.acts.specs.Act.{back_bar, van_act, act_all}
 use Rattle.acts.specs.Known.{KnownRows, Did}
-use Rattle.turns.specs.declared.Outcomes.{Outcomes}
+use Rattle.std.specs.Prelude.{Result}
+use Rattle.rules.specs.Refused.{number_in}
+use Rattle.rules.specs.declared.Refusal.{Refusal}
 use Rattle.turns.proofs.TogetherLaws.{Reads, barred, unbarred, trails-same, alone-is}
 use Rattle.turns.proofs.PutLaws.{Spot, spot-at, part-lent}
 use Rattle.turns.proofs.EachLaws.{turn_in}
@@ -49,26 +51,26 @@ use Rattle.acts.proofs.Moves.{turns-read, turn-back}
 
 -- ---- an outcome without a round
 
-pub did_of : {k v : ℕ} {want : RanAll} {o : Outcomes} {a : ℕ} (routes sets levels figures : List (List ℕ)) (t : List ℕ)
-    → o ≡ record { answer = a; rounds = 0 } → EightRows routes sets levels figures → want ≡ acted_all a 0 (fleet_with routes sets levels figures) t
+pub did_of : {k v : ℕ} {want : RanAll} {o : Result ℕ Refusal} {a : ℕ} (routes sets levels figures : List (List ℕ)) (t : List ℕ)
+    → (number_in o ≡ a) × (rounds_of o ≡ 0) → EightRows routes sets levels figures → want ≡ acted_all a 0 (fleet_with routes sets levels figures) t
     → Did k v want o routes sets levels figures t
 did_of routes sets levels figures t r rows e = record {
-  answer = ap (λ (o : Outcomes). o.answer) r ∙ sym (ap (λ (w : RanAll). w.0.answer) e);
-  whole = λ n. e ∙ ap (λ (o : Outcomes). acted_all o.answer o.rounds (fleet_with routes sets levels figures) t) (sym r);
+  answer = r.0 ∙ sym (ap (λ (w : RanAll). w.0.answer) e);
+  whole = λ n. e ∙ ap₂ (λ (a k : ℕ). acted_all a k (fleet_with routes sets levels figures) t) (sym r.0) (sym r.1);
   trail = λ z. sym (ap (λ (w : RanAll). w.1) e);
   eight = rows;
 }
 
 -- 20: the answer and the trail are the step's; in several vans the arrays may be half undone
-pub did-misfit : {k v : ℕ} {want : RanAll} {o : Outcomes} (routes sets levels figures : List (List ℕ)) {t t' : List ℕ} {f : Fleet} → k ≡ kinds.BACK → 1 ≤ v
-    → o ≡ record { answer = refusal.MISFIT; rounds = 0 } → EightRows routes sets levels figures → t ≡ t' → want ≡ acted_all refusal.MISFIT 0 f t
+pub did-misfit : {k v : ℕ} {want : RanAll} {o : Result ℕ Refusal} (routes sets levels figures : List (List ℕ)) {t t' : List ℕ} {f : Fleet} → k ≡ kinds.BACK → 1 ≤ v
+    → (number_in o ≡ refusal.MISFIT) × (rounds_of o ≡ 0) → EightRows routes sets levels figures → t ≡ t' → want ≡ acted_all refusal.MISFIT 0 f t
     → (v ≡ 1 → fleet_with routes sets levels figures ≡ f) → Did k v want o routes sets levels figures t'
 did-misfit {v = v} {want} {o} routes sets levels figures {t} {t'} {f} kind some r rows same e one = record {
-  answer = ap (λ (o : Outcomes). o.answer) r ∙ sym (ap (λ (w : RanAll). w.0.answer) e);
+  answer = r.0 ∙ sym (ap (λ (w : RanAll). w.0.answer) e);
   whole = λ n. decided (eqb v 1)
       (λ z. e ∙ ap₂ (λ (g : Fleet) (u : List ℕ). acted_all refusal.MISFIT 0 g u) (sym (one (eqb-true v 1 z))) same
-      ∙ ap (λ (o : Outcomes). acted_all o.answer o.rounds (fleet_with routes sets levels figures) t') (sym r))
-      (λ z. absurd (n kind (omega (arith, some, eqb-false v 1 z)) (ap (λ (o : Outcomes). o.answer) r)));
+      ∙ ap₂ (λ (a k : ℕ). acted_all a k (fleet_with routes sets levels figures) t') (sym r.0) (sym r.1))
+      (λ z. absurd (n kind (omega (arith, some, eqb-false v 1 z)) r.0));
   trail = λ z. sym same ∙ sym (ap (λ (w : RanAll). w.1) e);
   eight = rows;
 }

@@ -21,15 +21,8 @@ use fleet::wards::share_none;
 use rules::{Node, Refusal, Step};
 use settle::settling::none_open;
 use sheet::Layout;
-use turns::Outcomes;
+use trail::{after, rounds};
 use turns::each::each;
-
-// An answer with no rounds.
-fn answered(answer: usize) -> Outcomes
-    ensures { result ≡ record { answer = answer; rounds = 0 } }
-{
-    Outcomes { answer, rounds: 0 }
-}
 
 // Step 1: place a ward in a van, and exclude it from all others.
 fn place(
@@ -41,7 +34,7 @@ fn place(
     figures: &mut [[u64; Figures::COUNT]; Fleet::VANS],
     trail: &mut [u64],
     step: Step,
-) -> Outcomes
+) -> Result<usize, Refusal>
     requires { KnownRows sheet.now at routes.old sets.old levels.old figures.old trail.old
         × (step.kind ≡ kinds.PLACE) × (step.van < vans_of sheet.now) }
     ensures { Did step.kind at.vans (van_act (van_of sheet.now) (day_of sheet.now) (vans_of sheet.now)
@@ -51,7 +44,7 @@ fn place(
     let v = at.vans;
     let n = at.nodes;
     let share = trail.len() / v;
-    let code = place_bar(
+    place_bar(
         sheet,
         at,
         routes,
@@ -61,12 +54,9 @@ fn place(
         step.van,
         step.first,
         step.second,
-    );
-    if code != 0 {
-        return answered(code);
-    }
+    )?;
     each(n, v, share, routes, sets, levels, figures, trail, step);
-    answered(0)
+    Ok(0)
 }
 
 // Steps 2 to 4: in one van.
@@ -79,7 +69,7 @@ fn alone(
     figures: &mut [[u64; Figures::COUNT]; Fleet::VANS],
     trail: &mut [u64],
     step: Step,
-) -> Outcomes
+) -> Result<usize, Refusal>
     requires { KnownRows sheet.now at routes.old sets.old levels.old figures.old trail.old
         × (step.kind ≡ kinds.PLACE → ⊥) × (step.kind ≡ kinds.SETTLE → ⊥) × (step.van < vans_of sheet.now) }
     ensures { Did step.kind at.vans (van_act (van_of sheet.now) (day_of sheet.now) (vans_of sheet.now)
@@ -101,11 +91,8 @@ fn alone(
         &mut trail[from..end],
         step,
     );
-    put_figures(&mut figures[i], o.after);
-    Outcomes {
-        answer: o.answer,
-        rounds: o.rounds,
-    }
+    put_figures(&mut figures[i], after(f, &o));
+    rounds(&o)
 }
 
 // Settling of the named van; `jobs` has the jobs of the sheet by node.
@@ -119,7 +106,7 @@ fn settle_van(
     figures: &mut [[u64; Figures::COUNT]; Fleet::VANS],
     trail: &mut [u64],
     step: Step,
-) -> Outcomes
+) -> Result<usize, Refusal>
     requires known_rows { KnownRows sheet.now at routes.old sets.old levels.old figures.old trail.old
         × (step.kind ≡ kinds.SETTLE) × (step.van < vans_of sheet.now) }
     requires by_node { ByNode (job_in sheet.now) at.jobs jobs.now }
@@ -145,11 +132,8 @@ fn settle_van(
         &mut trail[from..end],
         step,
     );
-    put_figures(&mut figures[i], o.after);
-    Outcomes {
-        answer: o.answer,
-        rounds: o.rounds,
-    }
+    put_figures(&mut figures[i], after(f, &o));
+    rounds(&o)
 }
 
 // Step 5: where the van has an open place, the jobs are put by node, and it settles.
@@ -162,7 +146,7 @@ fn settle_alone(
     figures: &mut [[u64; Figures::COUNT]; Fleet::VANS],
     trail: &mut [u64],
     step: Step,
-) -> Outcomes
+) -> Result<usize, Refusal>
     requires { KnownRows sheet.now at routes.old sets.old levels.old figures.old trail.old
         × (step.kind ≡ kinds.SETTLE) × (step.van < vans_of sheet.now) }
     ensures { Did step.kind at.vans (van_act (van_of sheet.now) (day_of sheet.now) (vans_of sheet.now)
@@ -171,7 +155,7 @@ fn settle_alone(
 {
     let i = step.van;
     if none_open(&sets[i], at.nodes) {
-        return answered(0);
+        return Ok(0);
     }
     let mut jobs = [0u32; Jobs::ROOM];
     by_node(sheet, at, &mut jobs);
@@ -188,14 +172,14 @@ fn in_van(
     figures: &mut [[u64; Figures::COUNT]; Fleet::VANS],
     trail: &mut [u64],
     step: Step,
-) -> Outcomes
+) -> Result<usize, Refusal>
     requires { KnownRows sheet.now at routes.old sets.old levels.old figures.old trail.old }
     ensures { Did step.kind at.vans (van_act (van_of sheet.now) (day_of sheet.now) (vans_of sheet.now)
         (fleet_with routes.old sets.old levels.old figures.old) trail.old step)
         result routes.new sets.new levels.new figures.new trail.new }
 {
     if at.vans <= step.van {
-        return answered(Refusal::VAN);
+        return Err(Refusal::Van);
     }
     if step.kind == Step::PLACE {
         return place(sheet, at, routes, sets, levels, figures, trail, step);
@@ -217,7 +201,7 @@ pub fn settle(
     figures: &mut [[u64; Figures::COUNT]; Fleet::VANS],
     trail: &mut [u64],
     step: Step,
-) -> Outcomes
+) -> Result<usize, Refusal>
     requires known_rows { KnownRows sheet.now at routes.old sets.old levels.old figures.old trail.old × (step.kind ≡ kinds.SETTLE) }
     requires by_node { ByNode (job_in sheet.now) at.jobs jobs.now }
     ensures { Did step.kind at.vans (act_all (van_of sheet.now) (day_of sheet.now) (vans_of sheet.now)
@@ -227,10 +211,10 @@ pub fn settle(
     let v = at.vans;
     let i = step.van;
     if v <= i {
-        return answered(Refusal::VAN);
+        return Err(Refusal::Van);
     }
     if none_open(&sets[i], at.nodes) {
-        return answered(0);
+        return Ok(0);
     }
     settle_van(sheet, at, jobs, routes, sets, levels, figures, trail, step)
 }
@@ -245,7 +229,7 @@ fn level(
     figures: &mut [[u64; Figures::COUNT]; Fleet::VANS],
     trail: &mut [u64],
     step: Step,
-) -> Outcomes
+) -> Result<usize, Refusal>
     requires { KnownRows sheet.now at routes.old sets.old levels.old figures.old trail.old × (step.kind ≡ kinds.LEVEL) }
     ensures { Did step.kind at.vans (act_all (van_of sheet.now) (day_of sheet.now) (vans_of sheet.now)
         (fleet_with routes.old sets.old levels.old figures.old) trail.old step)
@@ -255,12 +239,12 @@ fn level(
     let share = trail.len() / v;
     let one = figures_in(&figures[0]);
     if State::LEVELS <= one.depth {
-        return answered(Refusal::DEPTH);
+        return Err(Refusal::Depth);
     }
     each(
         at.nodes, v, share, routes, sets, levels, figures, trail, step,
     );
-    answered(0)
+    Ok(0)
 }
 
 // Step 7: step back in every van. The rule between vans is asked once, when all have: placing left a record in each, and one alone undone breaks it.
@@ -273,7 +257,7 @@ fn back(
     figures: &mut [[u64; Figures::COUNT]; Fleet::VANS],
     trail: &mut [u64],
     step: Step,
-) -> Outcomes
+) -> Result<usize, Refusal>
     requires { KnownRows sheet.now at routes.old sets.old levels.old figures.old trail.old × (step.kind ≡ kinds.BACK) }
     ensures { Did step.kind at.vans (act_all (van_of sheet.now) (day_of sheet.now) (vans_of sheet.now)
         (fleet_with routes.old sets.old levels.old figures.old) trail.old step)
@@ -284,15 +268,15 @@ fn back(
     let share = trail.len() / v;
     let one = figures_in(&figures[0]);
     if one.depth < 1 {
-        return answered(Refusal::DEPTH);
+        return Err(Refusal::Depth);
     }
     if !each(n, v, share, routes, sets, levels, figures, trail, step) {
-        return answered(Refusal::MISFIT);
+        return Err(Refusal::Misfit);
     }
     if share_none(routes, sets, figures, n, v) {
-        answered(0)
+        Ok(0)
     } else {
-        answered(Refusal::MISFIT)
+        Err(Refusal::Misfit)
     }
 }
 
@@ -306,7 +290,7 @@ fn oblige(
     figures: &mut [[u64; Figures::COUNT]; Fleet::VANS],
     trail: &mut [u64],
     step: Step,
-) -> Outcomes
+) -> Result<usize, Refusal>
     requires { KnownRows sheet.now at routes.old sets.old levels.old figures.old trail.old × (step.kind ≡ kinds.OBLIGE) }
     ensures { Did step.kind at.vans (act_all (van_of sheet.now) (day_of sheet.now) (vans_of sheet.now)
         (fleet_with routes.old sets.old levels.old figures.old) trail.old step)
@@ -315,11 +299,8 @@ fn oblige(
     let share = trail.len() / at.vans;
     let f = figures_in(&figures[0]);
     let o = trail::steps::oblige(f, at.nodes, step.first, &mut trail[0..share]);
-    put_figures(&mut figures[0], o.after);
-    Outcomes {
-        answer: o.answer,
-        rounds: o.rounds,
-    }
+    put_figures(&mut figures[0], after(f, &o));
+    rounds(&o)
 }
 
 // One step of a fleet.
@@ -332,7 +313,7 @@ pub fn act(
     figures: &mut [[u64; Figures::COUNT]; Fleet::VANS],
     trail: &mut [u64],
     step: Step,
-) -> Outcomes
+) -> Result<usize, Refusal>
     requires { KnownRows sheet.now at routes.old sets.old levels.old figures.old trail.old }
     ensures { Did step.kind at.vans (act_all (van_of sheet.now) (day_of sheet.now) (vans_of sheet.now)
         (fleet_with routes.old sets.old levels.old figures.old) trail.old step)
@@ -351,5 +332,5 @@ pub fn act(
     if (Step::PLACE <= kind) & (kind <= Step::SETTLE) {
         return in_van(sheet, at, routes, sets, levels, figures, trail, step);
     }
-    answered(Refusal::KIND)
+    Err(Refusal::Kind)
 }

@@ -5,6 +5,7 @@ ghost use Rattle.std.specs.Prelude.{◌≡◌, List, ℕ, ◌<◌, ◌≤◌};
 ghost use Rattle.laws.specs.Basic.{all_below};
 ghost use Rattle.sheet.specs.Section.{vans_of};
 ghost use Rattle.rules.specs.Numbers.{most_vans};
+ghost use Rattle.rules.specs.Refused.{number_in};
 ghost use Rattle.day.specs.Tell.{day_of};
 ghost use Rattle.records.specs.Trail.{room_of};
 ghost use Rattle.fleet.specs.Fleet.{trail_in};
@@ -63,7 +64,7 @@ fn has_room<'a>(
     })
 }
 
-// Why placing x after p in a van is refused, or 0.
+// Why placing x after p in a van is refused.
 pub fn place_bar<'a>(
     sheet: &[u8],
     at: Layout,
@@ -74,24 +75,21 @@ pub fn place_bar<'a>(
     van: usize,
     p: usize,
     x: usize,
-) -> usize
+) -> Result<(), Refusal>
     requires { ReadyAll sheet.now at routes.now sets.now figures.now × Rows sets.now × (van < vans_of sheet.now) }
     ensures { (levels : List (List ℕ)) (t : List ℕ)
         → ((j : ℕ) → j < vans_of sheet.now → room_of (trail_in (vans_of sheet.now) t j) ≡ room)
-        → result ≡ place_bar (day_of sheet.now) (vans_of sheet.now)
+        → number_in result ≡ place_bar (day_of sheet.now) (vans_of sheet.now)
         (fleet_with routes.now sets.now levels figures.now) t van p x }
 {
     let f = figures_in(&figures[van]);
-    let shut = place_shut(&routes[van], &sets[van], f, at.nodes, p, x);
-    if shut != 0 {
-        return shut;
-    }
+    place_shut(&routes[van], &sets[van], f, at.nodes, p, x)?;
     if is_claimed(sheet, at, routes, sets, figures, van, x) {
-        return Refusal::CLAIMED;
+        return Err(Refusal::Claimed);
     }
     if has_room(sets, figures, at.vans, room, van, x) {
-        0
+        Ok(())
     } else {
-        Refusal::ROOM
+        Err(Refusal::Room)
     }
 }

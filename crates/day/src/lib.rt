@@ -5,49 +5,51 @@ pub mod classes;
 pub mod jobs;
 pub mod look;
 
-ghost use Rattle.std.specs.Prelude.{◌≡◌, ◌+◌, ◌*◌, ◌≤◌};
-ghost use Rattle.sheet.specs.Place.{found};
+ghost use Rattle.std.specs.Prelude.{◌≡◌, ◌+◌, ◌*◌, ◌≤◌, IfOk};
+ghost use Rattle.rules.specs.Refused.{number_in};
+ghost use Rattle.sheet.specs.Place.{Laid};
 ghost use Rattle.day.specs.Refuse.{call_refusal, open_refusal};
 ghost use Rattle.day.specs.Section.{section_in, SpanIn};
 
 use rules::Refusal;
-use sheet::{Found, Layout};
+use sheet::Layout;
 use words::Entry;
 
-// What every call on a sheet checks.
-pub fn checked(s: &[u8]) -> Found
-    ensures { result ≡ found call_refusal s.now }
+// What every call on a sheet checks: where it has what, or why it is refused.
+pub fn checked(s: &[u8]) -> Result<Layout, Refusal>
+    ensures number { number_in result ≡ call_refusal s.now }
+    ensures layout { IfOk result (Laid s.now) }
 {
-    let read = sheet::sections(s);
-    if read.answer != 0 {
-        return read;
+    let at = sheet::sections(s)?;
+    let jobs = jobs::look_over(s, at);
+    if !jobs.apart {
+        return Err(Refusal::Twice);
     }
-    let jobs = jobs::look_over(s, read.layout);
-    let apart = read.judged(jobs.apart, Refusal::TWICE);
-    if apart.answer != 0 {
-        return apart;
+    let most = look::largest(s, at);
+    let light = jobs.heaviest <= most;
+    if !light {
+        return Err(Refusal::Heavy);
     }
-    let most = look::largest(s, apart.layout);
-    let light = apart.judged(jobs.heaviest <= most, Refusal::HEAVY);
-    if light.answer != 0 {
-        return light;
+    if classes::ends_admit(s, at) {
+        Ok(at)
+    } else {
+        Err(Refusal::Class)
     }
-    let ends = classes::ends_admit(s, light.layout);
-    light.judged(ends, Refusal::CLASS)
 }
 
 // What opening checks.
-pub fn opening(s: &[u8]) -> Found
-    ensures { result ≡ found open_refusal s.now }
+pub fn opening(s: &[u8]) -> Result<Layout, Refusal>
+    ensures number { number_in result ≡ open_refusal s.now }
+    ensures layout { IfOk result (Laid s.now) }
 {
-    let call = checked(s);
-    if call.answer != 0 {
-        return call;
+    let at = checked(s)?;
+    let seconds = tables::triangle_ok(s, at.seconds, at.nodes);
+    let metres = tables::triangle_ok(s, at.metres, at.nodes);
+    if seconds & metres {
+        Ok(at)
+    } else {
+        Err(Refusal::Triangle)
     }
-    let l = call.layout;
-    let seconds = tables::triangle_ok(s, l.seconds, l.nodes);
-    let metres = tables::triangle_ok(s, l.metres, l.nodes);
-    call.judged(seconds & metres, Refusal::TRIANGLE)
 }
 
 // A stretch of words.
@@ -97,12 +99,13 @@ fn span_of(l: Layout, number: usize) -> Span
 pub fn section(s: &[u8], number: usize) -> &[u8]
     ensures { (result.ref_ptr, result.now) ≡ section_in s.entry.ref_ptr s.now number }
 {
-    let call = checked(s);
-    if call.answer != 0 {
-        return &s[..0];
+    match checked(s) {
+        Ok(at) => {
+            let p = span_of(at, number);
+            let from = 4 * p.from;
+            let end = from + 4 * p.count;
+            &s[from..end]
+        },
+        Err(_) => &s[..0],
     }
-    let p = span_of(call.layout, number);
-    let from = 4 * p.from;
-    let end = from + 4 * p.count;
-    &s[from..end]
 }

@@ -1,5 +1,6 @@
 -- What holds of a fleet that steps have led to from the fresh one, where a step leads on, and what a line tells of it.
 use Prim.Native.Nat.{ℕ, ◌+◌, ◌-◌, ◌<◌, ◌≤◌}
+use Rattle.std.specs.Prelude.{Result}
 use mathlib.Core.Bool.{Bool, true, false, cond, not, ◌&&◌, ◌||◌}
 use mathlib.Core.List.{List, [], ◌∷◌}
 use mathlib.Core.Path.{◌≡◌, refl, sym, ap, ap₂, subst, ◌∙◌}
@@ -18,6 +19,7 @@ use Rattle.laws.proofs.AnyLaws.{any-below-i, any-below-same}
 use Rattle.bits.specs.Places.{has}
 use Rattle.bits.proofs.Members.{false-true}
 use Rattle.rules.specs.Numbers.{refusal, most_vans, step_said}
+use Rattle.rules.specs.declared.Refusal.{Refusal}
 use Rattle.rules.specs.declared.Step.{Step}
 use Rattle.rules.specs.Verdict.{alive}
 use Rattle.sheet.specs.Section.{n_of, vans_of}
@@ -41,7 +43,6 @@ use Rattle.fleet.specs.declared.Fleet.{Fleet}
 use Rattle.fleet.proofs.FleetLaws.{state-of}
 use Rattle.fleet.proofs.PlanLaws.{alive-all}
 use Rattle.turns.specs.Together.{RanAll, acted_all, ran_all}
-use Rattle.turns.specs.declared.Outcomes.{Outcomes}
 use Rattle.acts.specs.Act.{act_all}
 use Rattle.acts.specs.Known.{KnownRows, Did}
 use Rattle.turns.specs.Turn.{EightRows}
@@ -288,7 +289,7 @@ rows-held routes sets levels figures h e = (
 
 -- a step of the listing, done in place: no undoing is refused, so the arrays hold what it gives
 pub step-did : {sheet : List ℕ} {f : Fleet} {t : List ℕ} (z : call_refusal sheet ≡ 0) (p : Reached sheet f t) (word a b : ℕ) {said : Step} → said ≡ step_said word a b
-    → {v : ℕ} {o : Outcomes} {routes sets levels figures : List (List ℕ)} {t' : List ℕ}
+    → {v : ℕ} {o : Result ℕ Refusal} {routes sets levels figures : List (List ℕ)} {t' : List ℕ}
     → Did said.kind v (act_all (van_of sheet) (day_of sheet) (vans_of sheet) f t said) o routes sets levels figures t'
     → (step_of sheet f t word a b ≡ ran_all o routes sets levels figures t') × (Rows routes × Rows sets × Rows levels × Figured figures)
 step-did {sheet} {f} {t} z p word a b is {o = o} {routes} {sets} {levels} {figures} {t'} did =

@@ -10,8 +10,7 @@ use Rattle.listing.specs.Text.{route_line, refused_line, step_line}
 use Rattle.fleet.specs.Fleet.{board_in}
 use Rattle.fleet.specs.Sums.{records_all}
 use Rattle.fleet.specs.declared.Fleet.{Fleet}
-use Rattle.turns.specs.Together.{RanAll}
-use Rattle.turns.specs.declared.Turned.{Turned}
+use Rattle.turns.specs.Together.{RanAll, Turned}
 use Rattle.planner.specs.Face.{fresh_of, step_of, count_of, judge_of}
 use Rattle.planner.specs.Promises.{Steps}
 

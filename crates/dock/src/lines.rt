@@ -1,12 +1,14 @@
 // The lines of the steps, the routes at the end, and the whole listing.
 ghost use Rattle.std.specs.Prelude.{◌≡◌, cond, List, [], ℕ, ◌+◌, ◌*◌, ◌<◌, ◌≤◌, length, get_or, replicate};
 ghost use Rattle.rules.specs.Numbers.{most_vans};
+ghost use Rattle.rules.specs.Refused.{number_in};
 ghost use Rattle.sheet.specs.Place.{Laid};
 ghost use Rattle.day.specs.Refuse.{call_refusal};
 ghost use Rattle.day.specs.Tell.{job_in, step_word};
 ghost use Rattle.along.specs.Nodes.{ByNode};
 ghost use Rattle.listing.specs.Put.{Put};
 ghost use Rattle.listing.specs.Text.{step_line};
+ghost use Rattle.trail.specs.Steps.{rounds_of};
 ghost use Rattle.fleet.specs.Rows.{figures_in, fleet_with, Rows, Figured, Blank};
 ghost use Rattle.turns.specs.Together.{ran_all};
 ghost use Rattle.planner.specs.Face.{fresh_of, step_of};
@@ -18,10 +20,9 @@ use day::classes::read_classes;
 use fleet::rows::{figures_in, unpack};
 use fleet::{Fleet, fresh_van};
 use listing::{Three, put_refused, put_route, put_step};
-use rules::{Node, Step};
+use rules::{Node, Refusal, Step};
 use sheet::Layout;
 use telling::{Sums, Told, Way, one_if, stale, sums_now, tell_vans};
-use turns::Outcomes;
 
 // The sheet's i-th step, from 0, on a fleet that was reached from the fresh one: neither sheet nor fleet is asked again, and no undoing is refused.
 // Settling uses the jobs by node that the listing has.
@@ -35,7 +36,7 @@ pub fn step_at(
     levels: &mut [[usize; State::LEVELS]; Fleet::VANS],
     figures: &mut [[u64; Figures::COUNT]; Fleet::VANS],
     trail: &mut [u64],
-) -> Outcomes
+) -> Result<usize, Refusal>
     requires sheet_value { (call_refusal sheet.now ≡ 0) × Laid sheet.now at × (i < at.steps) × ByNode (job_in sheet.now) at.jobs jobs.now }
     requires rows { Rows routes.old × Rows sets.old × Rows levels.old × Figured figures.old }
     requires reached { Reached sheet.now (fleet_with routes.old sets.old levels.old figures.old) trail.old }
@@ -52,22 +53,25 @@ pub fn step_at(
     acts::act(sheet, at, routes, sets, levels, figures, trail, step)
 }
 
-// The line of the i-th step, from 0.
+// The line of the i-th step, from 0: refused it has the number, done the rounds.
 fn put_line(
     out: &mut [u8],
     used: usize,
     i: usize,
-    answer: usize,
-    rounds: usize,
+    answer: Result<usize, Refusal>,
     sums: Sums,
 ) -> usize
     requires { (i < 2000) × (used + 200 ≤ length out.old) }
     ensures { Put out.old used
-        (step_line (i + 1) answer sums.places sums.records rounds (cond sums.alive 1 0)) result out.new }
+        (step_line (i + 1) (number_in answer) sums.places sums.records (rounds_of answer) (cond sums.alive 1 0)) result out.new }
 {
+    let (number, rounds) = match answer {
+        Ok(rounds) => (0, rounds),
+        Err(e) => (e.number(), 0),
+    };
     let head = Three {
         first: (i + 1) as u64,
-        second: answer as u64,
+        second: number as u64,
         third: sums.places as u64,
     };
     let tail = Three {
@@ -107,14 +111,14 @@ fn put_lines(
     let mut sums = sums_now(&told, routes, sets, figures, at.vans);
     let mut used = 0;
     for i in 0..at.steps {
-        let o = step_at(sheet, at, jobs, i, routes, sets, levels, figures, trail);
+        let answer = step_at(sheet, at, jobs, i, routes, sets, levels, figures, trail);
         if stale(figures, &told, at.vans) {
             tell_vans(
                 sheet, at, jobs, routes, sets, figures, false, &mut told, &mut ways,
             );
             sums = sums_now(&told, routes, sets, figures, at.vans);
         }
-        used = put_line(out, used, i, o.answer, o.rounds, sums);
+        used = put_line(out, used, i, answer, sums);
     }
     used
 }
@@ -199,9 +203,8 @@ pub fn list(sheet: &[u8], trail: &mut [u64], out: &mut [u8]) -> usize
     requires { 410800 ≤ length out.old }
     ensures { Put out.old 0 (listing_of sheet.now trail.old) result out.new × (result ≤ 410800) }
 {
-    let found = day::opening(sheet);
-    if found.answer != 0 {
-        return put_refused(out, 0, found.answer as u64);
+    match day::opening(sheet) {
+        Ok(at) => put_all(sheet, at, trail, out),
+        Err(e) => put_refused(out, 0, e.number() as u64),
     }
-    put_all(sheet, found.layout, trail, out)
 }

@@ -4,7 +4,6 @@
 ghost use Rattle.std.specs.Prelude.{◌<◌, ◌≤◌, length};
 
 use board::State;
-use board::places::count;
 use dock::{TEXT, TRAIL};
 use fleet::Fleet;
 use intake::read_full;
@@ -37,12 +36,25 @@ struct Task {
     second: usize,
 }
 
-// One step: the sum of what it gives, of the fleet the stops and records of every state. Each stands at a place that the compiler knows, so that no
+// A step of the first van, or of all, that names no node.
+fn bare_task(kind: usize) -> Task {
+    Task {
+        word: kind,
+        first: 0,
+        second: 0,
+    }
+}
+
+// One step: its rounds or its refusal, and of the fleet the stops and records of every state. Each stands at a place that the compiler knows, so that no
 // state is copied for the sum.
 fn one_step(sheet: &[u8], fleet: Fleet, trail: &mut [u64], task: Task) -> u64 {
-    let s = planner::step(sheet, fleet, trail, task.word, task.first, task.second);
-    let vans = s.fleet.vans;
-    let mut sum = (s.answer as u64).wrapping_add(s.rounds as u64);
+    let mut after = fleet;
+    let number = match planner::step(sheet, &mut after, trail, task.word, task.first, task.second) {
+        Ok(rounds) => rounds,
+        Err(refusal) => refusal.number(),
+    };
+    let vans = after.vans;
+    let mut sum = number as u64;
     for j in 0..Fleet::VANS {
         let one = vans[j];
         sum = sum.wrapping_add((one.stops as u64).wrapping_add(one.records as u64));
@@ -50,26 +62,34 @@ fn one_step(sheet: &[u8], fleet: Fleet, trail: &mut [u64], task: Task) -> u64 {
     sum
 }
 
-// Operation 1: the answer, and the stops of all states.
+// Operation 1: the stops of all states, or the refusal.
 fn one_opening(sheet: &[u8]) -> u64 {
-    let o = planner::open(sheet);
-    let mut sum = o.answer as u64;
-    for one in &o.fleet.vans {
-        sum = sum.wrapping_add(one.stops as u64);
+    match planner::open(sheet) {
+        Ok(fleet) => {
+            let mut sum = 0u64;
+            for one in &fleet.vans {
+                sum = sum.wrapping_add(one.stops as u64);
+            }
+            sum
+        },
+        Err(e) => e.number() as u64,
     }
-    sum
 }
 
-// Operation 6: the answer, and 1 for alive.
+// Operation 6: 1 for alive, or the refusal.
 fn one_verdict(sheet: &[u8], fleet: Fleet) -> u64 {
-    let j = planner::verdict(sheet, fleet);
-    (j.answer as u64).wrapping_add(u64::from(j.alive))
+    match planner::verdict(sheet, fleet) {
+        Ok(alive) => u64::from(alive),
+        Err(e) => e.number() as u64,
+    }
 }
 
-// Operation 8: the answer, and the open places.
+// Operation 8: the open places, or the refusal.
 fn one_count(sheet: &[u8], fleet: Fleet) -> u64 {
-    let p = planner::open_places(sheet, fleet);
-    (p.answer as u64).wrapping_add(p.places as u64)
+    match planner::open_places(sheet, fleet) {
+        Ok(places) => places as u64,
+        Err(e) => e.number() as u64,
+    }
 }
 
 // The stop before the end of a van's route: its last ward, or the start.
@@ -92,7 +112,7 @@ fn turn_of(x: usize, v: usize) -> usize
 }
 
 // Placing ward x, which the vans get by turns, after the last ward of its van. There is no ward 0, so that is refused.
-fn ward_task(fleet: Fleet, v: usize, x: usize) -> Task {
+fn ward_task(fleet: &Fleet, v: usize, x: usize) -> Task {
     let j = turn_of(x, v);
     let last = if x == 0 {
         usize::MAX
@@ -106,14 +126,12 @@ fn ward_task(fleet: Fleet, v: usize, x: usize) -> Task {
     }
 }
 
-// The fleet with the wards from 1 on below `end`, each in its turn.
-fn build(sheet: &[u8], fresh: Fleet, v: usize, trail: &mut [u64], end: usize) -> Fleet {
-    let mut fleet = fresh;
+// Places the wards from 1 on below `end`, each in its turn; where one is refused, the fleet is as it was.
+fn build(sheet: &[u8], fleet: &mut Fleet, v: usize, trail: &mut [u64], end: usize) {
     for x in 1..end {
         let task = ward_task(fleet, v, x);
-        fleet = planner::step(sheet, fleet, trail, task.word, task.first, task.second).fleet;
+        let _ = planner::step(sheet, fleet, trail, task.word, task.first, task.second);
     }
-    fleet
 }
 
 fn set_byte(sheet: &mut [u8], at: usize, b: u8) {
@@ -137,12 +155,10 @@ fn mark(sheet: &mut [u8], spot: usize, v: usize)
 fn diagonal(sheet: &[u8]) -> usize
     ensures { result ≤ 300000 }
 {
-    let found = day::checked(sheet);
-    if found.answer != 0 {
-        return 0;
+    match day::checked(sheet) {
+        Ok(at) => 4 * at.seconds,
+        Err(_) => 0,
     }
-    let at = found.layout;
-    4 * at.seconds
 }
 
 // The sum of one operation over all times, each on a sheet with another number in its mark.
@@ -186,38 +202,21 @@ fn end_of(operation: usize, n: usize) -> usize {
     if stops < 1 { 0 } else { stops - 1 }
 }
 
-// The fleet that an operation starts from; stepping back undoes a level opened before all.
-fn start(
-    operation: usize,
-    sheet: &[u8],
-    fresh: Fleet,
-    v: usize,
-    trail: &mut [u64],
-    n: usize,
-) -> Fleet {
-    let end = end_of(operation, n);
+// Makes of a fresh fleet the one that an operation starts from; stepping back undoes a level opened before all.
+fn start(operation: usize, sheet: &[u8], fleet: &mut Fleet, v: usize, trail: &mut [u64], n: usize) {
     if operation == 9 {
-        let level = planner::step(sheet, fresh, trail, Step::LEVEL, 0, 0);
-        return build(sheet, level.fleet, v, trail, end);
+        let _ = planner::step(sheet, fleet, trail, Step::LEVEL, 0, 0);
     }
-    build(sheet, fresh, v, trail, end)
+    build(sheet, fleet, v, trail, end_of(operation, n));
 }
 
 // The step of an operation: the next ward after the half, stepping back, or settling the first van.
-fn task_of(operation: usize, fleet: Fleet, v: usize, n: usize) -> Task {
+fn task_of(operation: usize, fleet: &Fleet, v: usize, n: usize) -> Task {
     let half = n / 2;
     match operation {
         2 => ward_task(fleet, v, if half < 1 { 0 } else { half - 1 }),
-        9 => Task {
-            word: Step::BACK,
-            first: 0,
-            second: 0,
-        },
-        _ => Task {
-            word: Step::SETTLE,
-            first: 0,
-            second: 0,
-        },
+        9 => bare_task(Step::BACK),
+        _ => bare_task(Step::SETTLE),
     }
 }
 
@@ -237,45 +236,23 @@ fn tell(rt: &impl Print, sum: u64) -> io::Result<()> {
     rt.write_all(b"\n")
 }
 
-// Whether there is no such operation, or it asks for a sheet that opens and this one is refused.
-fn cannot(operation: usize, refusal: usize) -> bool {
-    match operation {
-        1 | 7 => false,
-        2 | 3 | 4 | 5 | 6 | 8 | 9 => refusal != 0,
-        _ => true,
-    }
-}
-
 // One operation on a sheet; the listing alone for operation 0.
 fn measure(rt: &impl Print, operation: usize, count: usize, sheet: &mut [u8]) -> io::Result<()> {
     let mut trail = [0u64; TRAIL];
     let mut out = [0u8; TEXT];
-    if operation == 0 {
-        let used = dock::lines::list(sheet, &mut trail, &mut out);
-        return write(rt, &out, used);
-    }
-    let opened = planner::open(sheet);
-    if cannot(operation, opened.answer) {
-        return rt.write_all(b"cannot\n");
-    }
-    if operation == 7 {
-        return tell(
+    match operation {
+        0 => {
+            let used = dock::lines::list(sheet, &mut trail, &mut out);
+            write(rt, &out, used)
+        },
+        1 => tell(rt, repeat(count, sheet, |s| one_opening(s))),
+        7 => tell(
             rt,
             repeat(count, sheet, |s| listing_of(s, &mut trail, &mut out)),
-        );
+        ),
+        2..=9 => repeat_on(rt, operation, count, sheet, &mut trail),
+        _ => rt.write_all(b"cannot\n"),
     }
-    let found = day::checked(sheet);
-    let at = found.layout;
-    repeat_on(
-        rt,
-        operation,
-        count,
-        sheet,
-        opened.fleet,
-        at.nodes,
-        at.vans,
-        &mut trail,
-    )
 }
 
 // Words of the trail that v vans are lent.
@@ -288,26 +265,28 @@ fn lent_words(v: usize) -> usize
     TRAIL
 }
 
-// One of the operations 1 to 6, 8 and 9 on a sheet of n nodes and v vans.
+// One of the operations 2 to 6, 8 and 9, on a sheet that opens.
 fn repeat_on(
     rt: &impl Print,
     operation: usize,
     count: usize,
     sheet: &mut [u8],
-    fresh: Fleet,
-    n: usize,
-    v: usize,
     trail: &mut [u64],
 ) -> io::Result<()> {
+    let (Ok(fresh), Ok(at)) = (planner::open(sheet), day::checked(sheet)) else {
+        return rt.write_all(b"cannot\n");
+    };
+    let n = at.nodes;
+    let v = at.vans;
     let words = lent_words(v);
     if trail.len() < words {
         return Ok(());
     }
     let lent: &mut [u64] = &mut trail[..words];
-    let fleet = start(operation, sheet, fresh, v, lent, n);
-    let task = task_of(operation, fleet, v, n);
+    let mut fleet = fresh;
+    start(operation, sheet, &mut fleet, v, lent, n);
+    let task = task_of(operation, &fleet, v, n);
     let sum = match operation {
-        1 => repeat(count, sheet, |s| one_opening(s)),
         6 => repeat(count, sheet, |s| one_verdict(s, fleet)),
         8 => repeat(count, sheet, |s| one_count(s, fleet)),
         _ => repeat_step(count, sheet, fleet, lent, task),

@@ -2,7 +2,7 @@
 use Rattle.day.specs.Section.{section_in}
 use Rattle.planner.specs.Face.{open_of, step_of, count_of, judge_of}
 use Rattle.planner.specs.Promises.{Promised}
-use Rattle.planner.proofs.One.{equated, equating, jobs-read}
+use Rattle.planner.proofs.One.{equated, one-opened, one-stepped, one-counted, one-judged, jobs-read}
 use Rattle.planner.proofs.Answers.{unchanged}
 use Rattle.planner.proofs.FreshFleet.{fresh-in-form, fresh-sets}
 use Rattle.planner.proofs.Admitted.{only-admitted}
@@ -13,11 +13,11 @@ use Rattle.planner.proofs.Worked.{worked-out, alike}
 
 pub promised : Promised
 promised = record {
-  one-opening = λ sheet. equated (open_of sheet);
+  one-opening = λ sheet. one-opened (open_of sheet);
   one-section = λ at sheet number. equated (section_in at sheet number);
-  one-step = λ sheet f t word a b. equating (step_of sheet f t word a b);
-  one-count = λ sheet f. equated (count_of sheet f);
-  one-verdict = λ sheet f. equated (judge_of sheet f);
+  one-step = λ sheet f t word a b. one-stepped (step_of sheet f t word a b);
+  one-count = λ sheet f. one-counted (count_of sheet f);
+  one-verdict = λ sheet f. one-judged (judge_of sheet f);
   jobs-read = jobs-read;
   unchanged = unchanged;
   fresh-in-form = fresh-in-form;

@@ -1,17 +1,15 @@
--- Asking a call: refused for its sheet, for its form, or not at all.
+-- Asking a call on a sheet that none refuses: refused for the form, or not at all.
 use Prim.Native.Nat.{ℕ}
-use mathlib.Core.Path.{◌≡◌, refl, sym, ◌∙◌}
+use mathlib.Core.Path.{◌≡◌, refl}
 use mathlib.Core.Bool.{true, false}
 use mathlib.Core.List.{List}
 use native.Mathlib.Omega.{arith}
 use Rattle.laws.specs.Basic.{or_else}
-use Rattle.laws.proofs.Choice.{or-else-first}
+use Rattle.laws.proofs.Choice.{first_stops}
 use Rattle.rules.specs.Numbers.{refusal}
 use Rattle.sheet.specs.Section.{n_of, vans_of}
-use Rattle.sheet.specs.Place.{Laid, found}
+use Rattle.sheet.specs.Place.{Laid}
 use Rattle.sheet.specs.declared.Layout.{Layout}
-use Rattle.sheet.specs.declared.Found.{Found}
-use Rattle.sheet.proofs.PlaceLaws.{found-answer}
 use Rattle.day.specs.Refuse.{call_refusal}
 use Rattle.fleet.specs.Form.{in_form_all}
 use Rattle.fleet.specs.declared.Fleet.{Fleet}
@@ -27,17 +25,17 @@ sized l = record {
   small = omega (arith, l.nodes, l.fine.n-high);
 }
 
--- refused for its sheet
-pub ask-refused : (sheet : List ℕ) (f : Fleet) {r : Found} → r ≡ found call_refusal sheet → (r.answer ≡ 0 → ⊥) → r.answer ≡ ask_refusal sheet f
-unfolding ask_refusal
-ask-refused sheet f e n = let a = found-answer call_refusal sheet e in a ∙ or-else-first (call_refusal sheet) _ (λ z. n (a ∙ z))
-
 -- a sheet that no call refuses: the call is refused by the form alone
-module _ (sheet : List ℕ) {r : Found} (e : r ≡ found call_refusal sheet) (z : r.answer ≡ 0) (f : Fleet) where
+module _ (sheet : List ℕ) (z : call_refusal sheet ≡ 0) (f : Fleet) where
   pub ask-taken : in_form_all (n_of sheet) (vans_of sheet) f ≡ true → 0 ≡ ask_refusal sheet f
   unfolding ask_refusal or_else
-  ask-taken q = rw (sym (found-answer call_refusal sheet e) ∙ z, q) refl
+  ask-taken q = rw (z, q) refl
 
   pub ask-form : in_form_all (n_of sheet) (vans_of sheet) f ≡ false → refusal.FORM ≡ ask_refusal sheet f
   unfolding ask_refusal or_else
-  ask-form q = rw (sym (found-answer call_refusal sheet e) ∙ z, q) refl
+  ask-form q = rw (z, q) refl
+
+-- a refused sheet: the call is refused as the sheet is
+pub sheet-first : (sheet : List ℕ) (f : Fleet) (k : ℕ) → k ≡ call_refusal sheet → (k ≡ 0 → ⊥) → k ≡ ask_refusal sheet f
+unfolding ask_refusal
+sheet-first sheet f k e n = first_stops _ e n

@@ -63,10 +63,8 @@ use Rattle.turns.specs.Turn.{turn_of}
 use Rattle.acts.specs.Act.{of_one_van}
 use Rattle.acts.specs.Moved.{RestStays, MovedAll}
 use Rattle.acts.specs.Moved as turns
-use Rattle.planner.specs.Face.{plans_of, count_of, judge_of}
+use Rattle.planner.specs.Face.{Counted, Judged, plans_of, count_of, judge_of}
 use Rattle.planner.specs.Promises.{Took, Passes, in_van_word, plan_at, FormKept, PlacingKeeps, ClosingKeeps, ExcludingKeeps, RequiringKeeps, ObligingKeeps, SettlingStrikes, SettlingRests, SettlingExact, SettlingLargest, SettlingLosesNone, NoGapAlive, DeadNone}
-use Rattle.planner.specs.declared.Counted.{Counted}
-use Rattle.planner.specs.declared.Judged.{Judged}
 use Rattle.planner.proofs.Depths.{shift, shifted}
 use Rattle.planner.proofs.Answers.{ask-clear, acting, van-called, moved, van-goes, InVan, placing, closing, excluding, requiring, settles, settling-plan, obliging, levelling}
 

@@ -8,6 +8,7 @@ use lib.ListN.{length}
 use lib.Dec.{ltb, leb}
 use borrow.Author.Tests.{ltb-true, ltb-false}
 use Rattle.laws.specs.Basic.{all_below, or_else, unless}
+use Rattle.laws.proofs.Choice.{first_stops}
 use Rattle.laws.proofs.Logic.{decided}
 use Rattle.laws.proofs.Below.{below-same}
 use Rattle.rules.specs.Day.{Day}
@@ -25,14 +26,16 @@ use Rattle.fleet.specs.Form.{in_form_all, form_with_all}
 use Rattle.fleet.specs.declared.Fleet.{Fleet}
 use Rattle.fleet.proofs.FleetLaws.{state-of, fleet-eight, fleet-same, idle-none, room-part}
 use Rattle.turns.specs.Together.{RanAll, acted_all}
-use Rattle.turns.specs.declared.Outcomes.{Outcomes}
+use Rattle.std.specs.Prelude.{Result}
+use Rattle.rules.specs.Refused.{number_in}
+use Rattle.rules.specs.declared.Refusal.{Refusal}
 use Rattle.acts.specs.Act.{act_all}
 use Rattle.acts.specs.Known.{Did}
 use Rattle.acts.specs.Moved.{RestStays}
 use Rattle.acts.proofs.Moves.{act-all-leaves}
 use Rattle.planner.specs.Face.{ask_refusal, step_refusal, step_of}
 use Rattle.planner.specs.Promises.{Took}
-use Rattle.planner.proofs.Answers.{call-no, acting, moved}
+use Rattle.planner.proofs.Answers.{unchanged, call-no, acting, moved}
 use Rattle.planner.proofs.Courses.{facts}
 
 -- the room is asked last
@@ -47,6 +50,19 @@ step-last sheet f t = go (call_refusal sheet) (in_form_all (n_of sheet) (vans_of
     go (suc a) b c = refl
 
 module _ (sheet : List ℕ) (f : Fleet) (t : List ℕ) (word a b : ℕ) where
+  -- refused as every call on the sheet is
+  pub refused-sheet : {k : ℕ} → k ≡ call_refusal sheet → (k ≡ 0 → ⊥) → step_of sheet f t word a b ≡ acted_all k 0 f t
+  unfolding step_refusal
+  refused-sheet {k} e n =
+      let same : k ≡ step_refusal sheet f t = first_stops _ e n in
+      call-no sheet f t word a b (λ z. n (same ∙ z)) ∙ ap (λ (j : ℕ). acted_all j 0 f t) (sym same)
+
+  -- refused in rows, whatever was left there: the fleet stays
+  pub refused-in-rows : {k : ℕ} {g : Fleet} {u : List ℕ} → step_of sheet f t word a b ≡ acted_all k 0 g u → (k ≡ 0 → ⊥) → step_of sheet f t word a b ≡ acted_all k 0 f u
+  refused-in-rows {k} {g} {u} e n =
+      let stays = unchanged sheet f t word a b (λ z. n (sym (ap (λ (r : RanAll). r.0.answer) e) ∙ z)) in
+      stays ∙ ap₂ (λ (j : ℕ) (w : List ℕ). acted_all j 0 f w) (ap (λ (r : RanAll). r.0.answer) e) (sym (ap (λ (r : RanAll). r.1) stays) ∙ ap (λ (r : RanAll). r.1) e)
+
   -- refused before the room is asked
   pub refused-asked : {k : ℕ} → k ≡ ask_refusal sheet f → (k ≡ 0 → ⊥) → step_of sheet f t word a b ≡ acted_all k 0 f t
   unfolding or_else
@@ -75,8 +91,8 @@ rooms v f t e = below-same v _ _ (λ j l. ap (λ (r : ℕ). leb (state_in f j).r
 -- ---- a step that was done in rows
 
 -- refused by 20: the fleet as it was
-pub back-leaves : (vans : ℕ → Van) (d : Day) (v : ℕ) (f : Fleet) (t : List ℕ) (step : Step) {k w : ℕ} {o : Outcomes} {routes sets levels figures : List (List ℕ)} {u : List ℕ}
-    → Did k w (act_all vans d v f t step) o routes sets levels figures u → o.answer ≡ refusal.MISFIT → act_all vans d v f t step ≡ acted_all refusal.MISFIT 0 f u
+pub back-leaves : (vans : ℕ → Van) (d : Day) (v : ℕ) (f : Fleet) (t : List ℕ) (step : Step) {k w : ℕ} {o : Result ℕ Refusal} {routes sets levels figures : List (List ℕ)} {u : List ℕ}
+    → Did k w (act_all vans d v f t step) o routes sets levels figures u → number_in o ≡ refusal.MISFIT → act_all vans d v f t step ≡ acted_all refusal.MISFIT 0 f u
 back-leaves vans d v f t step {o = o} did q =
     let e = act-all-leaves vans d v f t step (λ y. absurd (omega (arith, sym q ∙ did.answer ∙ y))) in
     e ∙ ap₂ (λ (k : ℕ) (u : List ℕ). acted_all k 0 f u) (sym did.answer ∙ q) (sym (did.trail q ∙ ap (λ (r : RanAll). r.1) e))

@@ -1,10 +1,11 @@
 // The planner's five entry points. Each is total: any bytes, any fleet, any trail, any numbers.
 #![tactic(auto)]
 
-ghost use Rattle.std.specs.Prelude.{◌≡◌, ◌<◌, List, ℕ};
+ghost use Rattle.std.specs.Prelude.{◌≡◌, ◌<◌, List, ℕ, length};
 ghost use Rattle.laws.specs.Basic.{all_below};
 ghost use Rattle.sheet.specs.Section.{vans_of};
-ghost use Rattle.sheet.specs.Place.{found};
+ghost use Rattle.sheet.specs.Place.{Laid};
+ghost use Rattle.rules.specs.Refused.{number_in};
 ghost use Rattle.day.specs.Refuse.{call_refusal};
 ghost use Rattle.day.specs.Tell.{job_in};
 ghost use Rattle.along.specs.Nodes.{ByNode};
@@ -12,7 +13,8 @@ ghost use Rattle.fleet.specs.Fleet.{HeldAll};
 ghost use Rattle.fleet.specs.Rows.{fleet_with, Rows, Figured, ReadyAll};
 ghost use Rattle.turns.specs.Together.{ran_all};
 ghost use Rattle.acts.specs.Known.{KnownRows};
-ghost use Rattle.planner.specs.Asked.{Sized, DidWhole, lives};
+ghost use Rattle.rules.specs.Numbers.{most_vans};
+ghost use Rattle.planner.specs.Asked.{Taken, Sized, DidWhole, lives};
 ghost use Rattle.planner.specs.Face.{ask_refusal, step_of, Opens, Sections, Stepping, Counts, Judges};
 
 use acts::act;
@@ -23,52 +25,17 @@ use fleet::rows::{figures_in, fleet_of, pack, take_figures, take_levels, take_ro
 use fleet::wards::{places, served};
 use fleet::{Fleet, first_van};
 use rules::{Node, Refusal, Step};
-use sheet::{Found, Layout};
-use turns::{Outcomes, Turned};
+use sheet::Layout;
 
-// What opening gives: 0 and the fresh fleet, or the number of a refusal and the fleet with every number 0.
-#[derive(Clone, Copy)]
-pub struct Opened {
-    pub answer: usize,
-    pub fleet: Fleet,
-}
-
-// The open places in all, or the number of a refusal beside 0.
-#[derive(Clone, Copy)]
-pub struct Counted {
-    pub answer: usize,
-    pub places: usize,
-}
-
-// The verdict, or the number of a refusal beside dead.
-#[derive(Clone, Copy)]
-pub struct Judged {
-    pub answer: usize,
-    pub alive: bool,
-}
-
-// Opens a sheet.
-pub fn open(sheet: &[u8]) -> Opened
+// Opens a sheet: the fresh fleet, or why it is refused.
+pub fn open(sheet: &[u8]) -> Result<Fleet, Refusal>
     ensures { Opens sheet.now result }
 {
-    let found = day::opening(sheet);
-    if found.answer != 0 {
-        return Opened {
-            answer: found.answer,
-            fleet: Fleet::none(),
-        };
+    let laid = day::opening(sheet)?;
+    if laid.vans == 1 {
+        return Ok(Fleet::of_one(first_van(sheet, laid)));
     }
-    let at = found.layout;
-    if at.vans == 1 {
-        return Opened {
-            answer: 0,
-            fleet: Fleet::of_one(first_van(sheet, at)),
-        };
-    }
-    Opened {
-        answer: 0,
-        fleet: Fleet::fresh(sheet, at),
-    }
+    Ok(Fleet::fresh(sheet, laid))
 }
 
 // The stretch of the sheet that holds a section's entries.
@@ -78,24 +45,40 @@ pub fn section(sheet: &[u8], number: usize) -> &[u8]
     day::section(sheet, number)
 }
 
-// Why a call on a fleet in rows is refused, or 0, the trail's room apart: `read` is what checking the sheet found.
+// A fleet taken into rows.
+fn take(
+    fleet: Fleet,
+    routes: &mut [[usize; Node::MOST]; Fleet::VANS],
+    sets: &mut [[u64; Node::MOST]; Fleet::VANS],
+    levels: &mut [[usize; State::LEVELS]; Fleet::VANS],
+    figures: &mut [[u64; Figures::COUNT]; Fleet::VANS],
+)
+    requires { (length routes.old ≡ most_vans) × (length sets.old ≡ most_vans) × (length levels.old ≡ most_vans) × Figured figures.old }
+    ensures { Taken fleet routes.new sets.new levels.new figures.new }
+{
+    take_routes(fleet, routes);
+    take_sets(fleet, sets);
+    take_levels(fleet, levels);
+    take_figures(fleet, figures);
+}
+
+// Whether a call on a fleet in rows is refused for its form, the trail's room apart, on a sheet that no call refuses.
 fn asked<'a>(
-    read: Found,
+    at: Layout,
     routes: &'a [[usize; Node::MOST]; Fleet::VANS],
     sets: &'a [[u64; Node::MOST]; Fleet::VANS],
     levels: &'a [[usize; State::LEVELS]; Fleet::VANS],
     figures: &'a [[u64; Figures::COUNT]; Fleet::VANS],
-) -> usize
-    requires { (read.answer ≡ 0 → Sized read.layout) × Rows routes.now × Rows sets.now × Figured figures.now }
-    ensures { (sheet : List ℕ) → read ≡ found call_refusal sheet
-        → result ≡ ask_refusal sheet (fleet_with routes.now sets.now levels.now figures.now) }
+) -> Result<(), Refusal>
+    requires { Sized at × Rows routes.now × Rows sets.now × Figured figures.now }
+    ensures { (sheet : List ℕ) → call_refusal sheet ≡ 0 → Laid sheet at
+        → number_in result ≡ ask_refusal sheet (fleet_with routes.now sets.now levels.now figures.now) }
 {
-    if read.answer != 0 {
-        return read.answer;
+    if form_ok(routes, sets, levels, figures, at.nodes, at.vans) {
+        Ok(())
+    } else {
+        Err(Refusal::Form)
     }
-    let at = read.layout;
-    let form = form_ok(routes, sets, levels, figures, at.nodes, at.vans);
-    if form { 0 } else { Refusal::FORM }
 }
 
 // Stepping back in several vans, which may find a record that does not fit when some of them are back already: then the rows are put back.
@@ -108,7 +91,7 @@ fn back_or_stay(
     figures: &mut [[u64; Figures::COUNT]; Fleet::VANS],
     trail: &mut [u64],
     step: Step,
-) -> Outcomes
+) -> Result<usize, Refusal>
     requires { KnownRows sheet.now at routes.old sets.old levels.old figures.old trail.old }
     ensures { DidWhole sheet.now
         (fleet_with routes.old sets.old levels.old figures.old) trail.old step
@@ -118,15 +101,16 @@ fn back_or_stay(
     let old_sets = *sets;
     let old_levels = *levels;
     let old_figures = *figures;
-    let o = act(sheet, at, routes, sets, levels, figures, trail, step);
-    if o.answer != Refusal::MISFIT {
-        return o;
+    match act(sheet, at, routes, sets, levels, figures, trail, step) {
+        Err(Refusal::Misfit) => {
+            *routes = old_routes;
+            *sets = old_sets;
+            *levels = old_levels;
+            *figures = old_figures;
+            Err(Refusal::Misfit)
+        },
+        answer => answer,
     }
-    *routes = old_routes;
-    *sets = old_sets;
-    *levels = old_levels;
-    *figures = old_figures;
-    refused(Refusal::MISFIT)
 }
 
 // A step that nothing refuses as a call, done or refused whole.
@@ -139,7 +123,7 @@ fn act_whole(
     figures: &mut [[u64; Figures::COUNT]; Fleet::VANS],
     trail: &mut [u64],
     step: Step,
-) -> Outcomes
+) -> Result<usize, Refusal>
     requires { KnownRows sheet.now at routes.old sets.old levels.old figures.old trail.old }
     ensures { DidWhole sheet.now
         (fleet_with routes.old sets.old levels.old figures.old) trail.old step
@@ -151,10 +135,10 @@ fn act_whole(
     act(sheet, at, routes, sets, levels, figures, trail, step)
 }
 
-// A step in rows: refused as a call is, or for its records, or else what it gives.
+// A step in rows, on a sheet that no call refuses: refused for the fleet's form or its records, or else what it gives.
 fn turn(
     sheet: &[u8],
-    read: Found,
+    at: Layout,
     routes: &mut [[usize; Node::MOST]; Fleet::VANS],
     sets: &mut [[u64; Node::MOST]; Fleet::VANS],
     levels: &mut [[usize; State::LEVELS]; Fleet::VANS],
@@ -163,55 +147,43 @@ fn turn(
     word: usize,
     first: usize,
     second: usize,
-) -> Outcomes
-    requires { (read ≡ found call_refusal sheet.now) × HeldAll (fleet_with routes.old sets.old levels.old figures.old)
+) -> Result<usize, Refusal>
+    requires { (call_refusal sheet.now ≡ 0) × Laid sheet.now at × HeldAll (fleet_with routes.old sets.old levels.old figures.old)
         × Rows routes.old × Rows sets.old × Rows levels.old × Figured figures.old }
     ensures { (step_of sheet.now
         (fleet_with routes.old sets.old levels.old figures.old) trail.old word first second
         ≡ ran_all result routes.new sets.new levels.new figures.new trail.new) × Figured figures.new }
 {
-    let code = asked(read, routes, sets, levels, figures);
-    if code != 0 {
-        return refused(code);
-    }
-    let at = read.layout;
+    asked(at, routes, sets, levels, figures)?;
     let room = trail.len() / at.vans / 2;
     if !within_room(figures, at.vans, room) {
-        return refused(Refusal::FORM);
+        return Err(Refusal::Form);
     }
     let said = Step::said(word, first, second);
     act_whole(sheet, at, routes, sets, levels, figures, trail, said)
 }
 
-fn refused(answer: usize) -> Outcomes
-    ensures { result ≡ record { answer = answer; rounds = 0 } }
-{
-    Outcomes { answer, rounds: 0 }
-}
-
-// One step: the outcome, and the trail. The fleet is taken into rows and changed there; of a fleet of one van the van alone is put back.
+// One step: how many rounds of settling struck something, and the fleet and the trail changed in place; refused, both are as they were. The fleet is taken
+// into rows and changed there; of a fleet of one van the van alone is put back.
 pub fn step(
     sheet: &[u8],
-    fleet: Fleet,
+    fleet: &mut Fleet,
     trail: &mut [u64],
     word: usize,
     first: usize,
     second: usize,
-) -> Turned
-    ensures { Stepping sheet.now fleet trail.old word first second (result, trail.new) }
+) -> Result<usize, Refusal>
+    ensures { Stepping sheet.now fleet.old trail.old word first second (result, fleet.new, trail.new) }
 {
+    let at = day::checked(sheet)?;
     let mut routes = [[0usize; Node::MOST]; Fleet::VANS];
     let mut sets = [[0u64; Node::MOST]; Fleet::VANS];
     let mut levels = [[0usize; State::LEVELS]; Fleet::VANS];
     let mut figures = [[0u64; Figures::COUNT]; Fleet::VANS];
-    take_routes(fleet, &mut routes);
-    take_sets(fleet, &mut sets);
-    take_levels(fleet, &mut levels);
-    take_figures(fleet, &mut figures);
-    let read = day::checked(sheet);
-    let o = turn(
+    take(*fleet, &mut routes, &mut sets, &mut levels, &mut figures);
+    let rounds = turn(
         sheet,
-        read,
+        at,
         &mut routes,
         &mut sets,
         &mut levels,
@@ -220,50 +192,27 @@ pub fn step(
         word,
         first,
         second,
-    );
-    if (o.answer == 0) & (read.layout.vans == 1) {
-        return Turned {
-            answer: 0,
-            rounds: o.rounds,
-            fleet: Fleet::of_one(pack(&routes[0], &sets[0], &levels[0], &figures[0])),
-        };
+    )?;
+    if at.vans == 1 {
+        *fleet = Fleet::of_one(pack(&routes[0], &sets[0], &levels[0], &figures[0]));
+        return Ok(rounds);
     }
-    Turned {
-        answer: o.answer,
-        rounds: o.rounds,
-        fleet: fleet_of(&routes, &sets, &levels, &figures),
-    }
+    *fleet = fleet_of(&routes, &sets, &levels, &figures);
+    Ok(rounds)
 }
 
 // The open places of a fleet in all.
-pub fn open_places(sheet: &[u8], fleet: Fleet) -> Counted
+pub fn open_places(sheet: &[u8], fleet: Fleet) -> Result<usize, Refusal>
     ensures { Counts sheet.now fleet result }
 {
+    let laid = day::checked(sheet)?;
     let mut routes = [[0usize; Node::MOST]; Fleet::VANS];
     let mut sets = [[0u64; Node::MOST]; Fleet::VANS];
     let mut levels = [[0usize; State::LEVELS]; Fleet::VANS];
     let mut figures = [[0u64; Figures::COUNT]; Fleet::VANS];
-    take_routes(fleet, &mut routes);
-    take_sets(fleet, &mut sets);
-    take_levels(fleet, &mut levels);
-    take_figures(fleet, &mut figures);
-    let read = day::checked(sheet);
-    let code = asked(read, &routes, &sets, &levels, &figures);
-    if code != 0 {
-        return uncounted(code);
-    }
-    let at = read.layout;
-    Counted {
-        answer: 0,
-        places: places(&sets, at.nodes, at.vans),
-    }
-}
-
-// 0 stands beside a refusal.
-fn uncounted(answer: usize) -> Counted
-    ensures { result ≡ record { answer = answer; places = 0 } }
-{
-    Counted { answer, places: 0 }
+    take(fleet, &mut routes, &mut sets, &mut levels, &mut figures);
+    asked(laid, &routes, &sets, &levels, &figures)?;
+    Ok(places(&sets, laid.nodes, laid.vans))
 }
 
 // Whether van j is alive; `jobs` has the jobs of the sheet by node.
@@ -301,34 +250,21 @@ fn all_alive<'a>(
     (0..at.vans).all(|j| alive_at(sheet, at, jobs, routes, sets, figures, j))
 }
 
-// The verdict of a fleet.
-pub fn verdict(sheet: &[u8], fleet: Fleet) -> Judged
+// The verdict of a fleet: whether it is alive.
+pub fn verdict(sheet: &[u8], fleet: Fleet) -> Result<bool, Refusal>
     ensures { Judges sheet.now fleet result }
 {
+    let laid = day::checked(sheet)?;
     let mut routes = [[0usize; Node::MOST]; Fleet::VANS];
     let mut sets = [[0u64; Node::MOST]; Fleet::VANS];
     let mut levels = [[0usize; State::LEVELS]; Fleet::VANS];
     let mut figures = [[0u64; Figures::COUNT]; Fleet::VANS];
-    take_routes(fleet, &mut routes);
-    take_sets(fleet, &mut sets);
-    take_levels(fleet, &mut levels);
-    take_figures(fleet, &mut figures);
-    let read = day::checked(sheet);
-    let code = asked(read, &routes, &sets, &levels, &figures);
-    if code != 0 {
-        return judge(code, false);
-    }
-    let at = read.layout;
+    take(fleet, &mut routes, &mut sets, &mut levels, &mut figures);
+    asked(laid, &routes, &sets, &levels, &figures)?;
     let mut jobs = [0u32; Jobs::ROOM];
-    by_node(sheet, at, &mut jobs);
-    if !all_alive(sheet, at, &jobs, &routes, &sets, &figures) {
-        return judge(0, false);
+    by_node(sheet, laid, &mut jobs);
+    if !all_alive(sheet, laid, &jobs, &routes, &sets, &figures) {
+        return Ok(false);
     }
-    judge(0, served(&routes, &sets, &figures, at.vans))
-}
-
-fn judge(answer: usize, alive: bool) -> Judged
-    ensures { result ≡ record { answer = answer; alive = alive } }
-{
-    Judged { answer, alive }
+    Ok(served(&routes, &sets, &figures, laid.vans))
 }

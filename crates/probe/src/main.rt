@@ -7,7 +7,7 @@ use board::State;
 use fleet::Fleet;
 use intake::read_full;
 use listing::put_number;
-use rules::Node;
+use rules::{Node, Refusal};
 use std::array::from_fn;
 use std::io::{self, Read};
 use std::ops::ControlFlow::{self, Break, Continue};
@@ -188,25 +188,42 @@ fn put_fleet(rt: &impl Print, out: &mut [u8], used: usize, fleet: &Fleet) -> io:
     put(rt, out, next, fleet.vans[0].must)
 }
 
-// A question about a sheet and a fleet: the answer, the rounds, the open places, 1 for alive; and the fleet that comes back.
-fn ask(sheet: &[u8], case: Case, trail: &mut [u64]) -> ([usize; 4], Fleet) {
+// A question about a sheet and a fleet: 0, the rounds, the open places, 1 for alive; and the fleet that comes back.
+fn ask(sheet: &[u8], case: Case, trail: &mut [u64]) -> Result<([usize; 4], Fleet), Refusal> {
     let fleet = case.fleet;
     match case.question {
-        0 => {
-            let o = planner::open(sheet);
-            ([o.answer, 0, 0, 0], o.fleet)
-        },
+        0 => Ok(([0; 4], planner::open(sheet)?)),
         1 => {
-            let s = planner::step(sheet, fleet, trail, case.word, case.first, case.second);
-            ([s.answer, s.rounds, 0, 0], s.fleet)
+            let mut after = fleet;
+            let rounds = planner::step(
+                sheet,
+                &mut after,
+                trail,
+                case.word,
+                case.first,
+                case.second,
+            )?;
+            Ok(([0, rounds, 0, 0], after))
         },
-        2 => {
-            let p = planner::open_places(sheet, fleet);
-            ([p.answer, 0, p.places, 0], fleet)
-        },
-        _ => {
-            let v = planner::verdict(sheet, fleet);
-            ([v.answer, 0, 0, usize::from(v.alive)], fleet)
+        2 => Ok(([0, 0, planner::open_places(sheet, fleet)?, 0], fleet)),
+        _ => Ok((
+            [0, 0, 0, usize::from(planner::verdict(sheet, fleet)?)],
+            fleet,
+        )),
+    }
+}
+
+// What the line of such a case tells: where it is refused, the number, and the fleet that was asked about; opening has none, and gives one of zeros.
+fn told(sheet: &[u8], case: Case, trail: &mut [u64]) -> ([usize; 4], Fleet) {
+    match ask(sheet, case, trail) {
+        Ok(told) => told,
+        Err(e) => {
+            let fleet = if case.question == 0 {
+                Fleet::none()
+            } else {
+                case.fleet
+            };
+            ([e.number(), 0, 0, 0], fleet)
         },
     }
 }
@@ -224,8 +241,8 @@ fn answer(
         let a = put_bytes(rt, out, used, planner::section(sheet, case.word))?;
         return Ok(end_line(out, a));
     }
-    let (told, fleet) = ask(sheet, case, trail);
-    let a = put_numbers(rt, out, used, &told)?;
+    let (numbers, fleet) = told(sheet, case, trail);
+    let a = put_numbers(rt, out, used, &numbers)?;
     let b = put_fleet(rt, out, a, &fleet)?;
     let c = put_words(rt, out, b, trail)?;
     Ok(end_line(out, c))

@@ -20,7 +20,7 @@ fn put_printed(input: &[u8], trail: &mut [u64], out: &mut [u8]) -> usize
     ensures { (take result out.new ≡ printed input.now) × (result ≤ length out.new) }
 {
     if SHEET < input.len() {
-        return put_refused(out, 0, Refusal::SHORT as u64);
+        return put_refused(out, 0, Refusal::Short.number() as u64);
     }
     dock::lines::list(input, trail, out)
 }

@@ -85,3 +85,4 @@ pub mod FleetForms
 pub mod FreshRounds
 -- small days, computed
 pub mod Examples
+pub mod Refusals

@@ -25,3 +25,4 @@ pub mod Every
 pub mod Along
 pub mod Fleet
 pub mod Class
+pub mod Refused

@@ -5,6 +5,7 @@
 
 ghost use Rattle.std.specs.Prelude.{◌≡◌};
 ghost use Rattle.rules.specs.Numbers.{step_said};
+ghost use Rattle.rules.specs.Refused.{number_of};
 ghost use Rattle.rules.specs.Load.{load_of};
 ghost use Rattle.rules.specs.Class.{admits};
 
@@ -110,48 +111,38 @@ impl Step {
     }
 }
 
-// Why a sheet or a step is refused: 01's table of numbers. Each is explained in specs/Numbers.antt.
-#[derive(Clone, Copy)]
-pub struct Refusal;
-
-impl Refusal {
+// Why a sheet or a step is refused: 01's table, and 02's, each with its number there. Each is explained in specs/Numbers.antt.
+#[derive(Clone, Copy, Debug, PartialEq, Eq)]
+pub enum Refusal {
     // Of a sheet.
-    pub const SHORT: usize = 1;
-
-    pub const COUNT: usize = 2;
-
-    pub const VALUE: usize = 3;
-
-    pub const TWICE: usize = 4;
-
-    pub const TRIANGLE: usize = 5;
-
-    pub const HEAVY: usize = 6;
-
-    pub const CLASS: usize = 7;
+    Short = 1,
+    Count = 2,
+    Value = 3,
+    Twice = 4,
+    Triangle = 5,
+    Heavy = 6,
+    Class = 7,
 
     // Of a step.
-    pub const KIND: usize = 11;
+    Kind = 11,
+    Node = 12,
+    Placed = 13,
+    Unplaced = 14,
+    Shut = 15,
+    Owed = 16,
+    Room = 17,
+    Depth = 18,
+    Form = 19,
+    Misfit = 20,
+    Van = 21,
+    Claimed = 22,
+}
 
-    pub const NODE: usize = 12;
-
-    pub const PLACED: usize = 13;
-
-    pub const UNPLACED: usize = 14;
-
-    pub const SHUT: usize = 15;
-
-    pub const OWED: usize = 16;
-
-    pub const ROOM: usize = 17;
-
-    pub const DEPTH: usize = 18;
-
-    pub const FORM: usize = 19;
-
-    pub const MISFIT: usize = 20;
-
-    pub const VAN: usize = 21;
-
-    pub const CLAIMED: usize = 22;
+impl Refusal {
+    // Its number in the table.
+    pub fn number(self) -> usize
+        ensures { result ≡ number_of self }
+    {
+        self as usize
+    }
 }

@@ -1,25 +1,15 @@
 -- What reading a sheet hands on, and what is known of an accepted one.
-use Rattle.std.specs.Prelude.{ℕ, ◌+◌, ◌*◌, ◌%◌, ◌≤◌, true, cond, ◌≡◌, List, length, eqb}
+use Rattle.std.specs.Prelude.{ℕ, ◌+◌, ◌*◌, ◌%◌, ◌≤◌, true, ◌≡◌, List, length}
 use Rattle.laws.specs.Basic.{all_below}
 use Rattle.rules.specs.Numbers.{most_vans}
 use Rattle.words.specs.Word.{size, words, word_at, profile_ok, limits_at_ok, node_at_ok, job_at_ok, entry_ok}
 use Rattle.sheet.specs.Section.{steps_at, vans_of, n_of, m_of, k_of, end_of, vans_at, profile_at, nodes_at, jobs_at, seconds_at, metres_at}
-use Rattle.sheet.specs.Section.{read_refusal}
 use Rattle.sheet.specs.declared.Part.{Part}
 use Rattle.sheet.specs.declared.Layout.{Layout}
-use Rattle.sheet.specs.declared.Found.{Found}
 
 -- ---- one section
 
--- a section that the number k refuses
-abbrev pub no_part : ℕ → Part
-no_part k = record { answer = k; count = 0; from = 0; end = 0 }
-
--- the section whose count stands at word `at` and counts entries of `width` words, where the number k refuses it if it is not 0
-unfoldable pub part_of : List ℕ → ℕ → ℕ → ℕ → Part
-part_of s at width k = cond (eqb k 0) (record { answer = 0; count = word_at s at; from = at + 1; end = end_of s at width }) (no_part k)
-
--- p is that section, which nothing refuses
+-- p is the section whose count stands at word `at` and counts entries of `width` words, which nothing refuses
 pub record Stands (s : List ℕ) (at width : ℕ) (p : Part) : Type 0 where
   pub count : p.count ≡ word_at s at
   pub from : p.from ≡ at + 1
@@ -41,18 +31,6 @@ layout_of s = record {
   metres = metres_at s + 1;
   step = steps_at s + 1;
 }
-
--- the layout beside a refusal
-abbrev pub no_layout : Layout
-no_layout = record { vans = 0; nodes = 0; jobs = 0; steps = 0; van = 0; node = 0; job = 0; seconds = 0; metres = 0; step = 0 }
-
--- a sheet whose sections the number k refuses
-abbrev pub refused : ℕ → Found
-refused k = record { answer = k; layout = no_layout }
-
--- what reading a sheet hands on: its refusal, and its layout where the sections are not refused
-unfoldable pub found : (List ℕ → ℕ) → List ℕ → Found
-found refusal s = record { answer = refusal s; layout = cond (eqb (read_refusal s) 0) (layout_of s) no_layout }
 
 -- ---- what is known of an accepted sheet
 

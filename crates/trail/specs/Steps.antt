@@ -1,5 +1,5 @@
 -- The steps on a state in form: the answer with the rounds of settling and the state, and the trail (01, Steps; 02, No. 1).
-use Rattle.std.specs.Prelude.{Bool, cond, List, ℕ, ◌+◌, ◌-◌, get_or, set, eqb, leb, ltb}
+use Rattle.std.specs.Prelude.{Bool, Result, Ok, Err, cond, List, ℕ, ◌+◌, ◌-◌, get_or, set, eqb, leb, ltb}
 use Rattle.laws.specs.Basic.{or_else, unless}
 use Rattle.bits.specs.Places.{has, without}
 use Rattle.rules.specs.Numbers.{refusal}
@@ -11,9 +11,16 @@ use Rattle.records.specs.Trail.{room_of, pushed, change, first_word, shrunk, not
 use Rattle.trail.specs.Refusals.{place_refusal, exclude_refusal, require_refusal, oblige_refusal}
 use Rattle.records.specs.Undo.{Undone, undo_many}
 use Rattle.trail.specs.declared.Outcome.{Outcome}
-use Rattle.trail.specs.declared.Stepped.{Stepped}
+use Rattle.rules.specs.Refused.{number_in}
+use Rattle.rules.specs.declared.Refusal.{Refusal}
 
--- what a step gives, and the trail at exit
+-- what a step gives: 0 or the number of a refusal, how many rounds of settling struck something, and the state
+pub record Stepped : Type 0 where
+  pub answer : ℕ
+  pub rounds : ℕ
+  pub state : State
+
+-- that, and the trail at exit
 abbrev pub Ran : Type 0
 Ran = Stepped × List ℕ
 
@@ -25,13 +32,24 @@ acted k rounds s t = (record { answer = k; rounds = rounds; state = s }, t)
 abbrev pub answered : ℕ → State → List ℕ → Ran
 answered k s t = acted k 0 s t
 
--- what a step has left in arrays and a trail, with its outcome
-abbrev pub ran : Outcome → List ℕ → List ℕ → List ℕ → List ℕ → Ran
-ran o route sets levels t = acted o.answer o.rounds (state_with route sets levels o.after) t
+-- the numbers of the state after a step: those before it, where it is refused
+abbrev pub after_of : Figures → Result Outcome Refusal → Figures
+after_of f (Ok o) = o.after
+after_of f (Err e) = f
 
--- the outcome where nothing changed
-abbrev pub as_before : ℕ → Figures → Outcome
-as_before k f = record { answer = k; rounds = 0; after = f }
+-- the rounds of settling that struck something
+abbrev pub rounds_in : Result Outcome Refusal → ℕ
+rounds_in (Ok o) = o.rounds
+rounds_in (Err e) = 0
+
+-- the same of an answer that has the rounds alone
+abbrev pub rounds_of : Result ℕ Refusal → ℕ
+rounds_of (Ok k) = k
+rounds_of (Err e) = 0
+
+-- what a step has left in arrays and a trail, with its outcome; f are the numbers of the state before it
+abbrev pub ran : Figures → Result Outcome Refusal → List ℕ → List ℕ → List ℕ → List ℕ → Ran
+ran f o route sets levels t = acted (number_in o) (rounds_in o) (state_with route sets levels (after_of f o)) t
 
 -- "Refused: state and trail as before, rounds 0"; accepted where the number is 0
 unfoldable pub unless_refused : ℕ → State → List ℕ → Ran → Ran

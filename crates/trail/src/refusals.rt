@@ -10,6 +10,7 @@ crate::specs::Refusals::exclude_refusal, crate::specs::Refusals::require_refusal
 laws::specs::Basic::or_else, board::specs::Board::set_of, board::specs::Board::open_at))]
 
 ghost use Rattle.std.specs.Prelude.{◌≡◌, List, ℕ};
+ghost use Rattle.rules.specs.Refused.{number_in};
 ghost use Rattle.board.specs.Board.{board};
 ghost use Rattle.records.specs.Undo.{Readable};
 ghost use Rattle.trail.specs.Refusals.{place_shut, place_refusal, exclude_refusal, require_refusal, oblige_refusal};
@@ -27,27 +28,27 @@ pub fn place_shut<'a>(
     n: usize,
     p: usize,
     x: usize,
-) -> usize
+) -> Result<(), Refusal>
     requires { Readable n f.stops route.now }
-    ensures { result ≡ place_shut n (board route.now f.stops sets.now f.marks f.must) p x }
+    ensures { number_in result ≡ place_shut n (board route.now f.stops sets.now f.marks f.must) p x }
 {
     if !inner(n, x) {
-        return Refusal::NODE;
+        return Err(Refusal::Node);
     }
     if !leg_node(n, p) {
-        return Refusal::NODE;
+        return Err(Refusal::Node);
     }
     let on = word(route, f.stops);
     if bits::has(on, x) {
-        return Refusal::PLACED;
+        return Err(Refusal::Placed);
     }
     if !bits::has(on, p) {
-        return Refusal::UNPLACED;
+        return Err(Refusal::Unplaced);
     }
     if bits::has(sets[x], p) {
-        0
+        Ok(())
     } else {
-        Refusal::SHUT
+        Err(Refusal::Shut)
     }
 }
 
@@ -60,15 +61,16 @@ pub fn place_refusal<'a>(
     n: usize,
     p: usize,
     x: usize,
-) -> usize
+) -> Result<(), Refusal>
     requires { Readable n f.stops route.now }
-    ensures { result ≡ place_refusal n (board route.now f.stops sets.now f.marks f.must) f.records room p x }
+    ensures { number_in result ≡ place_refusal n (board route.now f.stops sets.now f.marks f.must) f.records room p x }
 {
-    let shut = place_shut(route, sets, f, n, p, x);
-    if shut != 0 {
-        return shut;
+    place_shut(route, sets, f, n, p, x)?;
+    if f.records < room {
+        Ok(())
+    } else {
+        Err(Refusal::Room)
     }
-    if f.records < room { 0 } else { Refusal::ROOM }
 }
 
 // Excluding x.
@@ -80,24 +82,28 @@ pub fn exclude_refusal<'a>(
     n: usize,
     owed: bool,
     x: usize,
-) -> usize
+) -> Result<(), Refusal>
     requires { Readable n f.stops route.now }
-    ensures { result ≡ exclude_refusal n (board route.now f.stops sets.now f.marks f.must) f.records room owed x }
+    ensures { number_in result ≡ exclude_refusal n (board route.now f.stops sets.now f.marks f.must) f.records room owed x }
 {
     if !inner(n, x) {
-        return Refusal::NODE;
+        return Err(Refusal::Node);
     }
     let on = word(route, f.stops);
     if bits::has(on, x) {
-        return Refusal::PLACED;
+        return Err(Refusal::Placed);
     }
     if owed {
-        return Refusal::OWED;
+        return Err(Refusal::Owed);
     }
     if sets[x] == 0 {
-        return 0;
+        return Ok(());
     }
-    if f.records < room { 0 } else { Refusal::ROOM }
+    if f.records < room {
+        Ok(())
+    } else {
+        Err(Refusal::Room)
+    }
 }
 
 // Requiring x.
@@ -107,32 +113,40 @@ pub fn require_refusal(
     room: usize,
     n: usize,
     x: usize,
-) -> usize
+) -> Result<(), Refusal>
     requires { Readable n f.stops route.now }
-    ensures { (sets : List ℕ) → result ≡ require_refusal n (board route.now f.stops sets f.marks f.must) f.records room x }
+    ensures { (sets : List ℕ) → number_in result ≡ require_refusal n (board route.now f.stops sets f.marks f.must) f.records room x }
 {
     if !inner(n, x) {
-        return Refusal::NODE;
+        return Err(Refusal::Node);
     }
     let on = word(route, f.stops);
     if bits::has(on, x) {
-        return Refusal::PLACED;
+        return Err(Refusal::Placed);
     }
     if bits::has(f.marks, x) {
-        return 0;
+        return Ok(());
     }
-    if f.records < room { 0 } else { Refusal::ROOM }
+    if f.records < room {
+        Ok(())
+    } else {
+        Err(Refusal::Room)
+    }
 }
 
 // Obliging x, placed or not.
-pub fn oblige_refusal(f: Figures, room: usize, n: usize, x: usize) -> usize
-    ensures { (route sets : List ℕ) → result ≡ oblige_refusal n (board route f.stops sets f.marks f.must) f.records room x }
+pub fn oblige_refusal(f: Figures, room: usize, n: usize, x: usize) -> Result<(), Refusal>
+    ensures { (route sets : List ℕ) → number_in result ≡ oblige_refusal n (board route f.stops sets f.marks f.must) f.records room x }
 {
     if !inner(n, x) {
-        return Refusal::NODE;
+        return Err(Refusal::Node);
     }
     if bits::has(f.must, x) {
-        return 0;
+        return Ok(());
     }
-    if f.records < room { 0 } else { Refusal::ROOM }
+    if f.records < room {
+        Ok(())
+    } else {
+        Err(Refusal::Room)
+    }
 }

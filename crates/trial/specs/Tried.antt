@@ -2,7 +2,7 @@
 use Rattle.std.specs.Prelude.{ℕ, Bool, cond, ◌&&◌, List, eqb}
 use Rattle.rules.specs.Numbers.{kinds}
 use Rattle.fleet.specs.declared.Fleet.{Fleet}
-use Rattle.turns.specs.declared.Turned.{Turned}
+use Rattle.turns.specs.Together.{Turned}
 use Rattle.planner.specs.Face.{step_of, judge_of}
 use Rattle.planner.specs.Promises.{in_van_word}
 

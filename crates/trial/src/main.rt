@@ -18,26 +18,26 @@ fn try_place(sheet: &[u8], fleet: Fleet, trail: &mut [u64], van: usize, p: usize
     requires { van < most_vans }
     ensures { tried_of sheet.now fleet trail.old van p x ≡ (result, trail.new) }
 {
-    let level = planner::step(sheet, fleet, trail, Step::LEVEL, 0, 0);
-    if level.answer != 0 {
+    let mut tried = fleet;
+    if planner::step(sheet, &mut tried, trail, Step::LEVEL, 0, 0).is_err() {
         return fleet;
     }
     let word = Step::VAN * van;
-    let placed = planner::step(sheet, level.fleet, trail, word + Step::PLACE, p, x);
-    let settled = planner::step(sheet, placed.fleet, trail, word + Step::SETTLE, 0, 0);
-    let judged = planner::verdict(sheet, settled.fleet);
-    if (placed.answer == 0) & (settled.answer == 0) & judged.alive {
-        return settled.fleet;
+    let placed = planner::step(sheet, &mut tried, trail, word + Step::PLACE, p, x);
+    let settled = planner::step(sheet, &mut tried, trail, word + Step::SETTLE, 0, 0);
+    let alive = planner::verdict(sheet, tried).unwrap_or(false);
+    if placed.is_ok() & settled.is_ok() & alive {
+        return tried;
     }
-    let back = planner::step(sheet, settled.fleet, trail, Step::BACK, 0, 0);
-    back.fleet
+    let _ = planner::step(sheet, &mut tried, trail, Step::BACK, 0, 0);
+    tried
 }
 
 // The fleet with every level open.
 fn deepest(sheet: &[u8], fleet: Fleet, trail: &mut [u64]) -> Fleet {
     let mut deep = fleet;
     for _ in 0..State::LEVELS {
-        deep = planner::step(sheet, deep, trail, Step::LEVEL, 0, 0).fleet;
+        let _ = planner::step(sheet, &mut deep, trail, Step::LEVEL, 0, 0);
     }
     deep
 }
@@ -72,11 +72,12 @@ fn try_dead(rt: &impl Print, sheet: &[u8], fleet: Fleet, trail: &mut [u64]) -> i
 
 // A trial that leaves it alive, and those. With 1 placed after 0, 2 after 0 is a transfer in wrong order.
 fn run(rt: &impl Print, sheet: &[u8], trail: &mut [u64]) -> io::Result<()> {
-    let opened = planner::open(sheet);
-    let kept = try_place(sheet, opened.fleet, trail, 0, 0, 2);
+    let opened = planner::open(sheet).unwrap_or(Fleet::none());
+    let kept = try_place(sheet, opened, trail, 0, 0, 2);
     tell(rt, b"alive: ", kept)?;
-    let wrong = planner::step(sheet, opened.fleet, trail, Step::PLACE, 0, 1);
-    try_dead(rt, sheet, wrong.fleet, trail)
+    let mut wrong = opened;
+    let _ = planner::step(sheet, &mut wrong, trail, Step::PLACE, 0, 1);
+    try_dead(rt, sheet, wrong, trail)
 }
 
 fn main(rt: HostRuntime) -> io::Result<()> {

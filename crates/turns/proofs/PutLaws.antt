@@ -13,7 +13,11 @@ use Rattle.rules.specs.Numbers.{most_vans}
 use Rattle.board.specs.Board.{state_with}
 use Rattle.board.specs.declared.State.{State}
 use Rattle.board.specs.declared.Figures.{Figures}
-use Rattle.trail.specs.Steps.{Ran, ran, answered}
+use Rattle.trail.specs.Steps.{Ran, ran, after_of, rounds_in, answered}
+use Rattle.std.specs.Prelude.{Result}
+use Rattle.rules.specs.Refused.{number_in}
+use Rattle.rules.specs.declared.Refusal.{Refusal}
+use Rattle.board.specs.declared.Figures.{Figures}
 use Rattle.trail.specs.declared.Outcome.{Outcome}
 use Rattle.fleet.specs.Fleet.{fleet_of, state_in, share_of, trail_in}
 use Rattle.fleet.specs.Rows.{row_of, row_state, fleet_with}
@@ -99,23 +103,23 @@ part-back v j from end t t' u s =
 abbrev pub Leaving : (State → List ℕ → Ran) → Type 0
 Leaving step = (s : State) (u : List ℕ) → ((step s u).0.answer ≡ 0 → ⊥) → step s u ≡ answered (step s u).0.answer s u
 
-module _ (v i from end : ℕ) (routes sets levels figures : List (List ℕ)) (t : List ℕ) (step : State → List ℕ → Ran) (o : Outcome) {route places heights u : List ℕ}
+module _ (v i from end : ℕ) (routes sets levels figures : List (List ℕ)) (t : List ℕ) (step : State → List ℕ → Ran) (g : Figures) (o : Result Outcome Refusal) {route places heights u : List ℕ}
     (low : i < v) (most : v ≤ most_vans) (spot : Spot v t i from end) (rows : EightRows routes sets levels figures) (leaves : Leaving step)
-    (e : step (row_state routes sets levels figures i) (take (end - from) (drop from t)) ≡ ran o route places heights u)
+    (e : step (row_state routes sets levels figures i) (take (end - from) (drop from t)) ≡ ran g o route places heights u)
     (eu : length u ≡ length (take (end - from) (drop from t))) where
   abbrev f : Fleet
   f = fleet_with routes sets levels figures
 
   abbrev after : ℕ → State
-  after = row_state (set routes i route) (set sets i places) (set levels i heights) (set figures i (row_of o.after))
+  after = row_state (set routes i route) (set sets i places) (set levels i heights) (set figures i (row_of (after_of g o)))
 
   lent : take (end - from) (drop from t) ≡ trail_in v t i
   lent = part-lent v i from end t t spot refl
 
-  own : step (state_in f i) (trail_in v t i) ≡ ran o route places heights u
+  own : step (state_in f i) (trail_in v t i) ≡ ran g o route places heights u
   own = ap₂ (λ (s : State) (w : List ℕ). step s w) (state-of (row_state routes sets levels figures) i (omega arith)) (sym lent) ∙ e
 
-  answer : (step (state_in f i) (trail_in v t i)).0.answer ≡ o.answer
+  answer : (step (state_in f i) (trail_in v t i)).0.answer ≡ number_in o
   answer = ap (λ (r : Ran). r.0.answer) own
 
   long : length u ≡ share_of v t
@@ -123,28 +127,28 @@ module _ (v i from end : ℕ) (routes sets levels figures : List (List ℕ)) (t 
 
   stay : Others v f t i (fleet_of after) (put_part (share_of v t) t i u)
   stay = record {
-    states = λ j d h. state-of after j h ∙ row_other routes sets levels figures i route places heights o.after j d ∙ sym (state-of (row_state routes sets levels figures) j h);
+    states = λ j d h. state-of after j h ∙ row_other routes sets levels figures i route places heights (after_of g o) j d ∙ sym (state-of (row_state routes sets levels figures) j h);
     trails = λ j d h. part-other v t t refl i low u long j d h;
     eight = fleet-eight after;
     long = part-long-as v t t refl i low u long;
     over = part-over v t t refl i low u long;
   }
 
-  pub alone-did : alone v f t i step ≡ acted_all o.answer o.rounds (fleet_of after) (take from t ++ (u ++ drop (end - from) (drop from t)))
+  pub alone-did : alone v f t i step ≡ acted_all (number_in o) (rounds_in o) (fleet_of after) (take from t ++ (u ++ drop (end - from) (drop from t)))
   alone-did =
       alone-is v f t i step low most (fleet-eight (row_state routes sets levels figures)) own
       (λ n. sym own ∙ leaves (state_in f i) (trail_in v t i) (λ z. n (sym answer ∙ z)) ∙ ap (λ (k : ℕ). answered k (state_in f i) (trail_in v t i)) answer)
-      (state-of after i (omega arith) ∙ row-own routes sets levels figures rows i (omega arith) route places heights o.after)
+      (state-of after i (omega arith) ∙ row-own routes sets levels figures rows i (omega arith) route places heights (after_of g o))
       (part-own v t t refl i low u long) stay
-      ∙ ap (λ (w : List ℕ). acted_all o.answer o.rounds (fleet_of after) w) (sym (part-back v i from end t t u spot))
+      ∙ ap (λ (w : List ℕ). acted_all (number_in o) (rounds_in o) (fleet_of after) w) (sym (part-back v i from end t t u spot))
 
 -- the same of a step that leaves the van's arrays
-pub alone-noted : (v i from end : ℕ) (routes sets levels figures : List (List ℕ)) (t : List ℕ) (step : State → List ℕ → Ran) (o : Outcome) {u : List ℕ}
+pub alone-noted : (v i from end : ℕ) (routes sets levels figures : List (List ℕ)) (t : List ℕ) (step : State → List ℕ → Ran) (g : Figures) (o : Result Outcome Refusal) {u : List ℕ}
     → i < v → v ≤ most_vans → Spot v t i from end → EightRows routes sets levels figures → Leaving step
-    → step (row_state routes sets levels figures i) (take (end - from) (drop from t)) ≡ ran o (get_or routes i []) (get_or sets i []) (get_or levels i []) u
+    → step (row_state routes sets levels figures i) (take (end - from) (drop from t)) ≡ ran g o (get_or routes i []) (get_or sets i []) (get_or levels i []) u
     → length u ≡ length (take (end - from) (drop from t))
     → alone v (fleet_with routes sets levels figures) t i step
-    ≡ acted_all o.answer o.rounds (fleet_with routes sets levels (set figures i (row_of o.after))) (take from t ++ (u ++ drop (end - from) (drop from t)))
-alone-noted v i from end routes sets levels figures t step o {u} low most spot rows leaves e eu =
-    alone-did v i from end routes sets levels figures t step o low most spot rows leaves e eu
+    ≡ acted_all (number_in o) (rounds_in o) (fleet_with routes sets levels (set figures i (row_of (after_of g o)))) (take from t ++ (u ++ drop (end - from) (drop from t)))
+alone-noted v i from end routes sets levels figures t step g o {u} low most spot rows leaves e eu =
+    alone-did v i from end routes sets levels figures t step g o low most spot rows leaves e eu
     ∙ rw (set-get_or routes i [], set-get_or sets i [], set-get_or levels i []) refl

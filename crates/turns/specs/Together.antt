@@ -1,15 +1,21 @@
 -- What a fleet's step gives: each van's turn is what a step of one van gives on its state and its part of the trail.
-use Rattle.std.specs.Prelude.{cond, List, ◌++◌, ℕ, ◌*◌, drop, eqb, ltb}
+use Rattle.std.specs.Prelude.{Result, cond, List, ◌++◌, ℕ, ◌*◌, drop, eqb, ltb}
 use Rattle.laws.specs.Basic.{joined}
 use Rattle.board.specs.declared.State.{State}
-use Rattle.trail.specs.Steps.{Ran, answered}
+use Rattle.trail.specs.Steps.{Ran, rounds_of, answered}
 use Rattle.fleet.specs.Fleet.{fleet_of, state_in, share_of, trail_in}
 use Rattle.fleet.specs.Rows.{fleet_with}
 use Rattle.fleet.specs.declared.Fleet.{Fleet}
-use Rattle.turns.specs.declared.Turned.{Turned}
-use Rattle.turns.specs.declared.Outcomes.{Outcomes}
+use Rattle.rules.specs.Refused.{number_in}
+use Rattle.rules.specs.declared.Refusal.{Refusal}
 
--- what a step of a fleet gives, and the trail at exit
+-- what a step of a fleet gives: 0 or the number of a refusal, how many rounds of settling struck something, and the fleet
+pub record Turned : Type 0 where
+  pub answer : ℕ
+  pub rounds : ℕ
+  pub fleet : Fleet
+
+-- that, and the trail at exit
 abbrev pub RanAll : Type 0
 RanAll = Turned × List ℕ
 
@@ -32,6 +38,6 @@ alone v f t i step =
     let r = step (state_in f i) (trail_in v t i) in
     unless_barred r.0.answer f t (together v f t r.0.rounds (λ j. cond (eqb j i) r (answered 0 (state_in f j) (trail_in v t j))))
 
--- what a step has left in arrays and a trail, with its outcome
-abbrev pub ran_all : Outcomes → List (List ℕ) → List (List ℕ) → List (List ℕ) → List (List ℕ) → List ℕ → RanAll
-ran_all o routes sets levels figures t = acted_all o.answer o.rounds (fleet_with routes sets levels figures) t
+-- what a step has left in arrays and a trail, with its answer: those rounds, or why it is refused
+abbrev pub ran_all : Result ℕ Refusal → List (List ℕ) → List (List ℕ) → List (List ℕ) → List (List ℕ) → List ℕ → RanAll
+ran_all o routes sets levels figures t = acted_all (number_in o) (rounds_of o) (fleet_with routes sets levels figures) t

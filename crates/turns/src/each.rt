@@ -12,9 +12,9 @@ ghost use Rattle.turns.specs.Turn.{turn_of, turns_of, Turning, EightRows};
 use board::{Figures, State};
 use fleet::Fleet;
 use fleet::rows::{figures_in, put_figures};
-use rules::{Node, Step};
-use trail::Outcome;
+use rules::{Node, Refusal, Step};
 use trail::steps::{back, level, place, shut_out};
+use trail::{Outcome, after};
 
 // Van j's turn.
 fn turn(
@@ -26,16 +26,16 @@ fn turn(
     f: Figures,
     trail: &mut [u64],
     step: Step,
-) -> Outcome
+) -> Result<Outcome, Refusal>
     requires { Turning n step j (state_with route.old sets.old levels.old f) trail.old }
     ensures { turn_of n step j (state_with route.old sets.old levels.old f) trail.old
-        ≡ ran result route.new sets.new levels.new trail.new }
+        ≡ ran f result route.new sets.new levels.new trail.new }
 {
     if step.kind == Step::PLACE {
         if j == step.van {
-            return place(route, sets, f, n, step.first, step.second, trail);
+            return Ok(place(route, sets, f, n, step.first, step.second, trail));
         }
-        return shut_out(sets, f, step.second, trail);
+        return Ok(shut_out(sets, f, step.second, trail));
     }
     if step.kind == Step::LEVEL {
         return level(levels, f);
@@ -77,8 +77,8 @@ pub fn each(
             &mut trail[from..end],
             step,
         );
-        put_figures(&mut figures[j], o.after);
-        fits &= o.answer == 0;
+        put_figures(&mut figures[j], after(f, &o));
+        fits &= o.is_ok();
     }
     fits
 }

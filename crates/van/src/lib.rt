@@ -21,7 +21,7 @@ use rules::{Node, Refusal, Step, Van};
 use sheet::Layout;
 use trail::Outcome;
 use trail::refusals::place_refusal;
-use trail::steps::{back, close, exclude, level, place, require, same};
+use trail::steps::{back, close, exclude, level, place, require};
 
 // Placing x after p, if nothing refuses.
 #[tactic(auto, unfolding(trail::specs::Steps::unless_refused, trail::specs::Steps::place_step, records::specs::Trail::room_of))]
@@ -33,16 +33,13 @@ fn placing(
     p: usize,
     x: usize,
     trail: &mut [u64],
-) -> Outcome
+) -> Result<Outcome, Refusal>
     requires { Sound n (board route.old f.stops sets.old f.marks f.must) }
     ensures { (levels : List ℕ) → place_step n (state_with route.old sets.old levels f) trail.old p x
-        ≡ ran result route.new sets.new levels trail.new }
+        ≡ ran f result route.new sets.new levels trail.new }
 {
-    let code = place_refusal(route, sets, f, trail.len() / 2, n, p, x);
-    if code != 0 {
-        return same(code, f);
-    }
-    place(route, sets, f, n, p, x, trail)
+    place_refusal(route, sets, f, trail.len() / 2, n, p, x)?;
+    Ok(place(route, sets, f, n, p, x, trail))
 }
 
 // The steps other than settling: they ask neither for the van nor for its jobs.
@@ -56,12 +53,12 @@ pub fn change(
     f: Figures,
     trail: &mut [u64],
     step: Step,
-) -> Outcome
+) -> Result<Outcome, Refusal>
     requires { Known sheet.now at (state_with route.old sets.old levels.old f) trail.old × (step.kind ≡ kinds.SETTLE → ⊥) }
     ensures { (v : Van) →
         act_of v (day_of sheet.now) (state_with route.old sets.old levels.old f)
         trail.old step.kind step.first step.second
-        ≡ ran result route.new sets.new levels.new trail.new }
+        ≡ ran f result route.new sets.new levels.new trail.new }
 {
     let n = at.nodes;
     let kind = step.kind;
@@ -77,7 +74,7 @@ pub fn change(
         Step::REQUIRE => require(route, f, n, first, trail),
         Step::LEVEL => level(levels, f),
         Step::BACK => back(route, sets, levels, f, n, trail),
-        _ => same(Refusal::KIND, f),
+        _ => Err(Refusal::Kind),
     }
 }
 
@@ -91,14 +88,14 @@ fn settling(
     sets: &mut [u64; Node::MOST],
     f: Figures,
     trail: &mut [u64],
-) -> Outcome
+) -> Result<Outcome, Refusal>
     requires ready { Ready sheet.now at route.now f.stops sets.old f.marks × (f.records ≤ room_of trail.old) × (van.limit ≤ 1000000) }
     requires by_node { ByNode (job_in sheet.now) at.jobs jobs.now }
     ensures { (levels : List ℕ) →
         settle_step (state_with route.now sets.old levels f) trail.old
         (settling_rounds van (day_of sheet.now) (state_with route.now sets.old levels f))
         (settled_sets van (day_of sheet.now) (state_with route.now sets.old levels f))
-        ≡ ran result route.now sets.new levels trail.new }
+        ≡ ran f result route.now sets.new levels trail.new }
 {
     let mut new = *sets;
     let rounds = settle::settling::settle(sheet, at, jobs, van, route, f.stops, sets, &mut new);
@@ -118,12 +115,12 @@ pub fn settle(
     f: Figures,
     trail: &mut [u64],
     step: Step,
-) -> Outcome
+) -> Result<Outcome, Refusal>
     requires known { Known sheet.now at (state_with route.old sets.old levels.old f) trail.old × (van.limit ≤ 1000000) }
     requires by_node { ByNode (job_in sheet.now) at.jobs jobs.now × (step.kind ≡ kinds.SETTLE) }
     ensures { act_of van (day_of sheet.now) (state_with route.old sets.old levels.old f)
         trail.old step.kind step.first step.second
-        ≡ ran result route.new sets.new levels.new trail.new }
+        ≡ ran f result route.new sets.new levels.new trail.new }
 {
     settling(sheet, at, jobs, van, route, sets, f, trail)
 }

@@ -1,3 +1,4 @@
+use mathlib.Core.Path.{refl}
 use Rattle.acts.proofs.KnownLaws.{known-eight}
 use Rattle.acts.proofs.ActLaws.{act-van, act-unknown, did-as}
 use Rattle.acts.proofs.DoneLaws.{did_of}
@@ -9,5 +10,5 @@ returns-then-kind c =
 
 pub returns : goal.returns
 returns c =
-    did_of _ _ _ _ _ c.answered.ensures (known-eight c.requires)
+    did_of _ _ _ _ _ (refl, refl) (known-eight c.requires)
     (act-unknown _ _ _ _ _ _ c.if-kind-eq-LEVEL.false c.if-kind-eq-BACK.false c.if-kind-eq-OBLIGE.false c.if-kind.false)

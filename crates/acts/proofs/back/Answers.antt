@@ -20,7 +20,7 @@ pub returns-then-one-lt1 : goal.returns-then-one-lt1
 returns-then-one-lt1 c =
     let a = c.args in
     let shut = rw c.figures_in-one.ensures at c.if-one-lt1.true in
-    did_of _ _ _ _ _ c.answered.ensures (known-eight c.requires.0)
+    did_of _ _ _ _ _ (refl, refl) (known-eight c.requires.0)
     (barred-by _ _ _ _ (act-back _ _ _ _ _ _ c.requires.1)
     (back_none _ _ _ _ _ (omega (arith, shut, depth-row a.routes.now a.sets.now a.levels.now a.figures.now)))
     (λ z. omega (arith, z)))
@@ -37,7 +37,7 @@ returns-then-not-each c =
     let deep = rw c.figures_in-one.ensures at c.if-one-lt1.false in
     let b = backed c.args.step _ _ c.each.result c.requires.0 c.requires.1 (omega (arith, deep)) (c.each.ensures.0, c.each.ensures.1) in
     let n = unfit c.each.result (shares_none (n_of c.args.sheet.now) (vans_of c.args.sheet.now) _) c.if-not-each.true in
-    did-misfit _ _ _ _ c.requires.1 (omega (arith, l.vans, l.fine.vans-low)) c.answered-then-not-each.ensures c.each.ensures.2 b.same (b.no n)
+    did-misfit _ _ _ _ c.requires.1 (omega (arith, l.vans, l.fine.vans-low)) (refl, refl) c.each.ensures.2 b.same (b.no n)
     (λ o. b.one (sym l.vans ∙ o) n)
 
 pub share_none-requires-clause-by_index : goal.share_none-requires-clause-by_index
@@ -53,7 +53,7 @@ returns-then-share_none c =
     let l = c.requires.0.laid in
     let deep = rw c.figures_in-one.ensures at c.if-one-lt1.false in
     let b = backed c.args.step _ _ c.each.result c.requires.0 c.requires.1 (omega (arith, deep)) (c.each.ensures.0, c.each.ensures.1) in
-    did_of _ _ _ _ _ c.answered-then-share_none.ensures c.each.ensures.2
+    did_of _ _ _ _ _ (refl, refl) c.each.ensures.2
     (b.yes c.if-not-each.false (rw (← l.nodes, ← l.vans) (sym (c.share_none.ensures c.each.new.levels) ∙ c.if-share_none.true)))
 
 pub returns-else-share_none : goal.returns-else-share_none
@@ -63,5 +63,5 @@ returns-else-share_none c =
     let b = backed c.args.step _ _ c.each.result c.requires.0 c.requires.1 (omega (arith, deep)) (c.each.ensures.0, c.each.ensures.1) in
     let e = sym (c.share_none.ensures c.each.new.levels) ∙ c.if-share_none.false in
     let n = shared c.each.result _ c.if-not-each.false (rw (l.nodes, l.vans) at e) in
-    did-misfit _ _ _ _ c.requires.1 (omega (arith, l.vans, l.fine.vans-low)) c.answered-else-share_none.ensures c.each.ensures.2 b.same (b.no n)
+    did-misfit _ _ _ _ c.requires.1 (omega (arith, l.vans, l.fine.vans-low)) (refl, refl) c.each.ensures.2 b.same (b.no n)
     (λ o. b.one (sym l.vans ∙ o) n)

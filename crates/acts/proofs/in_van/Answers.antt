@@ -1,3 +1,4 @@
+use mathlib.Core.Path.{refl}
 use native.Mathlib.Omega.{arith}
 use Rattle.acts.proofs.KnownLaws.{known-eight}
 use Rattle.acts.proofs.ActLaws.{van-out}
@@ -6,4 +7,4 @@ use Rattle.acts.proofs.in_van.Goals as goal
 
 pub returns-then-at-step : goal.returns-then-at-step
 returns-then-at-step c =
-    did_of _ _ _ _ _ c.answered.ensures (known-eight c.requires) (van-out _ _ _ _ _ _ (omega (arith, c.if-at-step.true, c.requires.laid.vans)))
+    did_of _ _ _ _ _ (refl, refl) (known-eight c.requires) (van-out _ _ _ _ _ _ (omega (arith, c.if-at-step.true, c.requires.laid.vans)))

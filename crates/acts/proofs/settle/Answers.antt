@@ -1,4 +1,4 @@
-use mathlib.Core.Path.{sym, ◌∙◌}
+use mathlib.Core.Path.{refl, sym, ◌∙◌}
 use native.Mathlib.Omega.{arith}
 use Rattle.acts.proofs.KnownLaws.{known-eight}
 use Rattle.acts.proofs.ActLaws.{van-out, act-settle, did-as}
@@ -8,13 +8,13 @@ use Rattle.acts.proofs.settle.Goals as goal
 pub returns-then-v-i : goal.returns-then-v-i
 returns-then-v-i c =
     let p = c.requires.known_rows in
-    did_of _ _ _ _ _ c.answered.ensures (known-eight p.0)
+    did_of _ _ _ _ _ (refl, refl) (known-eight p.0)
     (act-settle _ _ _ _ _ _ p.1 ∙ van-out _ _ _ _ _ _ (omega (arith, c.if-v-i.true, p.0.laid.vans)))
 
 pub returns-then-none_open : goal.returns-then-none_open
 returns-then-none_open c =
     let p = c.requires.known_rows in
-    did_of _ _ _ _ _ c.answered-then-none_open.ensures (known-eight p.0)
+    did_of _ _ _ _ _ (refl, refl) (known-eight p.0)
     (act-settle _ _ _ _ _ _ p.1
     ∙ van-rests p.0 c.args.step p.1 (omega (arith, c.if-v-i.false, p.0.laid.vans)) (sym c.none_open.ensures ∙ c.if-none_open.true))
 

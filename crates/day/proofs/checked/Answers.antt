@@ -1,85 +1,52 @@
-use Prim.Native.Nat.{ℕ}
-use mathlib.Core.Bool.{cond}
-use mathlib.Core.List.{List}
-use mathlib.Core.Path.{◌≡◌, refl, ap₂, ◌∙◌}
+use Rattle.std.proofs.Common.{◌≡◌, ◌∙◌, List, ℕ, false, sym, ap₂}
 use lib.Dec.{leb}
-use Rattle.laws.specs.Basic.{or_else, unless}
-use Rattle.laws.proofs.Choice.{or-else-zero, or-else-assoc}
 use Rattle.laws.proofs.Peak.{peak-within}
-use Rattle.rules.specs.Numbers.{refusal}
-use Rattle.sheet.proofs.PlaceLaws.{found-laid, found-stops, found-judged}
-use Rattle.sheet.specs.Section.{read_refusal, m_of}
-use Rattle.sheet.specs.Place.{Laid, found}
-use Rattle.sheet.specs.declared.Found.{Found}
+use borrow.Author.Tests.{not-true, not-false, le-leb, lt-leb}
+use Rattle.rules.proofs.Refusals.{handed, handed_on, gone_on, judged, failed, passed}
+use Rattle.laws.specs.Basic.{peak}
+use Rattle.rules.specs.Load.{load_of}
+use Rattle.sheet.specs.Section.{m_of}
 use Rattle.day.specs.Tell.{job_in, largest_of}
-use Rattle.day.specs.Seen.{LookedOver}
-use Rattle.day.specs.declared.jobs.Looked.{Looked}
-use Rattle.day.specs.Refuse.{apart, can_ride, ends_admit, call_refusal}
+use Rattle.day.specs.Refuse.{can_ride, call_refusal}
 use Rattle.day.proofs.checked.Goals as goal
 
--- what is asked before the loads
-abbrev apart_refusal : List ℕ → ℕ
-apart_refusal s = or_else (read_refusal s) (unless (apart (job_in s) (m_of s)) refusal.TWICE)
-
--- what is asked before the classes
-abbrev light_refusal : List ℕ → ℕ
-light_refusal s = or_else (apart_refusal s) (unless (can_ride (job_in s) (m_of s) (largest_of s)) refusal.HEAVY)
-
-then-class : (s : List ℕ) → call_refusal s ≡ or_else (light_refusal s) (unless (ends_admit s) refusal.CLASS)
+pub returns-in_err-at-clause-number : goal.returns-in_err-at-clause-number
 unfolding call_refusal
-then-class s = or-else-assoc _ _ _ ∙ or-else-assoc _ _ _
+returns-in_err-at-clause-number c = handed _ _ c.from_residual.ensures.1 (handed_on _ _ c.in_err-at.ensures.number)
 
-read-laid : (s : List ℕ) {read : Found} → read ≡ found read_refusal s → read.answer ≡ 0 → Laid s read.layout
-read-laid s e z = found-laid read_refusal s (λ y. y) e z
+-- the code's test of the loads is the rule's
+light : (s : List ℕ) {m heaviest most : ℕ} → m ≡ m_of s → heaviest ≡ peak (λ k. load_of (job_in s k)) m → most ≡ largest_of s
+    → leb heaviest most ≡ can_ride (job_in s) (m_of s) (largest_of s)
+unfolding can_ride
+light s e h g = ap₂ leb (rw e at h) g ∙ peak-within _ _ _
 
--- the jobs of accepted sections were looked over: what is refused by them, one after the other
-module _ (s : List ℕ) {read apart : Found} {jobs : Looked} (e : read ≡ found read_refusal s) (z : read.answer ≡ 0)
-    (o : LookedOver (job_in s) read.layout.jobs jobs)
-    (h : apart ≡ record { answer = cond jobs.apart read.answer refusal.TWICE; layout = read.layout }) where
-  apart-is : apart ≡ found apart_refusal s
-  apart-is = found-judged read_refusal apart_refusal s _ e z h (rw (read-laid s e z).jobs at o.apart) refl
-
-  apart-laid : apart.answer ≡ 0 → Laid s apart.layout
-  apart-laid y = found-laid apart_refusal s (λ x. (or-else-zero _ _ x).0) apart-is y
-
-  light-is : {most : ℕ} {light : Found} → apart.answer ≡ 0 → most ≡ largest_of s
-      → light ≡ record { answer = cond (leb jobs.heaviest most) apart.answer refusal.HEAVY; layout = apart.layout } → light ≡ found light_refusal s
-  unfolding can_ride
-  light-is y m g =
-      let heaviest = rw (read-laid s e z).jobs at o.heaviest in
-      found-judged apart_refusal light_refusal s _ apart-is y g (ap₂ leb heaviest m ∙ peak-within _ _ _) refl
-
-pub returns-then-read-ne0 : goal.returns-then-read-ne0
+pub returns-then-not-jobs-clause-number : goal.returns-then-not-jobs-clause-number
 unfolding call_refusal
-returns-then-read-ne0 c = found-stops _ _ _ _ c.sections-read.ensures c.if-read-ne0.true refl
+returns-then-not-jobs-clause-number c =
+    let a = c.in_ok-at.ensures.layout in
+    gone_on _ c.in_ok-at.ensures.number (failed 3 _ (sym (rw a.jobs at c.look_over-jobs.ensures.apart) ∙ not-true _ c.if-not-jobs.true))
 
-pub look_over-jobs-requires : goal.look_over-jobs-requires
-look_over-jobs-requires c = read-laid _ c.sections-read.ensures c.if-read-ne0.false
-
-pub returns-then-apart-ne0 : goal.returns-then-apart-ne0
+pub returns-then-not-light-clause-number : goal.returns-then-not-light-clause-number
 unfolding call_refusal
-returns-then-apart-ne0 c =
-    let e = apart-is _ c.sections-read.ensures c.if-read-ne0.false c.look_over-jobs.ensures c.judged-apart.ensures in
-    found-stops apart_refusal _ _ _ e c.if-apart-ne0.true (or-else-assoc _ _ _)
+returns-then-not-light-clause-number c =
+    let a = c.in_ok-at.ensures.layout in
+    gone_on _ c.in_ok-at.ensures.number
+    (gone_on _ (passed 4 (sym (rw a.jobs at c.look_over-jobs.ensures.apart) ∙ not-false _ c.if-not-jobs.false))
+    (failed 5 _ (sym (light _ a.jobs c.look_over-jobs.ensures.heaviest c.largest-most.ensures) ∙ lt-leb _ _ c.if-not-light.true)))
 
-pub largest-most-requires : goal.largest-most-requires
-largest-most-requires c =
-    apart-laid _ c.sections-read.ensures c.if-read-ne0.false c.look_over-jobs.ensures c.judged-apart.ensures c.if-apart-ne0.false
+pub returns-then-ends_admit-clause-number : goal.returns-then-ends_admit-clause-number
+unfolding call_refusal
+returns-then-ends_admit-clause-number c =
+    let a = c.in_ok-at.ensures.layout in
+    gone_on _ c.in_ok-at.ensures.number
+    (gone_on _ (passed 4 (sym (rw a.jobs at c.look_over-jobs.ensures.apart) ∙ not-false _ c.if-not-jobs.false))
+    (gone_on _ (passed 6 (sym (light _ a.jobs c.look_over-jobs.ensures.heaviest c.largest-most.ensures) ∙ le-leb _ _ c.if-not-light.false))
+    (passed 7 (sym c.ends_admit.ensures ∙ c.if-ends_admit.true))))
 
-pub returns-then-light-ne0 : goal.returns-then-light-ne0
-returns-then-light-ne0 c =
-    let e = light-is _ c.sections-read.ensures c.if-read-ne0.false c.look_over-jobs.ensures c.judged-apart.ensures c.if-apart-ne0.false
-    c.largest-most.ensures c.judged-light.ensures in
-    found-stops light_refusal _ _ _ e c.if-light-ne0.true (then-class _)
-
-pub ends_admit-ends-requires : goal.ends_admit-ends-requires
-ends_admit-ends-requires c =
-    let e = light-is _ c.sections-read.ensures c.if-read-ne0.false c.look_over-jobs.ensures c.judged-apart.ensures c.if-apart-ne0.false
-    c.largest-most.ensures c.judged-light.ensures in
-    found-laid light_refusal _ (λ z. (or-else-zero _ _ (or-else-zero _ _ z).0).0) e c.if-light-ne0.false
-
-pub returns : goal.returns
-returns c =
-    let e = light-is _ c.sections-read.ensures c.if-read-ne0.false c.look_over-jobs.ensures c.judged-apart.ensures c.if-apart-ne0.false
-    c.largest-most.ensures c.judged-light.ensures in
-    found-judged light_refusal _ _ _ e c.if-light-ne0.false c.judged.ensures c.ends_admit-ends.ensures (then-class _)
+pub returns-else-ends_admit-clause-number : goal.returns-else-ends_admit-clause-number
+unfolding call_refusal
+returns-else-ends_admit-clause-number c =
+    let a = c.in_ok-at.ensures.layout in
+    gone_on _ c.in_ok-at.ensures.number
+    (gone_on _ (passed 4 (sym (rw a.jobs at c.look_over-jobs.ensures.apart) ∙ not-false _ c.if-not-jobs.false))
+    (judged 7 false (passed 6 (sym (light _ a.jobs c.look_over-jobs.ensures.heaviest c.largest-most.ensures) ∙ le-leb _ _ c.if-not-light.false)) c.ends_admit.ensures c.if-ends_admit.false))

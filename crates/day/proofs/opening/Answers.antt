@@ -1,26 +1,29 @@
-use mathlib.Core.Path.{refl, ap₂}
-use mathlib.Core.Bool.{◌&&◌}
-use Rattle.sheet.proofs.PlaceLaws.{found-stops, found-judged}
+use Rattle.std.proofs.Common.{◌&&◌, true, false, ap₂}
+use Rattle.rules.proofs.Refusals.{handed, handed_on, judged}
 use Rattle.day.specs.Refuse.{open_refusal}
-use Rattle.day.proofs.RefuseLaws.{call-laid}
 use Rattle.day.proofs.Range.{seconds-table, metres-table}
 use Rattle.day.proofs.opening.Goals as goal
 
-pub returns-then-call-ne0 : goal.returns-then-call-ne0
+pub returns-in_err-at-clause-number : goal.returns-in_err-at-clause-number
 unfolding open_refusal
-returns-then-call-ne0 c = found-stops _ _ _ _ c.checked-call.ensures c.if-call-ne0.true refl
+returns-in_err-at-clause-number c = handed _ _ c.from_residual.ensures.1 (handed_on _ _ c.in_err-at.ensures.number)
 
 pub triangle_ok-seconds-requires : goal.triangle_ok-seconds-requires
-triangle_ok-seconds-requires c = seconds-table (call-laid _ c.checked-call.ensures c.if-call-ne0.false)
+triangle_ok-seconds-requires c = seconds-table c.in_ok-at.ensures.layout
 
 pub triangle_ok-metres-requires : goal.triangle_ok-metres-requires
-triangle_ok-metres-requires c = metres-table (call-laid _ c.checked-call.ensures c.if-call-ne0.false)
+triangle_ok-metres-requires c = metres-table c.in_ok-at.ensures.layout
 
-pub returns : goal.returns
+pub returns-then-seconds-metres-clause-number : goal.returns-then-seconds-metres-clause-number
 unfolding open_refusal
-returns c =
-    let e = c.checked-call.ensures in
-    let z = c.if-call-ne0.false in
-    let l = call-laid _ e z in
-    found-judged _ _ _ _ e z c.judged.ensures
-    (ap₂ ◌&&◌ (rw (l.seconds, l.nodes) at c.triangle_ok-seconds.ensures) (rw (l.metres, l.nodes) at c.triangle_ok-metres.ensures)) refl
+returns-then-seconds-metres-clause-number c =
+    let l = c.in_ok-at.ensures.layout in
+    judged 5 true c.in_ok-at.ensures.number
+    (ap₂ ◌&&◌ (rw (l.seconds, l.nodes) at c.triangle_ok-seconds.ensures) (rw (l.metres, l.nodes) at c.triangle_ok-metres.ensures)) c.if-seconds-metres.true
+
+pub returns-else-seconds-metres-clause-number : goal.returns-else-seconds-metres-clause-number
+unfolding open_refusal
+returns-else-seconds-metres-clause-number c =
+    let l = c.in_ok-at.ensures.layout in
+    judged 5 false c.in_ok-at.ensures.number
+    (ap₂ ◌&&◌ (rw (l.seconds, l.nodes) at c.triangle_ok-seconds.ensures) (rw (l.metres, l.nodes) at c.triangle_ok-metres.ensures)) c.if-seconds-metres.false

@@ -11,8 +11,9 @@ use Rattle.round.proofs.put_printed.Goals as goal
 pub returns-then-input-gt-SHEET : goal.returns-then-input-gt-SHEET
 unfolding printed refused_line
 returns-then-input-gt-SHEET c =
-    let takes = field-takes (bytes "refused") _ (code "\n") c.put_refused.ensures in
-    (rw (lt-ltb _ _ c.if-input-gt-SHEET.true) (put_first c.put_refused.ensures (omega (arith, takes.0, c.requires.1))), omega (arith, takes.0, takes.1, c.requires.1))
+    let put = rw c.number.ensures at c.put_refused.ensures in
+    let takes = field-takes (bytes "refused") _ (code "\n") put in
+    (rw (lt-ltb _ _ c.if-input-gt-SHEET.true) (put_first put (omega (arith, takes.0, c.requires.1))), omega (arith, takes.0, takes.1, c.requires.1))
 
 pub returns : goal.returns
 unfolding printed

@@ -1,111 +1,91 @@
-use mathlib.Core.List.{List}
-use mathlib.Core.Path.{◌≡◌, sym, ◌∙◌}
-use native.Mathlib.Omega.{arith}
-use native.Mathlib.Nat.{mul-le-mul}
-use Prim.Native.Nat.{ℕ, ◌+◌, ◌/◌}
-use Rattle.laws.proofs.Choice.{or-else-next, first_stops}
+use Rattle.std.proofs.Common.{◌≡◌, ◌∙◌, ◌*◌, ◌/◌, ◌≤◌, ◌<◌, List, ℕ, refl, arith}
+use Rattle.std.proofs.Math.Nat.{mul-le-mul}
 use Rattle.laws.specs.Basic.{or_else}
 use Rattle.words.specs.Word.{size}
-use Rattle.sheet.specs.Section.{n_of, nodes_at, jobs_at, seconds_at, metres_at, steps_at, table_refusal, steps_refusal, later_refusal, read_refusal}
-use Rattle.sheet.specs.Place.{part_of, Stands}
-use Rattle.sheet.specs.declared.Part.{Part}
-use Rattle.sheet.proofs.PlaceLaws.{limits-zero, nodes-zero, jobs-zero, part-answer, part-stands, table_is, table-stands, found-refused, found-whole}
+use Rattle.rules.proofs.Refusals.{handed, handed_on, gone_on}
+use Rattle.sheet.specs.Section.{n_of, seconds_at, metres_at, limits_refusal, nodes_refusal, jobs_refusal, table_refusal, steps_refusal, later_refusal}
+use Rattle.sheet.proofs.PlaceLaws.{limits-zero, nodes-zero, jobs-zero, table-stands}
 use Rattle.sheet.proofs.later.Goals as goal
 
--- the seconds behind the jobs: by what the sheet says, and what is left to refuse it
-module _ {s : List ℕ} {nodes jobs seconds : Part} (n : Stands s (nodes_at s) size.node nodes) (j : Stands s (jobs_at s) size.job jobs)
-    (e : seconds ≡ part_of s jobs.end 1 (table_refusal s nodes.count jobs.end)) where
-  seconds-is : seconds ≡ part_of s (seconds_at s) 1 (table_refusal s (n_of s) (seconds_at s))
-  seconds-is = table_is s n.count j.end e
-
-  seconds-stand : seconds.answer ≡ 0 → (seconds.from ≡ seconds_at s + 1) × (seconds.end ≡ metres_at s)
-  seconds-stand z = table-stands s _ _ seconds-is z
-
-  past-seconds : read_refusal s ≡ later_refusal s → seconds.answer ≡ 0
-      → read_refusal s ≡ or_else (table_refusal s (n_of s) (metres_at s)) (steps_refusal s)
-  unfolding later_refusal
-  past-seconds r z = r ∙ or-else-next _ _ (sym (part-answer s _ _ _ seconds-is) ∙ z)
-
--- the metres behind them
-module _ (s : List ℕ) {nodes metres : Part} {at : ℕ} (n : Stands s (nodes_at s) size.node nodes) (b : at ≡ metres_at s)
-    (e : metres ≡ part_of s at 1 (table_refusal s nodes.count at)) where
-  metres-is : metres ≡ part_of s (metres_at s) 1 (table_refusal s (n_of s) (metres_at s))
-  metres-is = table_is s n.count b e
-
-  metres-stand : metres.answer ≡ 0 → (metres.from ≡ metres_at s + 1) × (metres.end ≡ steps_at s)
-  metres-stand z = table-stands s _ _ metres-is z
-
-  past-metres : read_refusal s ≡ or_else (table_refusal s (n_of s) (metres_at s)) (steps_refusal s)
-      → metres.answer ≡ 0 → read_refusal s ≡ steps_refusal s
-  past-metres r z = r ∙ or-else-next _ _ (sym (part-answer s _ _ _ metres-is) ∙ z)
-
-pub table-seconds-requires : goal.table-seconds-requires
-table-seconds-requires c =
-    let p = c.requires.s_value in
-    let q = c.requires.stands in
-    let v = limits-zero _ p.0 in
-    let n = nodes-zero _ p.1 in
-    let j = jobs-zero _ p.2 in
-    omega arith
-
-pub returns-then-seconds-ne0 : goal.returns-then-seconds-ne0
+-- what is left to ask once the seconds are fine, and once the metres are too
+past-seconds : (s : List ℕ) → 0 ≡ table_refusal s (n_of s) (seconds_at s) → or_else (table_refusal s (n_of s) (metres_at s)) (steps_refusal s) ≡ later_refusal s
 unfolding later_refusal
-returns-then-seconds-ne0 c =
+past-seconds s z = gone_on _ z refl
+
+past-metres : (s : List ℕ) → 0 ≡ table_refusal s (n_of s) (seconds_at s) → 0 ≡ table_refusal s (n_of s) (metres_at s) → steps_refusal s ≡ later_refusal s
+past-metres s z m = gone_on _ m refl ∙ past-seconds s z
+
+-- a sheet whose first three sections are fine is short up to there, and has few nodes
+record Few (s : List ℕ) : Type 0 where
+  n : n_of s ≤ 64
+  square : n_of s * n_of s ≤ 4096
+  at : seconds_at s < 80000
+
+few : (s : List ℕ) → (limits_refusal s ≡ 0) × (nodes_refusal s ≡ 0) × (jobs_refusal s ≡ 0) → Few s
+few s f =
+    let v = limits-zero s f.0 in
+    let n = nodes-zero s f.1 in
+    let j = jobs-zero s f.2 in
+    record { n = n.high; square = omega (arith, mul-le-mul n.high n.high); at = omega arith }
+
+pub table-requires : goal.table-requires
+table-requires c =
+    let f = few c.args.s.now c.requires.fine in
     let p = c.requires.stands in
-    let z = c.if-seconds-ne0.true in
-    let e = seconds-is p.1 p.2 c.table-seconds.ensures in
-    found-refused _ c.refused.ensures (first_stops _ (part-answer _ _ _ _ e) z ∙ sym c.requires.s_value_2) z
+    omega (arith, p.1.count, p.2.end)
 
-pub table-metres-requires : goal.table-metres-requires
-table-metres-requires c =
-    let p = c.requires.s_value in
-    let q = c.requires.stands in
-    let v = limits-zero _ p.0 in
-    let n = nodes-zero _ p.1 in
-    let j = jobs-zero _ p.2 in
-    let t = seconds-stand q.1 q.2 c.table-seconds.ensures c.if-seconds-ne0.false in
-    omega (arith, mul-le-mul n.high n.high)
-
-pub returns-then-metres-ne0 : goal.returns-then-metres-ne0
-returns-then-metres-ne0 c =
+pub returns-in_err-seconds-clause-number : goal.returns-in_err-seconds-clause-number
+unfolding later_refusal
+returns-in_err-seconds-clause-number c =
     let p = c.requires.stands in
-    let e = c.table-seconds.ensures in
-    let z = c.if-metres-ne0.true in
-    let t = seconds-stand p.1 p.2 e c.if-seconds-ne0.false in
-    let r = past-seconds p.1 p.2 e c.requires.s_value_2 c.if-seconds-ne0.false in
-    found-refused _ c.refused-then-metres-ne0.ensures (first_stops _ (part-answer _ _ _ _ (metres-is _ p.1 t.1 c.table-metres.ensures)) z ∙ sym r) z
+    handed _ _ c.from_residual.ensures.1 (handed_on _ _ (rw (p.1.count, p.2.end) at c.in_err-seconds.ensures.number))
 
-pub steps-steps-requires : goal.steps-steps-requires
-steps-steps-requires c =
-    let p = c.requires.s_value in
-    let q = c.requires.stands in
-    let v = limits-zero _ p.0 in
-    let n = nodes-zero _ p.1 in
-    let j = jobs-zero _ p.2 in
-    let t = seconds-stand q.1 q.2 c.table-seconds.ensures c.if-seconds-ne0.false in
-    let m = metres-stand _ q.1 t.1 c.table-metres.ensures c.if-metres-ne0.false in
-    (m.1, omega (arith, mul-le-mul n.high n.high))
-
-pub returns-then-steps-ne0 : goal.returns-then-steps-ne0
-returns-then-steps-ne0 c =
+pub table-requires-2 : goal.table-requires-2
+table-requires-2 c =
+    let f = few c.args.s.now c.requires.fine in
     let p = c.requires.stands in
-    let e = c.table-seconds.ensures in
-    let t = seconds-stand p.1 p.2 e c.if-seconds-ne0.false in
-    let r = past-seconds p.1 p.2 e c.requires.s_value_2 c.if-seconds-ne0.false in
-    let q = past-metres _ p.1 t.1 c.table-metres.ensures r c.if-metres-ne0.false in
-    found-refused _ c.refused-then-steps-ne0.ensures (part-answer _ _ _ _ c.steps-steps.ensures ∙ sym q) c.if-steps-ne0.true
+    let z = rw (p.1.count, p.2.end) at c.in_ok-seconds.ensures.number in
+    let t = table-stands _ _ _ (rw p.2.end at c.in_ok-seconds.ensures.part) z in
+    omega (arith, p.1.count)
 
-pub returns : goal.returns
-returns c =
+pub returns-in_err-metres-clause-number : goal.returns-in_err-metres-clause-number
+returns-in_err-metres-clause-number c =
     let p = c.requires.stands in
-    let e = c.table-seconds.ensures in
-    let t = seconds-stand p.1 p.2 e c.if-seconds-ne0.false in
-    let m = metres-stand _ p.1 t.1 c.table-metres.ensures c.if-metres-ne0.false in
-    let r = past-seconds p.1 p.2 e c.requires.s_value_2 c.if-seconds-ne0.false in
-    let q = past-metres _ p.1 t.1 c.table-metres.ensures r c.if-metres-ne0.false in
-    let k = part-stands _ _ _ _ c.steps-steps.ensures c.if-steps-ne0.false in
-    found-whole _
-    (λ i. record {
+    let z = rw (p.1.count, p.2.end) at c.in_ok-seconds.ensures.number in
+    let t = table-stands _ _ _ (rw p.2.end at c.in_ok-seconds.ensures.part) z in
+    handed _ _ c.from_residual-in_err-metres.ensures.1 (handed_on _ _ (rw (p.1.count, t.1) at c.in_err-metres.ensures.number) ∙ past-seconds _ z)
+
+pub steps-requires : goal.steps-requires
+steps-requires c =
+    let f = few c.args.s.now c.requires.fine in
+    let p = c.requires.stands in
+    let z = rw (p.1.count, p.2.end) at c.in_ok-seconds.ensures.number in
+    let t = table-stands _ _ _ (rw p.2.end at c.in_ok-seconds.ensures.part) z in
+    let m = table-stands _ _ _ (rw t.1 at c.in_ok-metres.ensures.part) (rw (p.1.count, t.1) at c.in_ok-metres.ensures.number) in
+    (m.1, omega arith)
+
+pub returns-in_err-steps-clause-number : goal.returns-in_err-steps-clause-number
+returns-in_err-steps-clause-number c =
+    let p = c.requires.stands in
+    let z = rw (p.1.count, p.2.end) at c.in_ok-seconds.ensures.number in
+    let t = table-stands _ _ _ (rw p.2.end at c.in_ok-seconds.ensures.part) z in
+    handed _ _ c.from_residual-in_err-steps.ensures.1 (c.in_err-steps.ensures.number ∙ past-metres _ z (rw (p.1.count, t.1) at c.in_ok-metres.ensures.number))
+
+pub returns-clause-number : goal.returns-clause-number
+returns-clause-number c =
+    let p = c.requires.stands in
+    let z = rw (p.1.count, p.2.end) at c.in_ok-seconds.ensures.number in
+    let t = table-stands _ _ _ (rw p.2.end at c.in_ok-seconds.ensures.part) z in
+    c.in_ok-steps.ensures.number ∙ past-metres _ z (rw (p.1.count, t.1) at c.in_ok-metres.ensures.number)
+
+pub returns-clause-layout : goal.returns-clause-layout
+returns-clause-layout c =
+    let p = c.requires.stands in
+    let z = rw (p.1.count, p.2.end) at c.in_ok-seconds.ensures.number in
+    let t = table-stands _ _ _ (rw p.2.end at c.in_ok-seconds.ensures.part) z in
+    let m = table-stands _ _ _ (rw t.1 at c.in_ok-metres.ensures.part) (rw (p.1.count, t.1) at c.in_ok-metres.ensures.number) in
+    let k = c.in_ok-steps.ensures.part in
+    λ i. record {
       vans = p.0.count i / size.van;
       nodes = p.1.count i;
       jobs = p.2.count i;
@@ -116,5 +96,4 @@ returns c =
       seconds = t.0 i;
       metres = m.0 i;
       step = k.from i;
-    })
-    (q ∙ sym (part-answer _ _ _ _ c.steps-steps.ensures) ∙ c.if-steps-ne0.false)
+    }

@@ -1,56 +1,39 @@
-use mathlib.Core.Bool.{Bool}
-use mathlib.Core.List.{List}
-use mathlib.Core.Path.{◌≡◌, sym, ap, ◌∙◌}
-use native.Mathlib.Omega.{arith}
-use native.Mathlib.Nat.{suc-ne-zero}
-use Prim.Native.Nat.{ℕ, ◌%◌}
-use lib.ListN.{length}
+use Rattle.std.proofs.Common.{◌≡◌, ◌∙◌, ◌%◌, refl, sym, arith, ap, Bool, List, ℕ, length}
 use borrow.Author.Tests.{eq-eqb, ne_eqb}
-use Rattle.laws.proofs.Choice.{or-else-next, first_stops}
 use Rattle.laws.specs.Basic.{or_else, unless}
 use Rattle.rules.specs.Numbers.{refusal}
+use Rattle.rules.proofs.Refusals.{handed, handed_on, gone_on}
 use Rattle.sheet.specs.Section.{limits_refusal, nodes_refusal, jobs_refusal, later_refusal, read_refusal}
-use Rattle.sheet.proofs.PlaceLaws.{limits-zero, part-answer, part-stands, found-refused}
+use Rattle.sheet.proofs.PlaceLaws.{limits-zero, read-laid}
 use Rattle.sheet.proofs.sections.Goals as goal
 
--- what is left to refuse a sheet of whole words
-past-length : (s : List ℕ) → length s % 4 ≡ 0
-    → read_refusal s ≡ or_else (limits_refusal s) (or_else (nodes_refusal s) (or_else (jobs_refusal s) (later_refusal s)))
+-- what is left to ask once the length is fine
+left : (s : List ℕ) → length s % 4 ≡ 0 → or_else (limits_refusal s) (or_else (nodes_refusal s) (or_else (jobs_refusal s) (later_refusal s))) ≡ read_refusal s
 unfolding read_refusal
-past-length s e = or-else-next _ _ (ap (λ (b : Bool). unless b refusal.SHORT) (eq-eqb _ _ e))
+left s e = gone_on _ (ap (λ (b : Bool). unless b refusal.SHORT) (sym (eq-eqb _ _ e))) refl
 
-pub returns-then-s-ne0 : goal.returns-then-s-ne0
+pub returns-then-s-ne0-clause-number : goal.returns-then-s-ne0-clause-number
 unfolding read_refusal or_else
-returns-then-s-ne0 c = found-refused _ c.refused.ensures (simp (ne_eqb _ _ c.if-s-ne0.true)) (suc-ne-zero 0)
+returns-then-s-ne0-clause-number c = simp (ne_eqb _ _ c.if-s-ne0.true)
 
-pub returns-then-vans-ne0 : goal.returns-then-vans-ne0
-returns-then-vans-ne0 c =
-    let z = c.if-vans-ne0.true in
-    let r = past-length _ c.if-s-ne0.false in
-    found-refused _ c.refused-then-vans-ne0.ensures (first_stops _ (part-answer _ _ _ _ c.limits-vans.ensures) z ∙ sym r) z
+pub returns-in_err-vans-clause-number : goal.returns-in_err-vans-clause-number
+returns-in_err-vans-clause-number c = handed _ _ c.from_residual.ensures.1 (handed_on _ _ c.in_err-vans.ensures.number ∙ left _ c.if-s-ne0.false)
 
-pub nodes-nodes-requires : goal.nodes-nodes-requires
-nodes-nodes-requires c =
-    let e = c.limits-vans.ensures in
-    let v = part-stands _ _ _ _ e c.if-vans-ne0.false in
-    let h = limits-zero _ (sym (part-answer _ _ _ _ e) ∙ c.if-vans-ne0.false) in
+pub nodes-requires : goal.nodes-requires
+nodes-requires c =
+    let v = c.in_ok-vans.ensures.part in
+    let h = limits-zero _ (sym c.in_ok-vans.ensures.number) in
     omega arith
 
-pub returns-then-nodes-ne0 : goal.returns-then-nodes-ne0
-returns-then-nodes-ne0 c =
-    let z = c.if-nodes-ne0.true in
-    let y = sym (part-answer _ _ _ _ c.limits-vans.ensures) ∙ c.if-vans-ne0.false in
-    let r = past-length _ c.if-s-ne0.false ∙ or-else-next _ _ y in
-    found-refused _ c.refused-then-nodes-ne0.ensures (first_stops _ (part-answer _ _ _ _ c.nodes-nodes.ensures) z ∙ sym r) z
+pub returns-in_err-nodes-clause-number : goal.returns-in_err-nodes-clause-number
+returns-in_err-nodes-clause-number c =
+    handed _ _ c.from_residual-in_err-nodes.ensures.1 (gone_on _ c.in_ok-vans.ensures.number (handed_on _ _ c.in_err-nodes.ensures.number) ∙ left _ c.if-s-ne0.false)
 
-pub from_jobs-requires : goal.from_jobs-requires
-from_jobs-requires c =
-    let v = c.limits-vans.ensures in
-    let n = c.nodes-nodes.ensures in
-    let y = sym (part-answer _ _ _ _ v) ∙ c.if-vans-ne0.false in
-    let z = sym (part-answer _ _ _ _ n) ∙ c.if-nodes-ne0.false in
-    record {
-      s_value = (y, z);
-      stands = (part-stands _ _ _ _ v c.if-vans-ne0.false, part-stands _ _ _ _ n c.if-nodes-ne0.false);
-      s_value_2 = past-length _ c.if-s-ne0.false ∙ or-else-next _ _ y ∙ or-else-next _ _ z;
-    }
+pub returns-clause-number : goal.returns-clause-number
+returns-clause-number c =
+    gone_on _ c.in_ok-vans.ensures.number (gone_on _ c.in_ok-nodes.ensures.number c.from_jobs.ensures.number) ∙ left _ c.if-s-ne0.false
+
+pub returns-clause-layout : goal.returns-clause-layout
+returns-clause-layout c =
+    read-laid c.args.s.now c.from_jobs.result
+    (gone_on _ c.in_ok-vans.ensures.number (gone_on _ c.in_ok-nodes.ensures.number c.from_jobs.ensures.number) ∙ left _ c.if-s-ne0.false) c.from_jobs.ensures.layout

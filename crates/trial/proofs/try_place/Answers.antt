@@ -1,15 +1,18 @@
 use Rattle.fleet.proofs.Told.{is-held-all}
-use Rattle.trial.proofs.Trial.{no-level, kept, given_back}
+use Rattle.trial.proofs.Trial.{good-is, went, erred, no-level, kept, given_back}
 use Rattle.trial.proofs.try_place.Goals as goal
 
-pub returns-then-level-ne0 : goal.returns-then-level-ne0
-returns-then-level-ne0 c = no-level _ _ _ _ _ _ c.step-level.ensures c.if-level-ne0.true
+pub returns-then-is_err : goal.returns-then-is_err
+returns-then-is_err c = no-level _ _ _ _ _ _ c.step.ensures (erred _ c.is_err.ensures.negation c.if-is_err.true)
 
-pub returns-then-placed-settled : goal.returns-then-placed-settled
-returns-then-placed-settled c =
-    kept _ _ _ _ _ _ c.step-level.ensures c.if-level-ne0.false c.step-placed.ensures c.step-settled.ensures (rw c.verdict-judged.ensures at c.if-placed-settled.true)
+pub returns-then-is_ok-alive : goal.returns-then-is_ok-alive
+returns-then-is_ok-alive c =
+    kept _ _ _ _ _ _ c.step.ensures (went _ c.is_err.ensures.negation c.if-is_err.false) c.step-placed.ensures c.step-settled.ensures
+    (good-is _ c.step-placed.new.fleet _ _ _ _ c.is_ok.ensures.value c.is_ok-2.ensures.value c.unwrap_or-alive.ensures c.verdict.ensures c.if-is_ok-alive.true)
 
 pub returns : goal.returns
 returns c =
-    given_back _ _ _ _ _ _ c.step-level.ensures c.if-level-ne0.false c.step-placed.ensures c.step-settled.ensures
-    (is-held-all c.args.fleet _ c.well_formed.1.0) (rw c.verdict-judged.ensures at c.if-placed-settled.false) c.step-back.ensures
+    given_back _ _ _ _ _ _ c.step.ensures (went _ c.is_err.ensures.negation c.if-is_err.false) c.step-placed.ensures c.step-settled.ensures
+    (is-held-all c.args.fleet _ c.well_formed.1.0)
+    (good-is _ c.step-placed.new.fleet _ _ _ _ c.is_ok.ensures.value c.is_ok-2.ensures.value c.unwrap_or-alive.ensures c.verdict.ensures c.if-is_ok-alive.false)
+    c.step-2.ensures

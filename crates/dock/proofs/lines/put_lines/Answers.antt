@@ -4,6 +4,8 @@ use Rattle.bits.proofs.Members.{false-true}
 use Rattle.fleet.specs.Rows.{fleet_with, RowsOf}
 use Rattle.fleet.proofs.ServedLaws.{serving}
 use Rattle.listing.proofs.TextLaws.{step-takes}
+use Rattle.rules.specs.Refused.{number_in}
+use Rattle.trail.specs.Steps.{rounds_of}
 use Rattle.telling.specs.Told.{ToldAll, sums_of, KeptAll}
 use Rattle.telling.proofs.VanLaws.{rows_none}
 use Rattle.dock.proofs.Reach.{begun, readied, goes_on, line-is, summing, told-on, kept_on, still}
@@ -53,10 +55,10 @@ pub tell_vans-requires-then-stale : goal.tell_vans-requires-then-stale
 tell_vans-requires-then-stale c =
     let s = c.requires.sheet_value in
     let v = c.loop-i in
-    let n = c.step_at-o.new in
-    let e = c.step_at-o.ensures.i_value in
+    let n = c.step_at-answer.new in
+    let e = c.step_at-answer.ensures.i_value in
     let on = goes_on s.0 v.invariant.reached _ _ _ e in
-    let ready = readied s.0 s.1 n.routes n.sets n.levels n.figures c.step_at-o.ensures.rows_2.3 on in
+    let ready = readied s.0 s.1 n.routes n.sets n.levels n.figures c.step_at-answer.ensures.rows_2.3 on in
     let inv = v.invariant in
     record {
       ready_all = (ready, inv.told_rows, s.3);
@@ -71,22 +73,22 @@ pub sums_now-sums-requires-then-stale : goal.sums_now-sums-requires-then-stale
 sums_now-sums-requires-then-stale c =
     let s = c.requires.sheet_value in
     let v = c.loop-i in
-    let n = c.step_at-o.new in
-    let e = c.step_at-o.ensures.i_value in
+    let n = c.step_at-answer.new in
+    let e = c.step_at-answer.ensures.i_value in
     let on = goes_on s.0 v.invariant.reached _ _ _ e in
-    let ready = readied s.0 s.1 n.routes n.sets n.levels n.figures c.step_at-o.ensures.rows_2.3 on in
+    let ready = readied s.0 s.1 n.routes n.sets n.levels n.figures c.step_at-answer.ensures.rows_2.3 on in
     let same = told-on s.0 s.1 v.routes v.sets v.levels v.figures v.invariant.rows.3 v.invariant.reached _ _ _ n.routes n.sets n.levels n.figures e v.invariant.told_all in
     let told = c.tell_vans-then-stale.ensures.by_index n.levels (λ j h e. same j h) in
     let serves = serving ready in
-    let t = summing s.0 s.1 n.routes n.sets n.levels n.figures c.step_at-o.ensures.rows_2.3 on told in
+    let t = summing s.0 s.1 n.routes n.sets n.levels n.figures c.step_at-answer.ensures.rows_2.3 on told in
     record { v_le_most_vans = t; figured = (serves.0.1, serves.1) }
 
 pub loop-i-preserved : goal.loop-i-preserved
 loop-i-preserved c =
     let s = c.requires.sheet_value in
     let v = c.loop-i in
-    let n = c.step_at-o.new in
-    let e = c.step_at-o.ensures.i_value in
+    let n = c.step_at-answer.new in
+    let e = c.step_at-answer.ensures.i_value in
     let on = goes_on s.0 v.invariant.reached _ _ _ e in
     let same = told-on s.0 s.1 v.routes v.sets v.levels v.figures v.invariant.rows.3 v.invariant.reached _ _ _ n.routes n.sets n.levels n.figures e v.invariant.told_all in
     let inv = v.invariant in
@@ -105,7 +107,7 @@ loop-i-preserved c =
           rw (w.told-is, w.sums-is, w.ways-is) (h.0, h.1, h.2, inv.told_rows)
     ] in
     let k = step-takes _ _ _ _ _ _ c.put_line-used.ensures in
-    let line = line-is s.0 on h.0 v.i c.step_at-o.result.answer c.step_at-o.result.rounds s.1.vans h.1 in
+    let line = line-is s.0 on h.0 v.i (number_in c.step_at-answer.result) (rounds_of c.step_at-answer.result) s.1.vans h.1 in
     record {
       room = omega (arith, k.0, inv.room);
       out_len = k.1 ∙ inv.out_len;
@@ -115,7 +117,7 @@ loop-i-preserved c =
       reached = on;
       told_all = h.0;
       told_rows = h.3;
-      rows = c.step_at-o.ensures.rows_2;
+      rows = c.step_at-answer.ensures.rows_2;
       summed = h.1;
       kept = h.2;
     }

@@ -5,12 +5,12 @@ use Rattle.trail.proofs.StepLaws.{inner_below, requirable}
 use Rattle.trail.proofs.steps.require.Goals as goal
 
 pub first_word-requires : goal.first_word-requires
-first_word-requires c = grind (arith, common_steps, inner_below, requirable, c.require_refusal-code.ensures [])
+first_word-requires c = grind (arith, common_steps, inner_below, requirable, c.in_ok-require_refusal.ensures [])
 
 pub push-requires : goal.push-requires
 unfolding room_of
-push-requires c = grind (arith, common_steps, requirable, c.require_refusal-code.ensures [])
+push-requires c = grind (arith, common_steps, requirable, c.in_ok-require_refusal.ensures [])
 
-pub overflow_add-result : goal.overflow_add-result
+pub overflow_add-i : goal.overflow_add-i
 unfolding room_of
-overflow_add-result c = grind (arith, common_steps, requirable, c.require_refusal-code.ensures [])
+overflow_add-i c = grind (arith, common_steps, requirable, c.in_ok-require_refusal.ensures [])

@@ -14,8 +14,7 @@ use Rattle.trail.proofs.steps.settle.Goals as goal
 
 pub returns-then-rounds-eq0 : goal.returns-then-rounds-eq0
 returns-then-rounds-eq0 c =
-    let b = c.requires.records_bound in
-    λ route levels. rw (c.same.ensures, c.if-rounds-eq0.true, b.1 c.if-rounds-eq0.true) (settle-still _ _ b.0)
+    λ route levels. rw (c.at.ensures, c.if-rounds-eq0.true, c.requires.records_bound.1 c.if-rounds-eq0.true) (settle-still _ _ c.requires.records_bound.0)
 
 pub returns-then-room-i : goal.returns-then-room-i
 unfolding settle_step room_of
@@ -23,7 +22,7 @@ returns-then-room-i c =
     let a = c.args in
     let e = lt-leb (a.f.records + shrunk a.sets.now a.new.now 64) (length a.trail.now / 2)
     (omega (arith, c.needed-more.ensures.0, c.if-room-i.true)) in
-    λ route levels. rw (c.same-then-room-i.ensures, e) (step-no refusal.ROOM _ _ _ (eqb-false refusal.ROOM 0 refl))
+    λ route levels. rw e (step-no refusal.ROOM _ _ _ (eqb-false refusal.ROOM 0 refl))
 
 pub returns : goal.returns
 unfolding settle_step room_of

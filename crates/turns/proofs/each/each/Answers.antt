@@ -1,7 +1,7 @@
 use mathlib.Core.Path.{◌≡◌, sym}
 use native.Mathlib.Omega.{arith}
 use Rattle.turns.proofs.TogetherLaws.{together-is}
-use Rattle.turns.proofs.EachLaws.{taken_none, taken-fits, taken-asks, taken-goes, taken-all}
+use Rattle.turns.proofs.EachLaws.{taken_none, taken-fits, taken-asks, taken-goes, taken-all, accepted}
 use Rattle.turns.proofs.each.each.Goals as goal
 
 pub loop-j-init : goal.loop-j-init
@@ -34,9 +34,8 @@ turn-o-requires c =
 pub loop-j-preserved : goal.loop-j-preserved
 loop-j-preserved c =
     let p = c.requires.le_v in
-    rw c.put_figures.ensures
-    (taken-goes c.args.share c.loop-j.invariant p.2 c.loop-j-test.true p.1 c.turn-o.result (rw c.figures_in-f.ensures at c.turn-o.ensures)
-    c.trail-1.given.0)
+    rw (c.put_figures.ensures, c.after.ensures, c.figures_in-f.ensures, accepted c.turn-o.result c.is_ok-fits.ensures.value)
+    (taken-goes c.args.share c.loop-j.invariant p.2 c.loop-j-test.true p.1 _ c.turn-o.result (rw c.figures_in-f.ensures at c.turn-o.ensures) c.trail-1.given.0)
 
 pub returns : goal.returns
 returns c =
