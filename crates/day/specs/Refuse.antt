@@ -1,5 +1,5 @@
 -- What a call on a sheet and its opening check: "then leftovers, 4, 5", with 6 "after 4 and before 5", and 7 "checked with 6, after it".
-use Rattle.std.specs.Prelude.{ℕ, ◌-◌, ◌&&◌, Bool, false, not, ◌||◌, List, leb, eqb}
+use Rattle.std.specs.Prelude.{ℕ, ◌-◌, ◌&&◌, Bool, false, not, ◌||◌, Some, Result, Ok, Err, List, leb, eqb}
 use Rattle.laws.specs.Basic.{or_else, unless, all_below}
 use Rattle.rules.specs.Numbers.{refusal}
 use Rattle.rules.specs.Day.{triangle}
@@ -7,8 +7,12 @@ use Rattle.rules.specs.Load.{load_of}
 use Rattle.rules.specs.Profile.{clean_at, soiled_at}
 use Rattle.rules.specs.declared.Job.{Job}
 use Rattle.rules.specs.declared.Job.TheVariants.{Clean, Soiled, Transfer}
+use Rattle.rules.specs.Refused.{number_of}
 use Rattle.sheet.specs.Section.{read_refusal, vans_of, n_of, m_of}
+use Rattle.sheet.specs.Place.{Found}
+use Rattle.sheet.specs.declared.Layout.{Layout}
 use Rattle.day.specs.Tell.{seconds_of, metres_of, job_in, largest_of, admitted}
+use Rattle.day.specs.declared.Refused.{Refused}
 
 -- a transfer with an end at x
 abbrev pub end_at : ℕ → Job → Bool
@@ -48,3 +52,8 @@ call_refusal s =
 -- what opening checks, or 0: the same, then "for some three different i, j, k: seconds or metres (i, k) above (i, j) + (j, k)"
 unfoldable pub open_refusal : List ℕ → ℕ
 open_refusal s = or_else (call_refusal s) (unless (triangle (n_of s) (seconds_of s) && triangle (n_of s) (metres_of s)) refusal.TRIANGLE)
+
+-- what an answer of the code says of a sheet
+abbrev pub found_in : Result Layout Refused → Found
+found_in (Ok l) = record { answer = 0; layout = Some l }
+found_in (Err r) = record { answer = number_of r.why; layout = r.at }

@@ -5,41 +5,74 @@ pub mod classes;
 pub mod jobs;
 pub mod look;
 
-ghost use Rattle.std.specs.Prelude.{◌≡◌, ◌+◌, ◌*◌, ◌≤◌, IfOk};
-ghost use Rattle.rules.specs.Refused.{number_in};
-ghost use Rattle.sheet.specs.Place.{Laid};
-ghost use Rattle.day.specs.Refuse.{call_refusal, open_refusal};
+ghost use Rattle.std.specs.Prelude.{◌≡◌, ◌+◌, ◌*◌, ◌≤◌, IfOk, Some, None};
+ghost use Rattle.sheet.specs.Place.{Laid, found};
+ghost use Rattle.day.specs.Refuse.{call_refusal, open_refusal, found_in};
 ghost use Rattle.day.specs.Section.{section_in, SpanIn};
 
 use rules::Refusal;
 use sheet::Layout;
 use words::Entry;
 
+// Why a sheet is refused, and where it has what, where its sections are not.
+#[derive(Clone, Copy)]
+pub struct Refused {
+    pub why: Refusal,
+    pub at: Option<Layout>,
+}
+
+impl Refused {
+    // By what is asked once its sections are read.
+    fn behind(at: Layout, why: Refusal) -> Refused
+        ensures { result ≡ record { why = why; at = Some at } }
+    {
+        Refused { why, at: Some(at) }
+    }
+}
+
+impl From<Refusal> for Refused {
+    ghost from_gives = { λ why r. r ≡ record { why = why; at = None } };
+
+    fn from(why: Refusal) -> Refused {
+        Refused { why, at: None }
+    }
+}
+
+impl From<Refused> for Refusal {
+    ghost from_gives = { λ r why. why ≡ r.why };
+
+    fn from(r: Refused) -> Refusal {
+        r.why
+    }
+}
+
 // What every call on a sheet checks: where it has what, or why it is refused.
-pub fn checked(s: &[u8]) -> Result<Layout, Refusal>
-    ensures number { number_in result ≡ call_refusal s.now }
+pub fn checked(s: &[u8]) -> Result<Layout, Refused>
+    ensures found { found_in result ≡ found call_refusal s.now }
+    ensures number { (found_in result).answer ≡ call_refusal s.now }
     ensures layout { IfOk result (Laid s.now) }
 {
     let at = sheet::sections(s)?;
     let jobs = jobs::look_over(s, at);
     if !jobs.apart {
-        return Err(Refusal::Twice);
+        return Err(Refused::behind(at, Refusal::Twice));
     }
     let most = look::largest(s, at);
     let light = jobs.heaviest <= most;
     if !light {
-        return Err(Refusal::Heavy);
+        return Err(Refused::behind(at, Refusal::Heavy));
     }
     if classes::ends_admit(s, at) {
         Ok(at)
     } else {
-        Err(Refusal::Class)
+        Err(Refused::behind(at, Refusal::Class))
     }
 }
 
 // What opening checks.
-pub fn opening(s: &[u8]) -> Result<Layout, Refusal>
-    ensures number { number_in result ≡ open_refusal s.now }
+pub fn opening(s: &[u8]) -> Result<Layout, Refused>
+    ensures found { found_in result ≡ found open_refusal s.now }
+    ensures number { (found_in result).answer ≡ open_refusal s.now }
     ensures layout { IfOk result (Laid s.now) }
 {
     let at = checked(s)?;
@@ -48,7 +81,7 @@ pub fn opening(s: &[u8]) -> Result<Layout, Refusal>
     if seconds & metres {
         Ok(at)
     } else {
-        Err(Refusal::Triangle)
+        Err(Refused::behind(at, Refusal::Triangle))
     }
 }
 

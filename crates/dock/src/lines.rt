@@ -205,6 +205,6 @@ pub fn list(sheet: &[u8], trail: &mut [u64], out: &mut [u8]) -> usize
 {
     match day::opening(sheet) {
         Ok(at) => put_all(sheet, at, trail, out),
-        Err(e) => put_refused(out, 0, e.number() as u64),
+        Err(e) => put_refused(out, 0, e.why.number() as u64),
     }
 }

@@ -1,15 +1,16 @@
 -- A loop over the places of a word; and what window and metres leave of it, leg by leg.
 use mathlib.Core.Path.{◌≡◌, refl, sym, ap, ◌∙◌, subst}
-use mathlib.Core.Bool.{Bool, false}
+use mathlib.Core.Bool.{Bool, false, ◌&&◌}
 use mathlib.Core.List.{List}
 use mathlib.Core.Logic.{◌↔◌}
-use Prim.Native.Nat.{ℕ, ◌+◌, ◌^◌, ◌<◌}
+use Prim.Native.Nat.{ℕ, ◌+◌, ◌^◌, ◌<◌, max}
 use native.Mathlib.Numerals.{add-one}
 use native.Mathlib.Omega.{arith}
-use lib.Dec.{T, eqb}
+use lib.Dec.{T, leb, eqb}
 use lib.ListN.{get_or}
-use lib.IntN.{ℤ}
-use borrow.Author.Tests.{eqb-true, eqb-false}
+use lib.IntN.{ℤ, pos, negsuc}
+use lib.Signed.{le_z}
+use borrow.Author.Tests.{eqb-true, eqb-false, leb-true, leb-false, le-leb, lt-leb}
 use Rattle.laws.proofs.Logic.{decided, T→true, true→T}
 use Rattle.bits.specs.Places.{has, without, lowest}
 use Rattle.bits.proofs.Members.{has-none, without-same, without_other, without-fits, without-part, members-once}
@@ -81,6 +82,15 @@ sifted-kept {l} {at} {legs} {f} s n a = record {
 }
 
 -- ---- a walk from leg to leg: when the i-th is left, and the start at its other end
+-- the later of two is not after a moment: neither is
+pub both_later : (a b : ℕ) (z : ℤ) → le_z (pos a) z && le_z (pos b) z ≡ le_z (pos (max a b)) z
+both_later a b (pos k) = decided (leb a k)
+    (λ e. decided (leb b k)
+    (λ f. rw (e, f) (sym (le-leb (max a b) k (omega (arith, leb-true a k e, leb-true b k f)))))
+    (λ f. rw (e, f) (sym (lt-leb (max a b) k (omega (arith, leb-false b k f))))))
+    (λ e. rw e (sym (lt-leb (max a b) k (omega (arith, leb-false a k e)))))
+both_later a b (negsuc k) = refl
+
 pub left-told : (d : Day) (l : List ℕ) (i : ℕ) {p t b : ℕ} → p ≡ get_or l i 0 → t ≡ start_at d l i → b ≡ d.service p → t + b ≡ left_at d l i
 left-told d l i e f g = λ u. f u + (g ∙ ap d.service e) u
 

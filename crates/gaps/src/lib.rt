@@ -37,6 +37,7 @@ pub struct Trial {
 }
 
 // Whether the later of two moments is not after `last`: neither is. Nothing is chosen between them, so nothing has to be guessed by the machine.
+#[tactic(auto, using(crate::proofs::GapLaws::both_later))]
 fn both_in_time(a: usize, b: usize, last: i64) -> bool
     requires { (a < 4611686018427387904) × (b < 4611686018427387904) }
     ensures { result ≡ le_z (pos (max a b)) last }

@@ -48,12 +48,12 @@ fn bare_task(kind: usize) -> Task {
 // One step: its rounds or its refusal, and of the fleet the stops and records of every state. Each stands at a place that the compiler knows, so that no
 // state is copied for the sum.
 fn one_step(sheet: &[u8], fleet: Fleet, trail: &mut [u64], task: Task) -> u64 {
-    let mut after = fleet;
-    let number = match planner::step(sheet, &mut after, trail, task.word, task.first, task.second) {
+    let s = planner::step(sheet, fleet, trail, task.word, task.first, task.second);
+    let number = match s.answer {
         Ok(rounds) => rounds,
         Err(refusal) => refusal.number(),
     };
-    let vans = after.vans;
+    let vans = s.fleet.vans;
     let mut sum = number as u64;
     for j in 0..Fleet::VANS {
         let one = vans[j];
@@ -130,7 +130,8 @@ fn ward_task(fleet: &Fleet, v: usize, x: usize) -> Task {
 fn build(sheet: &[u8], fleet: &mut Fleet, v: usize, trail: &mut [u64], end: usize) {
     for x in 1..end {
         let task = ward_task(fleet, v, x);
-        let _ = planner::step(sheet, fleet, trail, task.word, task.first, task.second);
+        let s = planner::step(sheet, *fleet, trail, task.word, task.first, task.second);
+        *fleet = s.fleet;
     }
 }
 
@@ -205,7 +206,8 @@ fn end_of(operation: usize, n: usize) -> usize {
 // Makes of a fresh fleet the one that an operation starts from; stepping back undoes a level opened before all.
 fn start(operation: usize, sheet: &[u8], fleet: &mut Fleet, v: usize, trail: &mut [u64], n: usize) {
     if operation == 9 {
-        let _ = planner::step(sheet, fleet, trail, Step::LEVEL, 0, 0);
+        let level = planner::step(sheet, *fleet, trail, Step::LEVEL, 0, 0);
+        *fleet = level.fleet;
     }
     build(sheet, fleet, v, trail, end_of(operation, n));
 }

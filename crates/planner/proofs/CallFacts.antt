@@ -16,11 +16,11 @@ use Rattle.fleet.specs.Form.{in_form_all}
 use Rattle.fleet.specs.Rows.{fleet_with, Rows, Figured, ReadyAll}
 use Rattle.fleet.specs.Sums.{places_all, all_served}
 use Rattle.fleet.specs.declared.Fleet.{Fleet}
-use Rattle.planner.specs.Asked.{Taken, Sized, lives}
+use Rattle.planner.specs.Asked.{Sized, lives}
 use Rattle.planner.specs.Face.{ask_refusal, plans_of}
 use Rattle.planner.proofs.Answers.{ask-clear}
 use Rattle.planner.proofs.AskLaws.{sized}
-use Rattle.planner.proofs.RowFacts.{rows-ready, places-asked, lives_all}
+use Rattle.planner.proofs.RowFacts.{Taken, rows-ready, places-asked, lives_all}
 
 module _ {sheet : List ℕ} {f : Fleet} {routes sets levels figures : List (List ℕ)} {at : Layout} (call : call_refusal sheet ≡ 0) (l : Laid sheet at) (t : Taken f routes sets levels figures) where
   pub askable : Sized at × Rows routes × Rows sets × Figured figures

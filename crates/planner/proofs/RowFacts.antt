@@ -22,16 +22,21 @@ use Rattle.board.proofs.EndLaws.{sets_end, places-end}
 use Rattle.van.specs.Act.{plan_in}
 use Rattle.fleet.specs.Fleet.{state_in, board_in, HeldAll}
 use Rattle.fleet.specs.Form.{in_form_all}
-use Rattle.fleet.specs.Rows.{row_state, fleet_with, routes_in, sets_in, levels_in, figures_all, ReadyAll, Figured}
+use Rattle.fleet.specs.Rows.{row_state, fleet_with, routes_in, sets_in, levels_in, figures_all, ReadyAll, Rows, Figured}
 use Rattle.fleet.specs.Sums.{places_all, all_served, plans_in}
 use Rattle.fleet.specs.declared.Fleet.{Fleet}
 use Rattle.fleet.proofs.FleetLaws.{state-of}
 use Rattle.fleet.proofs.RowLaws.{fleet-rows, rows-wide}
 use Rattle.fleet.proofs.FormLaws.{in-form-all}
 use Rattle.fleet.proofs.PlanLaws.{van-sound, alive-all}
-use Rattle.planner.specs.Asked.{Taken, lives}
+use Rattle.planner.specs.Asked.{lives}
 
 -- the rows have the fleet that a call was handed
+pub record Taken (f : Fleet) (routes sets levels figures : List (List ℕ)) : Type 0 where
+  pub is : fleet_with routes sets levels figures ≡ f
+  pub rows : Rows routes × Rows sets × Rows levels × Figured figures
+  pub held : HeldAll (fleet_with routes sets levels figures)
+
 pub rows_taken : (f : Fleet) {routes sets levels figures : List (List ℕ)} → HeldAll f → routes ≡ routes_in f → sets ≡ sets_in f → levels ≡ levels_in f → figures ≡ figures_all f
     → Taken f routes sets levels figures
 rows_taken f held r s l g = rw (r, s, l, g) (let e = fleet-rows f held.eight in record { is = e; rows = rows-wide f held; held = subst HeldAll (sym e) held })

@@ -7,8 +7,8 @@ use Rattle.sheet.specs.Section.{vans_of}
 use Rattle.sheet.specs.declared.Layout.{Layout}
 use Rattle.day.specs.Tell.{day_of, van_of}
 use Rattle.van.specs.Act.{plan_in}
-use Rattle.fleet.specs.Fleet.{state_in, HeldAll}
-use Rattle.fleet.specs.Rows.{fleet_with, Rows, Figured}
+use Rattle.fleet.specs.Fleet.{state_in}
+use Rattle.fleet.specs.Rows.{Figured}
 use Rattle.fleet.specs.declared.Fleet.{Fleet}
 use Rattle.turns.specs.Together.{ran_all}
 use Rattle.rules.specs.declared.Refusal.{Refusal}
@@ -29,9 +29,3 @@ lives sheet f j = alive (van_of sheet j) (day_of sheet) (plan_in (state_in f j))
 abbrev pub DidWhole : List ℕ → Fleet → List ℕ → Step → Result ℕ Refusal → List (List ℕ) → List (List ℕ) → List (List ℕ) → List (List ℕ) → List ℕ → Type 0
 DidWhole sheet f t step o routes sets levels figures u =
     (act_all (van_of sheet) (day_of sheet) (vans_of sheet) f t step ≡ ran_all o routes sets levels figures u) × Figured figures
-
--- the rows have the fleet that a call was handed
-pub record Taken (f : Fleet) (routes sets levels figures : List (List ℕ)) : Type 0 where
-  pub is : fleet_with routes sets levels figures ≡ f
-  pub rows : Rows routes × Rows sets × Rows levels × Figured figures
-  pub held : HeldAll (fleet_with routes sets levels figures)

@@ -1,7 +1,7 @@
 // The planner's five entry points. Each is total: any bytes, any fleet, any trail, any numbers.
 #![tactic(auto)]
 
-ghost use Rattle.std.specs.Prelude.{◌≡◌, ◌<◌, List, ℕ, length};
+ghost use Rattle.std.specs.Prelude.{◌≡◌, ◌<◌, List, ℕ};
 ghost use Rattle.laws.specs.Basic.{all_below};
 ghost use Rattle.sheet.specs.Section.{vans_of};
 ghost use Rattle.sheet.specs.Place.{Laid};
@@ -13,8 +13,7 @@ ghost use Rattle.fleet.specs.Fleet.{HeldAll};
 ghost use Rattle.fleet.specs.Rows.{fleet_with, Rows, Figured, ReadyAll};
 ghost use Rattle.turns.specs.Together.{ran_all};
 ghost use Rattle.acts.specs.Known.{KnownRows};
-ghost use Rattle.rules.specs.Numbers.{most_vans};
-ghost use Rattle.planner.specs.Asked.{Taken, Sized, DidWhole, lives};
+ghost use Rattle.planner.specs.Asked.{Sized, DidWhole, lives};
 ghost use Rattle.planner.specs.Face.{ask_refusal, step_of, Opens, Sections, Stepping, Counts, Judges};
 
 use acts::act;
@@ -43,23 +42,6 @@ pub fn section(sheet: &[u8], number: usize) -> &[u8]
     ensures { Sections sheet.entry.ref_ptr sheet.now number (result.ref_ptr, result.now) }
 {
     day::section(sheet, number)
-}
-
-// A fleet taken into rows.
-fn take(
-    fleet: Fleet,
-    routes: &mut [[usize; Node::MOST]; Fleet::VANS],
-    sets: &mut [[u64; Node::MOST]; Fleet::VANS],
-    levels: &mut [[usize; State::LEVELS]; Fleet::VANS],
-    figures: &mut [[u64; Figures::COUNT]; Fleet::VANS],
-)
-    requires { (length routes.old ≡ most_vans) × (length sets.old ≡ most_vans) × (length levels.old ≡ most_vans) × Figured figures.old }
-    ensures { Taken fleet routes.new sets.new levels.new figures.new }
-{
-    take_routes(fleet, routes);
-    take_sets(fleet, sets);
-    take_levels(fleet, levels);
-    take_figures(fleet, figures);
 }
 
 // Whether a call on a fleet in rows is refused for its form, the trail's room apart, on a sheet that no call refuses.
@@ -163,25 +145,42 @@ fn turn(
     act_whole(sheet, at, routes, sets, levels, figures, trail, said)
 }
 
-// One step: how many rounds of settling struck something, and the fleet and the trail changed in place; refused, both are as they were. The fleet is taken
-// into rows and changed there; of a fleet of one van the van alone is put back.
+// What a step gives: how many rounds of settling struck something, or why it is refused; and the fleet after it, which a refusal leaves as it was.
+#[derive(Clone, Copy)]
+pub struct Stepped {
+    pub answer: Result<usize, Refusal>,
+    pub fleet: Fleet,
+}
+
+// One step: its outcome, and the trail. The fleet is taken into rows and changed there; of a fleet of one van the van alone is put back.
 pub fn step(
     sheet: &[u8],
-    fleet: &mut Fleet,
+    fleet: Fleet,
     trail: &mut [u64],
     word: usize,
     first: usize,
     second: usize,
-) -> Result<usize, Refusal>
-    ensures { Stepping sheet.now fleet.old trail.old word first second (result, fleet.new, trail.new) }
+) -> Stepped
+    ensures { Stepping sheet.now fleet trail.old word first second (result.answer, result.fleet, trail.new) }
 {
-    let at = day::checked(sheet)?;
     let mut routes = [[0usize; Node::MOST]; Fleet::VANS];
     let mut sets = [[0u64; Node::MOST]; Fleet::VANS];
     let mut levels = [[0usize; State::LEVELS]; Fleet::VANS];
     let mut figures = [[0u64; Figures::COUNT]; Fleet::VANS];
-    take(*fleet, &mut routes, &mut sets, &mut levels, &mut figures);
-    let rounds = turn(
+    take_routes(fleet, &mut routes);
+    take_sets(fleet, &mut sets);
+    take_levels(fleet, &mut levels);
+    take_figures(fleet, &mut figures);
+    let at = match day::checked(sheet) {
+        Ok(at) => at,
+        Err(e) => {
+            return Stepped {
+                answer: Err(Refusal::from(e)),
+                fleet: fleet_of(&routes, &sets, &levels, &figures),
+            };
+        },
+    };
+    let answer = turn(
         sheet,
         at,
         &mut routes,
@@ -192,13 +191,17 @@ pub fn step(
         word,
         first,
         second,
-    )?;
-    if at.vans == 1 {
-        *fleet = Fleet::of_one(pack(&routes[0], &sets[0], &levels[0], &figures[0]));
-        return Ok(rounds);
+    );
+    if answer.is_ok() & (at.vans == 1) {
+        return Stepped {
+            answer,
+            fleet: Fleet::of_one(pack(&routes[0], &sets[0], &levels[0], &figures[0])),
+        };
     }
-    *fleet = fleet_of(&routes, &sets, &levels, &figures);
-    Ok(rounds)
+    Stepped {
+        answer,
+        fleet: fleet_of(&routes, &sets, &levels, &figures),
+    }
 }
 
 // The open places of a fleet in all.
@@ -210,7 +213,10 @@ pub fn open_places(sheet: &[u8], fleet: Fleet) -> Result<usize, Refusal>
     let mut sets = [[0u64; Node::MOST]; Fleet::VANS];
     let mut levels = [[0usize; State::LEVELS]; Fleet::VANS];
     let mut figures = [[0u64; Figures::COUNT]; Fleet::VANS];
-    take(fleet, &mut routes, &mut sets, &mut levels, &mut figures);
+    take_routes(fleet, &mut routes);
+    take_sets(fleet, &mut sets);
+    take_levels(fleet, &mut levels);
+    take_figures(fleet, &mut figures);
     asked(laid, &routes, &sets, &levels, &figures)?;
     Ok(places(&sets, laid.nodes, laid.vans))
 }
@@ -259,7 +265,10 @@ pub fn verdict(sheet: &[u8], fleet: Fleet) -> Result<bool, Refusal>
     let mut sets = [[0u64; Node::MOST]; Fleet::VANS];
     let mut levels = [[0usize; State::LEVELS]; Fleet::VANS];
     let mut figures = [[0u64; Figures::COUNT]; Fleet::VANS];
-    take(fleet, &mut routes, &mut sets, &mut levels, &mut figures);
+    take_routes(fleet, &mut routes);
+    take_sets(fleet, &mut sets);
+    take_levels(fleet, &mut levels);
+    take_figures(fleet, &mut figures);
     asked(laid, &routes, &sets, &levels, &figures)?;
     let mut jobs = [0u32; Jobs::ROOM];
     by_node(sheet, laid, &mut jobs);

@@ -1,7 +1,9 @@
 // The program `probe`: the planner's face for anyone who wants to try it on anything. Cases on standard input, a line of numbers each.
 #![tactic(auto)]
 
-ghost use Rattle.std.specs.Prelude.{◌≤◌, IfOk};
+ghost use Rattle.std.specs.Prelude.{◌≡◌, ◌≤◌, [], ◌∷◌, IfOk};
+ghost use Rattle.rules.specs.Refused.{number_of};
+ghost use Rattle.probe.specs.Told.{told_of};
 
 use board::State;
 use fleet::Fleet;
@@ -188,42 +190,38 @@ fn put_fleet(rt: &impl Print, out: &mut [u8], used: usize, fleet: &Fleet) -> io:
     put(rt, out, next, fleet.vans[0].must)
 }
 
-// A question about a sheet and a fleet: 0, the rounds, the open places, 1 for alive; and the fleet that comes back.
-fn ask(sheet: &[u8], case: Case, trail: &mut [u64]) -> Result<([usize; 4], Fleet), Refusal> {
-    let fleet = case.fleet;
-    match case.question {
-        0 => Ok(([0; 4], planner::open(sheet)?)),
-        1 => {
-            let mut after = fleet;
-            let rounds = planner::step(
-                sheet,
-                &mut after,
-                trail,
-                case.word,
-                case.first,
-                case.second,
-            )?;
-            Ok(([0, rounds, 0, 0], after))
-        },
-        2 => Ok(([0, 0, planner::open_places(sheet, fleet)?, 0], fleet)),
-        _ => Ok((
-            [0, 0, 0, usize::from(planner::verdict(sheet, fleet)?)],
-            fleet,
-        )),
-    }
+// The four numbers of a question that is refused.
+fn refused(why: Refusal) -> [usize; 4]
+    ensures { result ≡ number_of why ∷ 0 ∷ 0 ∷ 0 ∷ [] }
+{
+    [why.number(), 0, 0, 0]
 }
 
-// What the line of such a case tells: where it is refused, the number, and the fleet that was asked about; opening has none, and gives one of zeros.
-fn told(sheet: &[u8], case: Case, trail: &mut [u64]) -> ([usize; 4], Fleet) {
-    match ask(sheet, case, trail) {
-        Ok(told) => told,
-        Err(e) => {
-            let fleet = if case.question == 0 {
-                Fleet::none()
-            } else {
-                case.fleet
-            };
-            ([e.number(), 0, 0, 0], fleet)
+// A question about a sheet and a fleet: 0 or its refusal, the rounds, the open places, 1 for alive; and the fleet that comes back, or the one that was
+// asked about.
+fn ask(sheet: &[u8], case: Case, trail: &mut [u64]) -> ([usize; 4], Fleet)
+    ensures { told_of sheet.now case trail.old ≡ (result.0, result.1, trail.new) }
+{
+    let fleet = case.fleet;
+    match case.question {
+        0 => match planner::open(sheet) {
+            Ok(fresh) => ([0; 4], fresh),
+            Err(e) => (refused(e), Fleet::none()),
+        },
+        1 => {
+            let s = planner::step(sheet, fleet, trail, case.word, case.first, case.second);
+            match s.answer {
+                Ok(rounds) => ([0, rounds, 0, 0], s.fleet),
+                Err(e) => (refused(e), s.fleet),
+            }
+        },
+        2 => match planner::open_places(sheet, fleet) {
+            Ok(places) => ([0, 0, places, 0], fleet),
+            Err(e) => (refused(e), fleet),
+        },
+        _ => match planner::verdict(sheet, fleet) {
+            Ok(alive) => ([0, 0, 0, usize::from(alive)], fleet),
+            Err(e) => (refused(e), fleet),
         },
     }
 }
@@ -241,7 +239,7 @@ fn answer(
         let a = put_bytes(rt, out, used, planner::section(sheet, case.word))?;
         return Ok(end_line(out, a));
     }
-    let (numbers, fleet) = told(sheet, case, trail);
+    let (numbers, fleet) = ask(sheet, case, trail);
     let a = put_numbers(rt, out, used, &numbers)?;
     let b = put_fleet(rt, out, a, &fleet)?;
     let c = put_words(rt, out, b, trail)?;

@@ -1,23 +1,24 @@
 -- All that is known of an accepted sheet.
 use Prim.Native.Nat.{ℕ, ◌+◌, ◌*◌, ◌%◌, ◌<◌}
 use mathlib.Core.Bool.{true}
-use mathlib.Core.Path.{◌≡◌, refl, sym, ap}
+use mathlib.Core.Path.{◌≡◌, refl, sym, ap, ◌∙◌}
 use mathlib.Core.List.{List}
 use native.Mathlib.Omega.{arith}
 use lib.Dec.{leb, ltb, eqb}
-use borrow.Author.Tests.{leb-true, eqb-true}
+use borrow.Author.Tests.{leb-true, eqb-true, ne_eqb}
 use Rattle.laws.specs.Basic.{all_below, or_else, unless}
 use Rattle.laws.proofs.Choice.{or-else-zero, unless-zero}
 use Rattle.laws.proofs.Logic.{and-true}
 use Rattle.rules.specs.Numbers.{refusal, most_vans}
-use Rattle.std.specs.Prelude.{Result, Ok, Err, IfOk}
+use Rattle.std.specs.Prelude.{Some, Result, Ok, Err, IfOk}
 use Rattle.rules.specs.Refused.{number_in}
 use Rattle.rules.specs.declared.Refusal.{Refusal}
+use Rattle.rules.proofs.Refusals.{refuses}
 use Rattle.words.specs.Word.{size, words, word_at, profile_ok, limits_at_ok}
 use Rattle.sheet.specs.Section.{vans_at, vans_of, profile_at, nodes_at, jobs_at, head_refusal, limits_values, limits_refusal, nodes_refusal, jobs_refusal, table_refusal, steps_refusal, later_refusal, read_refusal}
 use Rattle.sheet.specs.declared.Part.{Part}
 use Rattle.sheet.specs.declared.Layout.{Layout}
-use Rattle.sheet.specs.Place.{Stands, layout_of, Headed, Fine, Laid}
+use Rattle.sheet.specs.Place.{Stands, layout_of, Found, found, read_in, Headed, Fine, Laid}
 
 pub head-zero : (s : List ℕ) (at lo hi width : ℕ) → head_refusal s at lo hi width ≡ 0 → Headed s at lo hi width
 unfolding head_refusal
@@ -114,6 +115,30 @@ laid f e = record {
 pub read-laid : (s : List ℕ) (r : Result Layout Refusal) → number_in r ≡ read_refusal s → IfOk r (λ l. l ≡ layout_of s) → IfOk r (Laid s)
 read-laid s (Ok l) n e = laid (fine s (sym n)) e
 read-laid s (Err r) n e = tt
+
+-- ---- what reading a sheet hands on
+
+-- what reading the sections hands on, whole
+pub read-found : (s : List ℕ) (r : Result Layout Refusal) → number_in r ≡ read_refusal s → IfOk r (λ l. l ≡ layout_of s) → read_in r ≡ found read_refusal s
+unfolding found
+read-found s (Ok l) n e = rw (sym n, e) refl
+read-found s (Err k) n e = rw (sym n, ne_eqb _ 0 (refuses k)) refl
+
+-- the answer alone
+pub found-answer : (asked : List ℕ → ℕ) (s : List ℕ) {f : Found} → f ≡ found asked s → f.answer ≡ asked s
+unfolding found
+found-answer asked s e = ap (λ (f : Found). f.answer) e
+
+-- asked once the sections are read: the layout is the sheet's, whatever the answer
+pub found-behind : (asked : List ℕ → ℕ) {s : List ℕ} {l : Layout} {k : ℕ} → 0 ≡ read_refusal s → Laid s l → k ≡ asked s
+    → ◌≡◌ {A = Found} (record { answer = k; layout = Some l }) (found asked s)
+unfolding found
+found-behind asked z l e = rw (sym z, l.is, e) refl
+
+-- asked further, and answered alike: the layout is as it was
+pub found-still : (before asked : List ℕ → ℕ) {s : List ℕ} {f : Found} → f ≡ found before s → f.answer ≡ asked s → f ≡ found asked s
+unfolding found
+found-still before asked {s} e q = let h = sym (ap (λ (f : Found). f.answer) e) ∙ q in e ∙ rw h refl
 
 pub word_low : (s : List ℕ) (i : ℕ) → word_at s i < 4294967296
 unfolding word_at

@@ -1,9 +1,12 @@
 -- What reading a sheet hands on, and what is known of an accepted one.
-use Rattle.std.specs.Prelude.{ℕ, ◌+◌, ◌*◌, ◌%◌, ◌≤◌, true, ◌≡◌, List, length}
+use Rattle.std.specs.Prelude.{ℕ, ◌+◌, ◌*◌, ◌%◌, ◌≤◌, true, cond, ◌≡◌, Option, Some, None, Result, Ok, Err, List, length, eqb}
 use Rattle.laws.specs.Basic.{all_below}
 use Rattle.rules.specs.Numbers.{most_vans}
+use Rattle.rules.specs.Refused.{number_of}
+use Rattle.rules.specs.declared.Refusal.{Refusal}
 use Rattle.words.specs.Word.{size, words, word_at, profile_ok, limits_at_ok, node_at_ok, job_at_ok, entry_ok}
 use Rattle.sheet.specs.Section.{steps_at, vans_of, n_of, m_of, k_of, end_of, vans_at, profile_at, nodes_at, jobs_at, seconds_at, metres_at}
+use Rattle.sheet.specs.Section.{read_refusal}
 use Rattle.sheet.specs.declared.Part.{Part}
 use Rattle.sheet.specs.declared.Layout.{Layout}
 
@@ -31,6 +34,20 @@ layout_of s = record {
   metres = metres_at s + 1;
   step = steps_at s + 1;
 }
+
+-- what reading a sheet hands on: the number that refuses it, or 0, and its layout, where there is one
+pub record Found : Type 0 where
+  pub answer : ℕ
+  pub layout : Option Layout
+
+-- what reading a sheet hands on: its refusal, and its layout where the sections are not refused
+unfoldable pub found : (List ℕ → ℕ) → List ℕ → Found
+found refusal s = record { answer = refusal s; layout = cond (eqb (read_refusal s) 0) (Some (layout_of s)) None }
+
+-- what an answer of the code says of it
+abbrev pub read_in : Result Layout Refusal → Found
+read_in (Ok l) = record { answer = 0; layout = Some l }
+read_in (Err e) = record { answer = number_of e; layout = None }
 
 -- ---- what is known of an accepted sheet
 

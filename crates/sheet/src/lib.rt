@@ -7,7 +7,7 @@ ghost use Rattle.words.specs.Word.{size};
 ghost use Rattle.rules.specs.Refused.{number_in};
 ghost use Rattle.sheet.specs.Section.{vans_at, nodes_at, jobs_at, steps_at, n_of};
 ghost use Rattle.sheet.specs.Section.{head_refusal, limits_refusal, nodes_refusal, jobs_refusal, table_refusal, steps_refusal, later_refusal, read_refusal};
-ghost use Rattle.sheet.specs.Place.{layout_of, Stands, Laid};
+ghost use Rattle.sheet.specs.Place.{layout_of, found, read_in, Stands, Laid};
 
 use rules::{Job, Node, Refusal, Step, Van};
 use words::{Entry, all_limits_ok, entries_ok, jobs_ok, nodes_ok, word};
@@ -184,6 +184,7 @@ fn from_jobs(s: &[u8], vans: Part, nodes: Part) -> Result<Layout, Refusal>
 
 // Reads the sections: the length, each section in order, what is left over; and hands on where they stand.
 pub fn sections(s: &[u8]) -> Result<Layout, Refusal>
+    ensures found { read_in result ≡ found read_refusal s.now }
     ensures number { number_in result ≡ read_refusal s.now }
     ensures layout { IfOk result (Laid s.now) }
 {

@@ -3,7 +3,7 @@ use Prim.Native.Nat.{ℕ, ◌+◌, ◌-◌, ◌*◌, ◌<◌, ◌≤◌}
 use mathlib.Core.Path.{◌≡◌, ◌∙◌}
 use mathlib.Core.List.{List}
 use native.Mathlib.Omega.{arith}
-use native.Mathlib.Nat.{suc-mul}
+use native.Mathlib.Nat.{suc-mul, mul-le-mul_left, mul-le-mul_right, le_trans}
 use lib.ListN.{length, get_or, set}
 use lib.Seq.{get_or-set_same, get_or-set_other}
 use lib.Dec.{ltb, eqb}
@@ -18,6 +18,13 @@ use Rattle.tables.proofs.TableLaws.{row_before, cell-low}
 -- rows are as wide as a table has rows, or wider
 pub wide-holds : (n : ℕ) → n ≤ wide_of n
 wide-holds n = omega arith
+
+wide-most : (n m : ℕ) → n ≤ 8 * m → wide_of n ≤ 8 * m
+wide-most n m h = omega arith
+
+-- and have room in a square of eights that has the table's rows
+pub room_holds : (n m : ℕ) → n ≤ 8 * m → n * wide_of n ≤ 8 * m * (8 * m)
+room_holds n m h = le_trans (mul-le-mul_right (wide_of n) h) (mul-le-mul_left (8 * m) (wide-most n m h))
 
 -- l has the rows before row i, and r has the words of row i too: 0 on its diagonal is what is left to do
 module _ {n w i : ℕ} {t : ℕ → ℕ → ℕ} {l r : List ℕ} (g : Squared n w t i l) (p : Copied l (i * w) n (t i) r) (low : (k : ℕ) → k < n → t i k ≤ 1000000) (h : i < n)

@@ -134,6 +134,7 @@ fn in_room<const ROOM: usize>(s: &[u8], from: usize, n: usize) -> bool
 }
 
 // The triangle rule of a table of n rows whose entries begin at word `from`.
+#[tactic(auto, using(crate::proofs::SquareLaws::room_holds))]
 pub fn triangle_ok(s: &[u8], from: usize, n: usize) -> bool
     requires { Table s.now from n }
     ensures { result ≡ triangle n (cell s.now from n) }

@@ -18,26 +18,26 @@ fn try_place(sheet: &[u8], fleet: Fleet, trail: &mut [u64], van: usize, p: usize
     requires { van < most_vans }
     ensures { tried_of sheet.now fleet trail.old van p x ≡ (result, trail.new) }
 {
-    let mut tried = fleet;
-    if planner::step(sheet, &mut tried, trail, Step::LEVEL, 0, 0).is_err() {
+    let level = planner::step(sheet, fleet, trail, Step::LEVEL, 0, 0);
+    if level.answer.is_err() {
         return fleet;
     }
     let word = Step::VAN * van;
-    let placed = planner::step(sheet, &mut tried, trail, word + Step::PLACE, p, x);
-    let settled = planner::step(sheet, &mut tried, trail, word + Step::SETTLE, 0, 0);
-    let alive = planner::verdict(sheet, tried).unwrap_or(false);
-    if placed.is_ok() & settled.is_ok() & alive {
-        return tried;
+    let placed = planner::step(sheet, level.fleet, trail, word + Step::PLACE, p, x);
+    let settled = planner::step(sheet, placed.fleet, trail, word + Step::SETTLE, 0, 0);
+    let alive = planner::verdict(sheet, settled.fleet).unwrap_or(false);
+    if placed.answer.is_ok() & settled.answer.is_ok() & alive {
+        return settled.fleet;
     }
-    let _ = planner::step(sheet, &mut tried, trail, Step::BACK, 0, 0);
-    tried
+    let back = planner::step(sheet, settled.fleet, trail, Step::BACK, 0, 0);
+    back.fleet
 }
 
 // The fleet with every level open.
 fn deepest(sheet: &[u8], fleet: Fleet, trail: &mut [u64]) -> Fleet {
     let mut deep = fleet;
     for _ in 0..State::LEVELS {
-        let _ = planner::step(sheet, &mut deep, trail, Step::LEVEL, 0, 0);
+        deep = planner::step(sheet, deep, trail, Step::LEVEL, 0, 0).fleet;
     }
     deep
 }
@@ -75,9 +75,8 @@ fn run(rt: &impl Print, sheet: &[u8], trail: &mut [u64]) -> io::Result<()> {
     let opened = planner::open(sheet).unwrap_or(Fleet::none());
     let kept = try_place(sheet, opened, trail, 0, 0, 2);
     tell(rt, b"alive: ", kept)?;
-    let mut wrong = opened;
-    let _ = planner::step(sheet, &mut wrong, trail, Step::PLACE, 0, 1);
-    try_dead(rt, sheet, wrong, trail)
+    let wrong = planner::step(sheet, opened, trail, Step::PLACE, 0, 1);
+    try_dead(rt, sheet, wrong.fleet, trail)
 }
 
 fn main(rt: HostRuntime) -> io::Result<()> {

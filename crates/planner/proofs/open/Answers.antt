@@ -12,7 +12,7 @@ pub returns-in_err-laid : goal.returns-in_err-laid
 unfolding open_of
 returns-in_err-laid c =
     let p = err_from_is_err_and c.from_residual.result c.from_residual.ensures.1 in
-    rw (p.1, p.2, sym c.in_err-laid.ensures.number, ne_eqb _ 0 (refuses c.in_err-laid.field-0.0))
+    rw (p.1, p.2, sym c.in_err-laid.ensures.number, ne_eqb _ 0 (refuses c.in_err-laid.field-0.0.why))
 
 pub returns-then-laid-eq1 : goal.returns-then-laid-eq1
 unfolding open_of

@@ -4,7 +4,15 @@ use Rattle.laws.specs.Basic.{or_else, unless}
 use Rattle.rules.specs.Numbers.{refusal}
 use Rattle.rules.proofs.Refusals.{handed, handed_on, gone_on}
 use Rattle.sheet.specs.Section.{limits_refusal, nodes_refusal, jobs_refusal, later_refusal, read_refusal}
-use Rattle.sheet.proofs.PlaceLaws.{limits-zero, read-laid}
+use Rattle.std.specs.Prelude.{Result, Err}
+use Rattle.std.specs.Result.{IsErrAnd}
+use Rattle.std.proofs.lemmas.Result.{err_from_is_err_and}
+use Rattle.rules.specs.Refused.{number_in}
+use Rattle.rules.specs.declared.Refusal.{Refusal}
+use Rattle.rules.specs.declared.Refusal.TheVariants.{Short}
+use Rattle.sheet.specs.Place.{found, read_in}
+use Rattle.sheet.specs.declared.Layout.{Layout}
+use Rattle.sheet.proofs.PlaceLaws.{limits-zero, read-laid, read-found}
 use Rattle.sheet.proofs.sections.Goals as goal
 
 -- what is left to ask once the length is fine
@@ -37,3 +45,21 @@ pub returns-clause-layout : goal.returns-clause-layout
 returns-clause-layout c =
     read-laid c.args.s.now c.from_jobs.result
     (gone_on _ c.in_ok-vans.ensures.number (gone_on _ c.in_ok-nodes.ensures.number c.from_jobs.ensures.number) ∙ left _ c.if-s-ne0.false) c.from_jobs.ensures.layout
+
+-- ---- the whole of it
+
+-- a refusal handed on
+told : (s : List ℕ) (r : Result Layout Refusal) (e : Refusal) → IsErrAnd r (λ y. y ≡ e) → number_in r ≡ read_refusal s → read_in r ≡ found read_refusal s
+told s r e h n = let p = err_from_is_err_and r h in read-found s r n (rw p.1 tt)
+
+pub returns-then-s-ne0-clause-found : goal.returns-then-s-ne0-clause-found
+returns-then-s-ne0-clause-found c = read-found c.args.s.now (Err Short) (returns-then-s-ne0-clause-number c) tt
+
+pub returns-in_err-vans-clause-found : goal.returns-in_err-vans-clause-found
+returns-in_err-vans-clause-found c = told _ _ _ c.from_residual.ensures.1 (returns-in_err-vans-clause-number c)
+
+pub returns-in_err-nodes-clause-found : goal.returns-in_err-nodes-clause-found
+returns-in_err-nodes-clause-found c = told _ _ _ c.from_residual-in_err-nodes.ensures.1 (returns-in_err-nodes-clause-number c)
+
+pub returns-clause-found : goal.returns-clause-found
+returns-clause-found c = read-found c.args.s.now c.from_jobs.result (returns-clause-number c) c.from_jobs.ensures.layout

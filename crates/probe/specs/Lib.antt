@@ -1,0 +1,2 @@
+-- Told: what the line of a case tells.
+pub mod Told
