@@ -152,7 +152,8 @@ pub struct Stepped {
     pub fleet: Fleet,
 }
 
-// One step: its outcome, and the trail. The fleet is taken into rows and changed there; of a fleet of one van the van alone is put back.
+// One step: its outcome, and the trail. The fleet is taken into rows and changed there; of a fleet of one van the van alone is put back. On a sheet that is
+// refused it comes out of its rows too: the fleet itself, once it is read, costs every step a copy more.
 pub fn step(
     sheet: &[u8],
     fleet: Fleet,
@@ -174,10 +175,9 @@ pub fn step(
     let at = match day::checked(sheet) {
         Ok(at) => at,
         Err(e) => {
-            return Stepped {
-                answer: Err(Refusal::from(e)),
-                fleet: fleet_of(&routes, &sets, &levels, &figures),
-            };
+            let answer = Err(Refusal::from(e));
+            let fleet = fleet_of(&routes, &sets, &levels, &figures);
+            return Stepped { answer, fleet };
         },
     };
     let answer = turn(

@@ -28,10 +28,10 @@ went (Err r) e = absurd (false-true e)
 pub returns-in-Err : goal.returns-in-Err
 returns-in-Err c =
     let t = rows_taken _ (is-held-all c.args.fleet _ c.well_formed.1.0) c.take_routes.ensures c.take_sets.ensures c.take_levels.ensures c.take_figures.ensures in
-    rw (c.from.ensures, c.fleet_of.ensures, t.is) (refused-sheet _ _ _ _ _ _ c.in-Err.ensures.number (refuses _))
+    rw (c.from.ensures, c.fleet_of-fleet.ensures, t.is) (refused-sheet _ _ _ _ _ _ c.in-Err.ensures.number (refuses _))
 
-pub fleet_of-requires : goal.fleet_of-requires
-fleet_of-requires c = let t = rows_taken _ (is-held-all c.args.fleet _ c.well_formed.1.0) c.take_routes.ensures c.take_sets.ensures c.take_levels.ensures c.take_figures.ensures in t.rows.3
+pub fleet_of-fleet-requires : goal.fleet_of-fleet-requires
+fleet_of-fleet-requires c = let t = rows_taken _ (is-held-all c.args.fleet _ c.well_formed.1.0) c.take_routes.ensures c.take_sets.ensures c.take_levels.ensures c.take_figures.ensures in t.rows.3
 
 pub turn-answer-requires : goal.turn-answer-requires
 turn-answer-requires c =
@@ -57,4 +57,4 @@ pub returns : goal.returns
 returns c =
     let t = rows_taken _ (is-held-all c.args.fleet _ c.well_formed.1.0) c.take_routes.ensures c.take_sets.ensures c.take_levels.ensures c.take_figures.ensures in
     let a = c.args in
-    rw c.fleet_of-2.ensures (ap (λ (f : Fleet). step_of a.sheet.now f a.trail.now a.word a.first a.second) (sym t.is) ∙ c.turn-answer.ensures.0)
+    rw c.fleet_of.ensures (ap (λ (f : Fleet). step_of a.sheet.now f a.trail.now a.word a.first a.second) (sym t.is) ∙ c.turn-answer.ensures.0)
